@@ -1,0 +1,131 @@
+-- Laws of prefixes, over the width w: numbers that agree in n bits agree in any fewer, and all else follows. Assumes nothing.
+use mathlib.Core.Path.{_≡_, refl, sym, ap, _∙_, subst}
+use mathlib.Core.Bool.{Bool, true, false, cond, _&&_, and-comm}
+use Prim.Native.Nat.{ℕ, _+_, _-_, _*_, _/_, _%_, _^_, _≤_, _<_}
+use native.Mathlib.Omega.{arith}
+use native.Mathlib.Nat.{le-of-lt, add-mul-div-right, div-add-mod', mod-eq-of-lt}
+use lib.Dec.{eqb, leb}
+use lib.Pow.{shr-shr, shr-lt, high, pow-add, pow-pos, pow-lt}
+use lib.Arith.{digits-lt}
+use borrow.Author.Tests.{eqb-true, eq-eqb, leb-true, leb-false}
+use Rattle.field.specs.Prefix.{leading, inPrefix, rightPrefix, prefixesMeet, covers, longerAddress, longerLength}
+use Rattle.field.specs.Theorems.{InBoth, SharedAddress, MeetExactly, Contains, CoversExactly}
+use Rattle.logic.proofs.Tests.{and-left, and-right, and-both, and-under, same-test, Joins, Keeps}
+
+-- numbers that agree in n bits agree in any fewer
+leading-fewer : (w m n a b : ℕ) → m ≤ n → leading w n a ≡ leading w n b → leading w m a ≡ leading w m b
+leading-fewer w m n a b h e =
+    let d : ℕ = (w - m) - (w - n) in
+    let s : (w - n) + d ≡ w - m = omega arith in
+    let less : (x : ℕ) → leading w n x / 2 ^ d ≡ leading w m x = λ x. shr-shr x (w - n) d ∙ ap (λ (k : ℕ). x / 2 ^ k) s in
+    sym (less a) ∙ ap (λ (k : ℕ). k / 2 ^ d) e ∙ less b
+
+-- an address lies in its own prefix
+pub in-own : (w p n : ℕ) → inPrefix w p n p ≡ true
+unfolding inPrefix
+in-own w p n = eq-eqb (leading w n p) (leading w n p) refl
+
+-- where x lies in p, m, a prefix that is no longer holds x exactly when it holds p
+in-moves : (w p m q n x : ℕ) → n ≤ m → inPrefix w p m x ≡ true → inPrefix w q n x ≡ inPrefix w q n p
+unfolding inPrefix
+in-moves w p m q n x h e =
+    ap (λ (k : ℕ). eqb (leading w n q) k) (sym (leading-fewer w n m p x h (eqb-true (leading w m p) (leading w m x) e)))
+
+-- AN ADDRESS LIES IN BOTH exactly when the prefixes meet and it lies in the longer
+pub in-both : InBoth
+unfolding prefixesMeet
+in-both w p m q n x = go (leb m n) refl
+  where
+    go : (t : Bool) → leb m n ≡ t → (inPrefix w p m x && inPrefix w q n x) ≡ (cond t (inPrefix w p m q) (inPrefix w q n p) && inPrefix w (cond t q p) (cond t n m) x)
+    go true e = and-under (inPrefix w p m x) (inPrefix w p m q) (inPrefix w q n x) (in-moves w q n p m x (leb-true m n e))
+    go false e =
+        and-comm (inPrefix w p m x) (inPrefix w q n x)
+        ∙ and-under (inPrefix w q n x) (inPrefix w q n p) (inPrefix w p m x) (in-moves w p m q n x (le-of-lt (leb-false m n e)))
+
+pub prefix-joins : (w p m q n x : ℕ) → Joins (inPrefix w p m x) (inPrefix w q n x) (prefixesMeet w p m q n) (inPrefix w (longerAddress p m q n) (longerLength m n) x)
+prefix-joins w p m q n x = record { eq = in-both w p m q n x }
+
+-- the longer of two right prefixes is right
+pub longer-right : (w p m q n : ℕ) → Keeps (rightPrefix w p m) (rightPrefix w q n) (rightPrefix w (longerAddress p m q n) (longerLength m n))
+longer-right w p m q n = go (leb m n)
+  where
+    go : (t : Bool) → Keeps (rightPrefix w p m) (rightPrefix w q n) (rightPrefix w (cond t q p) (cond t n m))
+    go true = record { gives = λ h k. k }
+    go false = record { gives = λ h k. h }
+
+-- the longer address is one of the two
+pub longer-within : (w p m q n : ℕ) → p < 2 ^ w → q < 2 ^ w → longerAddress p m q n < 2 ^ w
+longer-within w p m q n hp hq = go (leb m n)
+  where
+    go : (t : Bool) → cond t q p < 2 ^ w
+    go true = hq
+    go false = hp
+
+-- TWO PREFIXES MEET exactly when some address of w bits lies in both: the longer one's address does
+pub meet-exactly : MeetExactly
+meet-exactly w p m q n hp hq = (shown, found)
+  where
+    shown : prefixesMeet w p m q n ≡ true → SharedAddress w p m q n
+    shown e =
+        let x : ℕ = longerAddress p m q n in
+        let both : (inPrefix w p m x && inPrefix w q n x) ≡ true = in-both w p m q n x ∙ and-both e (in-own w x (longerLength m n)) in record {
+          address = x;
+          within = longer-within w p m q n hp hq;
+          left = and-left (inPrefix w p m x) (inPrefix w q n x) both;
+          right = and-right (inPrefix w p m x) (inPrefix w q n x) both;
+        }
+
+    found : SharedAddress w p m q n → prefixesMeet w p m q n ≡ true
+    found s =
+        and-left (prefixesMeet w p m q n) (inPrefix w (longerAddress p m q n) (longerLength m n) (s .address))
+        (sym (in-both w p m q n (s .address)) ∙ and-both (s .left) (s .right))
+
+-- an address of q, n with other bits beyond the length
+in-block : (w q n r : ℕ) → r < 2 ^ (w - n) → inPrefix w q n (leading w n q * 2 ^ (w - n) + r) ≡ true
+unfolding inPrefix
+in-block w q n r h = eq-eqb _ _ (sym (high (leading w n q) (w - n) h))
+
+block-within : (w q n r : ℕ) → n ≤ w → q < 2 ^ w → r < 2 ^ (w - n) → leading w n q * 2 ^ (w - n) + r < 2 ^ w
+block-within w q n r l hq h =
+    let s : n + (w - n) ≡ w = omega arith in
+    subst (λ (k : ℕ). leading w n q * 2 ^ (w - n) + r < k) (sym (pow-add 2 n (w - n)) ∙ ap (λ (k : ℕ). 2 ^ k) s)
+    (digits-lt (shr-lt n (w - n) (subst (λ (k : ℕ). q < 2 ^ k) (sym s) hq)) h)
+
+-- A PREFIX COVERS ANOTHER exactly when it contains it: a longer one misses one of two neighbouring addresses
+pub covers-exactly : CoversExactly
+unfolding covers inPrefix
+covers-exactly w p m q n hm hq = (contains, covered)
+  where
+    contains : covers w p m q n ≡ true → Contains w p m q n
+    contains e x h f =
+        in-moves w q n p m x (leb-true m n (and-left (leb m n) (inPrefix w p m q) e)) f
+        ∙ and-right (leb m n) (inPrefix w p m q) e
+
+    base : ℕ
+    base = leading w n q * 2 ^ (w - n)
+
+    covered : Contains w p m q n → covers w p m q n ≡ true
+    covered f = go (leb m n) refl
+      where
+        at-block : n < m → (r : ℕ) → r < 2 ^ (w - n) → leading w m p ≡ leading w m (base + r)
+        at-block l r h = eqb-true _ _ (f (base + r) (block-within w q n r (omega arith) hq h) (in-block w q n r h))
+
+        go : (t : Bool) → leb m n ≡ t → (t && inPrefix w p m q) ≡ true
+        go true e = f q hq (in-own w q n)
+        go false e =
+            let l : n < m = leb-false m n e in
+            let less : 2 ^ (w - m) < 2 ^ (w - n) = pow-lt (omega arith) in
+            let one : base + 2 ^ (w - m) ≡ base + 0 + 1 * 2 ^ (w - m) = omega arith in
+            let next : leading w m (base + 2 ^ (w - m)) ≡ leading w m (base + 0) + 1 =
+            ap (λ (k : ℕ). k / 2 ^ (w - m)) one ∙ add-mul-div-right (base + 0) 1 (pow-pos (w - m)) in
+            absurd (omega (arith, next, at-block l 0 (pow-pos (w - n)), at-block l (2 ^ (w - m)) less))
+
+-- the bits beyond are 0 exactly when shifting them out and in again, in a word of w bits, changes nothing
+pub zero-test : (w p s : ℕ) → p < 2 ^ w → eqb ((p / 2 ^ s * 2 ^ s) % 2 ^ w) p ≡ eqb (p % 2 ^ s) 0
+zero-test w p s h =
+    let split : p / 2 ^ s * 2 ^ s + p % 2 ^ s ≡ p = div-add-mod' p (2 ^ s) in
+    let low : (p / 2 ^ s * 2 ^ s) % 2 ^ w ≡ p / 2 ^ s * 2 ^ s = mod-eq-of-lt (omega arith) in
+    rw low
+    (same-test (eqb (p / 2 ^ s * 2 ^ s) p) (eqb (p % 2 ^ s) 0)
+    (λ e. eq-eqb (p % 2 ^ s) 0 (omega (arith, eqb-true (p / 2 ^ s * 2 ^ s) p e)))
+    (λ e. eq-eqb (p / 2 ^ s * 2 ^ s) p (omega (arith, eqb-true (p % 2 ^ s) 0 e))))

@@ -1,0 +1,3 @@
+pub mod Prefix
+pub mod Value
+pub mod Theorems

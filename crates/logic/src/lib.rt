@@ -1,0 +1,1 @@
+// No code: laws of tests that the proofs of every crate cite.
