@@ -83,7 +83,11 @@ pub fn right_value(on: bool, limit: u32, v: u32) -> bool
 fn bits_beyond(n: u32) -> u32
     ensures { λ r. ⌜ r ≡ addressBits - n ⌝ }
 {
-    if n < ADDRESS_BITS { ADDRESS_BITS - n } else { 0 }
+    if n < ADDRESS_BITS {
+        ADDRESS_BITS - n
+    } else {
+        0
+    }
 }
 
 // Whether the bits of p beyond the length are 0.

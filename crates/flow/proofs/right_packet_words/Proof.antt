@@ -1,0 +1,19 @@
+-- `flow::right_packet_words` meets its contract: the body is the definition, with the callees' results rewritten.
+-- Assumes nothing.
+use borrow.Author.Needs.{needs}
+use Rattle.flow.specs.Packet.{rightPacketWords}
+use Rattle.flow.proofs.right_packet_words.Statement.{statement}
+use Rattle.flow.proofs.right_packet_words.Tie as tie
+
+read-packet-requires : tie.Need-read-packet-requires
+read-packet-requires c κs = search needs
+
+right-packet-requires : tie.Need-right-packet-requires
+right-packet-requires c κs = search needs
+
+returns : tie.Need-returns
+unfolding rightPacketWords
+returns c = rw (c .right-packet .ensures, c .before .read-packet .ensures)
+
+pub right-packet-words-spec : {M : Type 1} → statement M
+right-packet-words-spec = tie.close (tie.spec read-packet-requires right-packet-requires returns)

@@ -1,0 +1,165 @@
+-- A match: nine words, in this order: the six values of a packet, source prefix length, destination prefix length, flags. The flags say which of
+-- in-port, protocol, source port and destination port are constrained; the addresses are constrained by their prefixes. Flag 16 is the empty match.
+--
+--   matchOf, matchWords   the match that some words are, and its words
+--   constrains f m        the flag f of m is set
+--   isEmpty m             no packet meets m
+--   rightMatch m          the words are right: the one form of the empty match, or a plain match
+--   meets m p             the packet p meets the match m
+--   overlap a b           some packet meets both
+--   both a b              the two together, where they overlap
+--   common a b            the match that exactly the packets meet that meet both
+use Prim.Native.Nat.{ℕ, _/_, _%_}
+use mathlib.Core.Bool.{Bool, cond, not, _&&_, _||_}
+use mathlib.Core.List.{List, [], _∷_}
+use lib.Bits.{bitOr}
+use lib.Dec.{eqb, ltb}
+use lib.ListN.{getD}
+use Rattle.field.specs.Prefix.{addressBits, inPrefix, rightPrefix, prefixesMeet, longerAddress, longerLength}
+use Rattle.field.specs.Value.{meetsValue, valuesMeet, commonValue, rightValue}
+use Rattle.flow.specs.Packet.{portLimit, protocolLimit}
+use Rattle.flow.specs.declared.Match.{Match}
+use Rattle.flow.specs.declared.Packet.{Packet}
+
+-- how many words a match has
+abbrev pub matchLength : ℕ
+matchLength = 9
+
+-- the in-port is constrained
+abbrev pub inportFlag : ℕ
+inportFlag = 1
+
+-- the protocol is constrained
+abbrev pub protocolFlag : ℕ
+protocolFlag = 2
+
+-- the source port is constrained
+abbrev pub sourceportFlag : ℕ
+sourceportFlag = 4
+
+-- the destination port is constrained
+abbrev pub destinationportFlag : ℕ
+destinationportFlag = 8
+
+-- the match is empty; the flags above are below this one
+abbrev pub emptyFlag : ℕ
+emptyFlag = 16
+
+-- the match that the first nine words are; words that are missing count as 0
+abbrev pub matchOf : List ℕ → Match
+matchOf l = record {
+  inport = getD l 0 0;
+  source = getD l 1 0;
+  destination = getD l 2 0;
+  protocol = getD l 3 0;
+  sourceport = getD l 4 0;
+  destinationport = getD l 5 0;
+  sourcelength = getD l 6 0;
+  destinationlength = getD l 7 0;
+  flags = getD l 8 0;
+}
+
+-- a match's nine words
+abbrev pub matchWords : Match → List ℕ
+matchWords m =
+    m .inport
+    ∷ m .source
+    ∷ m .destination
+    ∷ m .protocol
+    ∷ m .sourceport
+    ∷ m .destinationport
+    ∷ m .sourcelength
+    ∷ m .destinationlength
+    ∷ m .flags
+    ∷ []
+
+-- the flag is set
+abbrev pub constrains : ℕ → Match → Bool
+constrains flag m = eqb (m .flags / flag % 2) 1
+
+-- the match is empty
+unfoldable pub isEmpty : Match → Bool
+isEmpty m = constrains emptyFlag m
+
+-- the empty match in its only right form: the flag alone, and the other eight words 0
+unfoldable pub isNone : Match → Bool
+isNone m =
+    eqb (m .flags) emptyFlag
+    && eqb (m .inport) 0
+    && eqb (m .source) 0
+    && eqb (m .destination) 0
+    && eqb (m .protocol) 0
+    && eqb (m .sourceport) 0
+    && eqb (m .destinationport) 0
+    && eqb (m .sourcelength) 0
+    && eqb (m .destinationlength) 0
+
+-- any other right match: no flag above the four, values in a packet's ranges and 0 where unconstrained, right prefixes
+unfoldable pub isPlain : Match → Bool
+isPlain m =
+    ltb (m .flags) emptyFlag
+    && rightValue (constrains inportFlag m) portLimit (m .inport)
+    && rightValue (constrains protocolFlag m) protocolLimit (m .protocol)
+    && rightValue (constrains sourceportFlag m) portLimit (m .sourceport)
+    && rightValue (constrains destinationportFlag m) portLimit (m .destinationport)
+    && rightPrefix addressBits (m .source) (m .sourcelength)
+    && rightPrefix addressBits (m .destination) (m .destinationlength)
+
+-- the words of a match are right
+unfoldable pub rightMatch : Match → Bool
+rightMatch m = isNone m || isPlain m
+
+-- the packet p meets the match m: m is not empty, each constrained value is p's, and p's addresses lie in the prefixes
+unfoldable pub meets : Match → Packet → Bool
+meets m p =
+    not (isEmpty m)
+    && meetsValue (constrains inportFlag m) (m .inport) (p .inport)
+    && meetsValue (constrains protocolFlag m) (m .protocol) (p .protocol)
+    && meetsValue (constrains sourceportFlag m) (m .sourceport) (p .sourceport)
+    && meetsValue (constrains destinationportFlag m) (m .destinationport) (p .destinationport)
+    && inPrefix addressBits (m .source) (m .sourcelength) (p .source)
+    && inPrefix addressBits (m .destination) (m .destinationlength) (p .destination)
+
+-- a and b overlap: neither is empty, and they agree in each field
+unfoldable pub overlap : Match → Match → Bool
+overlap a b =
+    not (isEmpty a)
+    && not (isEmpty b)
+    && valuesMeet (constrains inportFlag a) (a .inport) (constrains inportFlag b) (b .inport)
+    && valuesMeet (constrains protocolFlag a) (a .protocol) (constrains protocolFlag b) (b .protocol)
+    && valuesMeet (constrains sourceportFlag a) (a .sourceport) (constrains sourceportFlag b) (b .sourceport)
+    && valuesMeet (constrains destinationportFlag a) (a .destinationport) (constrains destinationportFlag b) (b .destinationport)
+    && prefixesMeet addressBits (a .source) (a .sourcelength) (b .source) (b .sourcelength)
+    && prefixesMeet addressBits (a .destination) (a .destinationlength) (b .destination) (b .destinationlength)
+
+-- both together: what either constrains, and the longer prefixes
+unfoldable pub both : Match → Match → Match
+both a b = record {
+  inport = commonValue (constrains inportFlag a) (a .inport) (b .inport);
+  source = longerAddress (a .source) (a .sourcelength) (b .source) (b .sourcelength);
+  destination = longerAddress (a .destination) (a .destinationlength) (b .destination) (b .destinationlength);
+  protocol = commonValue (constrains protocolFlag a) (a .protocol) (b .protocol);
+  sourceport = commonValue (constrains sourceportFlag a) (a .sourceport) (b .sourceport);
+  destinationport = commonValue (constrains destinationportFlag a) (a .destinationport) (b .destinationport);
+  sourcelength = longerLength (a .sourcelength) (b .sourcelength);
+  destinationlength = longerLength (a .destinationlength) (b .destinationlength);
+  flags = bitOr (a .flags) (b .flags);
+}
+
+-- the empty match
+abbrev pub none : Match
+none = record {
+  inport = 0;
+  source = 0;
+  destination = 0;
+  protocol = 0;
+  sourceport = 0;
+  destinationport = 0;
+  sourcelength = 0;
+  destinationlength = 0;
+  flags = emptyFlag;
+}
+
+-- the common match: both together where they overlap, else the empty match
+unfoldable pub common : Match → Match → Match
+common a b = cond (overlap a b) (both a b) none

@@ -1,0 +1,68 @@
+-- What is proved of matches and packets. Each statement is proved in proofs/ under the name given behind it.
+use Prim.Native.Nat.{ℕ, _≤_}
+use mathlib.Core.Path.{_≡_}
+use mathlib.Core.Bool.{Bool, true, false, not, _&&_}
+use mathlib.Core.List.{List, _++_}
+use mathlib.Core.Logic.{_↔_}
+use lib.ListN.{length, drop}
+use Rattle.words.specs.Words.{copied}
+use Rattle.flow.specs.Packet.{packetLength, packetOf, packetWords, rightPacket}
+use Rattle.flow.specs.Match.{matchLength, matchOf, matchWords, isEmpty, rightMatch, meets, overlap, common}
+use Rattle.flow.specs.declared.Match.{Match}
+use Rattle.flow.specs.declared.Packet.{Packet}
+
+-- a packet meets the common match exactly when it meets both, for all matches (meets-common)
+abbrev pub MeetsCommon : Type 0
+MeetsCommon = (a b : Match) (p : Packet) → meets (common a b) p ≡ (meets a p && meets b p)
+
+-- no packet meets an empty match (meets-empty)
+abbrev pub MeetsEmpty : Type 0
+MeetsEmpty = (m : Match) (p : Packet) → isEmpty m ≡ true → meets m p ≡ false
+
+-- a packet in range that meets two matches
+pub record SharedPacket (a b : Match) : Type 0 where
+  pub packet : Packet
+  pub inRange : rightPacket packet ≡ true
+  pub left : meets a packet ≡ true
+  pub right : meets b packet ≡ true
+
+-- right matches overlap exactly when some packet in range meets both (overlap-exactly)
+abbrev pub OverlapExactly : Type 0
+OverlapExactly = (a b : Match) → rightMatch a ≡ true → rightMatch b ≡ true → (overlap a b ≡ true) ↔ SharedPacket a b
+
+-- where any packet meets two matches, right or not, they overlap (meets-overlap)
+abbrev pub MeetsOverlap : Type 0
+MeetsOverlap = (a b : Match) (p : Packet) → meets a p ≡ true → meets b p ≡ true → overlap a b ≡ true
+
+-- a right match is not empty exactly when some packet in range meets it (met-exactly)
+abbrev pub MetExactly : Type 0
+MetExactly = (m : Match) → rightMatch m ≡ true → (isEmpty m ≡ false) ↔ SharedPacket m m
+
+-- the common match of right matches is right (common-right)
+abbrev pub CommonRight : Type 0
+CommonRight = (a b : Match) → rightMatch a ≡ true → rightMatch b ≡ true → rightMatch (common a b) ≡ true
+
+-- the common match is empty exactly when the two do not overlap, for all matches (common-empty)
+abbrev pub CommonEmpty : Type 0
+CommonEmpty = (a b : Match) → isEmpty (common a b) ≡ not (overlap a b)
+
+-- the words of a match are read as the match (match-words-read), and read words are its words (match-read-words)
+abbrev pub MatchWordsRead : Type 0
+MatchWordsRead = (m : Match) (l : List ℕ) → matchOf (matchWords m ++ l) ≡ m
+
+abbrev pub MatchReadWords : Type 0
+MatchReadWords = (l : List ℕ) → matchLength ≤ length l → matchWords (matchOf l) ++ drop matchLength l ≡ l
+
+-- what was written is read, from a buffer with room for it (match-written-read)
+abbrev pub MatchWrittenRead : Type 0
+MatchWrittenRead = (m : Match) (l : List ℕ) → matchLength ≤ length l → matchOf (copied 0 (matchWords m) l) ≡ m
+
+-- the same of packets (packet-words-read, packet-read-words, packet-written-read)
+abbrev pub PacketWordsRead : Type 0
+PacketWordsRead = (p : Packet) (l : List ℕ) → packetOf (packetWords p ++ l) ≡ p
+
+abbrev pub PacketReadWords : Type 0
+PacketReadWords = (l : List ℕ) → packetLength ≤ length l → packetWords (packetOf l) ++ drop packetLength l ≡ l
+
+abbrev pub PacketWrittenRead : Type 0
+PacketWrittenRead = (p : Packet) (l : List ℕ) → packetLength ≤ length l → packetOf (copied 0 (packetWords p) l) ≡ p
