@@ -1,0 +1,11 @@
+pub mod Join
+pub mod Compile
+pub mod Every
+pub mod Nodes
+pub mod Walk
+pub mod Places
+pub mod Seek
+pub mod Levels
+pub mod Chain
+pub mod Fewest
+pub mod Switch

@@ -1,0 +1,5 @@
+pub mod Rows
+pub mod Tree
+pub mod Nodes
+pub mod Number
+pub mod Theorems

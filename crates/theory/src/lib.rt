@@ -1,0 +1,1 @@
+// No code: rows, trees and numbering over any matches, actions and operators, and the theorems on them.
