@@ -1,0 +1,7 @@
+pub mod Joined
+pub mod Along
+pub mod Product
+pub mod Words
+pub mod Rates
+pub mod Exact
+pub mod Examples

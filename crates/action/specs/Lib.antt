@@ -1,0 +1,4 @@
+pub mod Action
+pub mod Operator
+pub mod Laws
+pub mod Theorems

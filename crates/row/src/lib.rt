@@ -1,0 +1,36 @@
+// An atom or a row: the words of a match, then an action's kind and rate.
+ghost use mathlib.Core.Path.{_≡_};
+ghost use Rattle.row.specs.Row.{rowAction, rightRowMatch, rightRowAction};
+use action::Action;
+use action::action_of;
+use action::right_action;
+use flow::MATCH_WORDS;
+use flow::read_match;
+use flow::right_match;
+use words::word;
+
+// How many words an atom or a row has, and where its action stands.
+pub const ROW_WORDS: usize = MATCH_WORDS + 2;
+const KIND: usize = MATCH_WORDS;
+const RATE: usize = MATCH_WORDS + 1;
+
+// The action of a row.
+pub fn row_action(row: &[u32]) -> Action
+    ensures { λ r. ⌜ r ≡ rowAction (now (row .entry)) ⌝ }
+{
+    action_of(word(row, KIND), word(row, RATE))
+}
+
+// Whether the match of an atom or a row is right.
+pub fn right_row_match(row: &[u32]) -> bool
+    ensures { λ r. ⌜ r ≡ rightRowMatch (now (row .entry)) ⌝ }
+{
+    right_match(read_match(row))
+}
+
+// Whether the action of an atom or a row is right.
+pub fn right_row_action(row: &[u32]) -> bool
+    ensures { λ r. ⌜ r ≡ rightRowAction (now (row .entry)) ⌝ }
+{
+    right_action(word(row, KIND), word(row, RATE))
+}
