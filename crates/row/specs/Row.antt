@@ -1,16 +1,17 @@
 -- An atom or a row: 11 words, a match and then an action's kind and rate.
 --
 --   rowLength                       how many words it has
---   rowOf                           the match and the action that some words are
+--   rowOf, rowWords                 the match and the action that some words are, and their words
 --   rightRowMatch, rightRowAction   the match is right, the action is right
-use Prim.Native.Nat.{ℕ, suc, _+_}
-use mathlib.Core.Bool.{Bool}
-use mathlib.Core.List.{List}
+--   rightRow                        a right row: an atom with a right match and a right action, whose match is not empty
+use Prim.Native.Nat.{ℕ, _+_}
+use mathlib.Core.Bool.{Bool, not, _&&_}
+use mathlib.Core.List.{List, [], _∷_, _++_}
 use lib.ListN.{getD}
 use Rattle.theory.specs.Rows.{Row}
-use Rattle.flow.specs.Match.{matchLength, matchOf, rightMatch}
+use Rattle.flow.specs.Match.{matchLength, matchOf, matchWords, isEmpty, rightMatch}
 use Rattle.flow.specs.declared.Match.{Match}
-use Rattle.action.specs.Action.{actionOf, rightAction}
+use Rattle.action.specs.Action.{kindOf, rateOf, actionOf, rightAction}
 use Rattle.action.specs.declared.Action.{Action}
 
 -- how many words an atom or a row has
@@ -33,6 +34,10 @@ rowAction ws = actionOf (getD ws kindPlace 0) (getD ws ratePlace 0)
 abbrev pub rowOf : List ℕ → Row Match Action
 rowOf ws = record { match = matchOf ws; action = rowAction ws }
 
+-- the words of a match and an action
+abbrev pub rowWords : Row Match Action → List ℕ
+rowWords r = matchWords (r .match) ++ (kindOf (r .action) ∷ rateOf (r .action) ∷ [])
+
 -- the match is right
 unfoldable pub rightRowMatch : List ℕ → Bool
 rightRowMatch ws = rightMatch (matchOf ws)
@@ -40,3 +45,7 @@ rightRowMatch ws = rightMatch (matchOf ws)
 -- the action is right
 unfoldable pub rightRowAction : List ℕ → Bool
 rightRowAction ws = rightAction (getD ws kindPlace 0) (getD ws ratePlace 0)
+
+-- a right row
+unfoldable pub rightRow : List ℕ → Bool
+rightRow ws = rightRowMatch ws && not (isEmpty (matchOf ws)) && rightRowAction ws
