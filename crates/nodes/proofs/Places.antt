@@ -1,0 +1,236 @@
+-- What stands at a place of an accepted file is what the file's list of nodes has there: records by their words, atoms by what the nodes
+-- before have left. Assumes nothing.
+use Prim.Native.Nat.{ℕ, zero, suc, _+_, _*_, _-_, _/_, _≤_, _<_}
+use native.Mathlib.Omega.{arith}
+use native.Mathlib.Numerals.{add-one}
+use mathlib.Core.Path.{_≡_, refl, sym, ap, ap₂, _∙_}
+use mathlib.Core.List.{List, [], _∷_, _++_, map}
+use lib.ListN.{getD, length, take, drop, length-drop}
+use lib.Seq.{getD-take, getD-drop, drop-drop, take-add, take-at, drop-at, length-take-le}
+use borrow.Author.Tests.{le-leb, lt-leb, le-ltb}
+use Rattle.words.specs.Records.{records, rowsOf}
+use Rattle.words.proofs.Records.{length-records, rows-more, rows-none}
+use Rattle.theory.specs.Rows.{Row}
+use Rattle.theory.specs.Nodes.{Listed}
+use Rattle.row.specs.Row.{rowLength, rowOf}
+use Rattle.flow.specs.declared.Match.{Match}
+use Rattle.action.specs.declared.Action.{Action}
+use Rattle.policy.specs.Numbers.{operatorLength, atomLength, nodeLength}
+use Rattle.policy.specs.Read.{innerOf, parentOf, siblingOf, ownOf, childrenOf, cellsOf, ownAtoms, nodesAt, endOf, operatorRecords, atomRecords, nodeRecords, readOf}
+use Rattle.policy.specs.Read as read
+use Rattle.policy.specs.File.{PolicyNode, operatorAt, nodeOf, held, atomsOf, fileNodes}
+use Rattle.policy.specs.WellFormed.{RightNode, Otherwise, WellFormed}
+use Rattle.policy.specs.declared.Layout.{Layout}
+use Rattle.policy.specs.declared.Reading.the-variants.{Accepted}
+use Rattle.policy.proofs.Accepted.{accepted-exactly}
+use Rattle.nodes.specs.Nodes.{nodePlace, nodeAt, cellsAt, atomsAt}
+use Rattle.nodes.specs.Walk.{layoutOf, listOf, recordsOf, nodeIndex, atomsFrom, Reached}
+use Rattle.nodes.specs.declared.NodeWords.{NodeWords}
+use Rattle.nodes.specs.declared.Spot.{Spot}
+
+-- atoms that are all there, and others
+pub atoms-there : (f : List ℕ) (from n : ℕ) → from + atomLength * n ≤ length f → take (from + atomLength * n - from) (drop from f) ≡ atomsAt f from n
+unfolding atomsAt
+atoms-there f from n h = let e : from + atomLength * n - from ≡ atomLength * n = omega arith in rw (e, le-leb (from + atomLength * n) (length f) h)
+
+pub atoms-missing : (f : List ℕ) (from n : ℕ) → length f < from + atomLength * n → [] ≡ atomsAt f from n
+unfolding atomsAt
+atoms-missing f from n h = rw (lt-leb (from + atomLength * n) (length f) h)
+
+-- a word of a record is a word of the list
+record-at : (n k : ℕ) (ws : List ℕ) (i j : ℕ) → i < n → j < k → getD (getD (records n k ws) i []) j 0 ≡ getD ws (k * i + j) 0
+record-at zero k ws i j h l = absurd (omega arith)
+record-at (suc n) k ws zero j h l = let e : k * 0 + j ≡ j = omega arith in rw e (getD-take k ws j 0 l)
+record-at (suc n) k ws (suc i) j h l =
+    let e : k + (k * i + j) ≡ k * suc i + j = omega arith in
+    record-at n k (drop k ws) i j (omega arith) l ∙ getD-drop k ws (k * i + j) 0 ∙ ap (λ m. getD ws m 0) e
+
+-- the rows of a part of some records
+module _ {R : Type 0} (k : ℕ) (read : List ℕ → R) (pos : 0 < k) where
+  rows-part : (n : ℕ) (ws : List ℕ) → k * n ≤ length ws → rowsOf k read (take (k * n) ws) ≡ map read (records n k ws)
+  rows-part zero ws h = let e : k * 0 ≡ 0 = omega arith in rw e (rows-none k read pos [] pos)
+  rows-part (suc n) ws h =
+      let e : k * suc n ≡ k + k * n = omega arith in
+      let l : length (take k ws) ≡ k = length-take-le k ws (omega arith) in
+      let front : List ℕ = take k ws in
+      let behind : List ℕ = take (k * n) (drop k ws) in
+      let long : k ≤ length (take (k + k * n) ws) = rw (length-take-le (k + k * n) ws (omega arith)) (omega arith) in
+      ap (λ m. rowsOf k read (take m ws)) e
+      ∙ rows-more k read pos (take (k + k * n) ws) long
+      ∙ ap₂ (λ x y. read x ∷ rowsOf k read y) (ap (take k) (take-add k (k * n) ws) ∙ take-at front behind k l) (ap (drop k) (take-add k (k * n) ws) ∙ drop-at front behind k l)
+      ∙ ap (λ N. read (take k ws) ∷ N) (rows-part n (drop k ws) (rw length-drop (omega arith)))
+
+  first-records : (n b : ℕ) (ws : List ℕ) → n ≤ b → map read (records n k ws) ≡ take n (map read (records b k ws))
+  first-records zero b ws h = refl
+  first-records (suc n) zero ws h = absurd (omega arith)
+  first-records (suc n) (suc b) ws h = ap (λ N. read (take k ws) ∷ N) (first-records n b (drop k ws) (omega arith))
+
+  part-records : (s n b : ℕ) (ws : List ℕ) → s + n ≤ b → map read (records n k (drop (k * s) ws)) ≡ take n (drop s (map read (records b k ws)))
+  part-records zero n b ws h = let e : k * 0 ≡ 0 = omega arith in rw e (first-records n b ws (omega arith))
+  part-records (suc s) n zero ws h = absurd (omega arith)
+  part-records (suc s) n (suc b) ws h =
+      let e : k * suc s ≡ k + k * s = omega arith in
+      ap (λ m. map read (records n k (drop m ws))) e
+      ∙ ap (λ l. map read (records n k l)) (sym (drop-drop (k * s) k ws))
+      ∙ part-records s n b (drop k ws) (omega arith)
+
+-- a node's own atoms start where those of the nodes before it end
+held-at : (os : List (List ℕ)) (xs : List (Row Match Action)) (rs : List (List ℕ)) (i : ℕ) (d : Listed PolicyNode) → i < length rs
+    → getD (held os xs rs) i d ≡ record { what = nodeOf os (drop (ownAtoms (take i rs)) xs) (getD rs i []); childCount = childrenOf (getD rs i []) }
+held-at os xs [] i d h = absurd (omega arith)
+held-at os xs (r ∷ rs) zero d h = refl
+held-at os xs (r ∷ rs) (suc i) d h =
+    held-at os (drop (ownOf r) xs) rs i d (omega arith)
+    ∙ ap (λ ys. record { what = nodeOf os ys (getD rs i []); childCount = childrenOf (getD rs i []) }) (drop-drop (ownAtoms (take i rs)) (ownOf r) xs)
+
+length-held : (os : List (List ℕ)) (xs : List (Row Match Action)) (rs : List (List ℕ)) → length (held os xs rs) ≡ length rs
+length-held os xs [] = refl
+length-held os xs (r ∷ rs) = ap suc (length-held os (drop (ownOf r) xs) rs)
+
+-- one node's atoms more
+own-more : (rs : List (List ℕ)) (i : ℕ) → i < length rs → ownAtoms (take (suc i) rs) ≡ ownAtoms (take i rs) + ownOf (getD rs i [])
+own-more [] i h = absurd (omega arith)
+own-more (r ∷ rs) zero h = omega arith
+own-more (r ∷ rs) (suc i) h = let e : ownAtoms (take (suc i) rs) ≡ ownAtoms (take i rs) + ownOf (getD rs i []) = own-more rs i (omega arith) in omega arith
+
+own-within : (rs : List (List ℕ)) (i : ℕ) → ownAtoms (take i rs) ≤ ownAtoms rs
+own-within [] zero = omega arith
+own-within [] (suc i) = omega arith
+own-within (r ∷ rs) zero = omega arith
+own-within (r ∷ rs) (suc i) = omega (arith, own-within rs i)
+
+-- what a node holds, as the functions by place read it
+abbrev pub nodeHere : List ℕ → Spot → PolicyNode
+nodeHere f s =
+    let n : NodeWords = nodeAt f (s .left) in
+    record {
+      inner = cellsAt f (n .inner);
+      parent = cellsAt f (n .parent);
+      sibling = cellsAt f (n .sibling);
+      atoms = rowsOf rowLength rowOf (atomsAt f (s .atom) (n .own));
+    }
+
+-- the place behind a node's own atoms
+abbrev pub nextSpot : List ℕ → Spot → Spot
+nextSpot f s = record { left = s .left - 1; atom = s .atom + atomLength * nodeAt f (s .left) .own }
+
+-- WHAT STANDS AT A PLACE that a walk reaches, with nodes left
+pub record Here (f : List ℕ) (s : Spot) (d : Listed PolicyNode) : Type 0 where
+  pub within : nodeIndex f s < length (listOf f)
+  pub what : getD (listOf f) (nodeIndex f s) d .what ≡ nodeHere f s
+  pub children : getD (listOf f) (nodeIndex f s) d .childCount ≡ nodeAt f (s .left) .children
+  pub atoms-fit : s .atom + atomLength * nodeAt f (s .left) .own ≤ length f
+  pub next : Reached f (nextSpot f s)
+  pub further : nodeIndex f (nextSpot f s) ≡ suc (nodeIndex f s)
+
+module _ (f : List ℕ) (w : Otherwise f (layoutOf f .operators) (layoutOf f .atoms) (layoutOf f .nodes)) where
+  -- the words of a node
+  word-here : (left j : ℕ) → 0 < left → left ≤ layoutOf f .nodes → j < nodeLength
+      → getD f (nodePlace (length f) left + j) 0 ≡ getD (getD (recordsOf f) (layoutOf f .nodes - left) []) j 0
+  unfolding nodePlace
+  word-here left j h k l =
+      let a : ℕ = layoutOf f .operators in
+      let b : ℕ = layoutOf f .atoms in
+      let c : ℕ = layoutOf f .nodes in
+      let i : ℕ = c - left in
+      let e : length f ≡ endOf a b c = w .ends in
+      let p : length f - nodeLength * left + j ≡ nodesAt a b + 1 + (nodeLength * i + j) = omega arith in
+      rw (le-ltb (length f / nodeLength) left (omega arith), p)
+      (sym (record-at c nodeLength (drop (nodesAt a b + 1) f) i j (omega arith) l ∙ getD-drop (nodesAt a b + 1) f (nodeLength * i + j) 0))
+
+  -- the cells of an operator
+  cells-here : (i : ℕ) → i < layoutOf f .operators → cellsAt f i ≡ operatorAt (operatorRecords f (layoutOf f .operators)) i
+  unfolding cellsAt
+  cells-here i h =
+      let a : ℕ = layoutOf f .operators in
+      let cell : (j : ℕ) → j < operatorLength → getD (getD (operatorRecords f a) i []) j 0 ≡ getD f (1 + operatorLength * i + j) 0 =
+      λ j l. record-at a operatorLength (drop 1 f) i j h l ∙ getD-drop 1 f (operatorLength * i + j) 0 ∙ ap (λ m. getD f m 0) (let e : 1 + (operatorLength * i + j) ≡ 1 + operatorLength * i + j = omega arith in e) in
+      let z : 1 + operatorLength * i + 0 ≡ 1 + operatorLength * i = omega arith in
+      rw (cell 0 (omega arith), z, cell 1 (omega arith), cell 2 (omega arith), cell 3 (omega arith), cell 4 (omega arith), cell 5 (omega arith), cell 6 (omega arith), cell 7 (omega arith), cell 8 (omega arith))
+
+  -- the rows of n atoms behind s others
+  atoms-here : (s n : ℕ) → s + n ≤ layoutOf f .atoms
+      → rowsOf rowLength rowOf (atomsAt f (read.atomsAt (layoutOf f .operators) + 1 + atomLength * s) n) ≡ take n (drop s (atomsOf f (layoutOf f)))
+  unfolding atomsAt
+  atoms-here s n h =
+      let a : ℕ = layoutOf f .operators in
+      let b : ℕ = layoutOf f .atoms in
+      let c : ℕ = layoutOf f .nodes in
+      let base : ℕ = read.atomsAt a + 1 in
+      let e : length f ≡ endOf a b c = w .ends in
+      let fits : base + atomLength * s + atomLength * n ≤ length f = omega arith in
+      rw (le-leb (base + atomLength * s + atomLength * n) (length f) fits, ← drop-drop (atomLength * s) base f)
+      (rows-part rowLength rowOf (omega arith) n (drop (atomLength * s) (drop base f)) (rw (length-drop, length-drop) (omega arith))
+      ∙ part-records rowLength rowOf (omega arith) s n b (drop base f) h)
+
+pub here : (f : List ℕ) (s : Spot) → Reached f s → 0 < s .left → (d : Listed PolicyNode) → Here f s d
+unfolding nodeAt
+here f s reached h d =
+    let w : Otherwise f (layoutOf f .operators) (layoutOf f .atoms) (layoutOf f .nodes) = accepted-exactly f (layoutOf f) .0 (reached .accepted) .otherwise in
+    let a : ℕ = layoutOf f .operators in
+    let b : ℕ = layoutOf f .atoms in
+    let c : ℕ = layoutOf f .nodes in
+    let os : List (List ℕ) = operatorRecords f a in
+    let xs : List (Row Match Action) = atomsOf f (layoutOf f) in
+    let rs : List (List ℕ) = recordsOf f in
+    let i : ℕ = nodeIndex f s in
+    let r : List ℕ = getD rs i [] in
+    let k : s .left ≤ c = reached .left in
+    let many : length rs ≡ c = length-records c nodeLength (drop (nodesAt a b + 1) f) in
+    let ends : length f ≡ endOf a b c = w .ends in
+    let right : RightNode a r = w .right-nodes i (omega arith) in
+    let taken : ℕ = ownAtoms (take i rs) in
+    let n : NodeWords = nodeAt f (s .left) in
+    let inner : n .inner ≡ innerOf r = word-here f w (s .left) 0 h k (omega arith) in
+    let parent : n .parent ≡ parentOf r = word-here f w (s .left) 1 h k (omega arith) in
+    let sibling : n .sibling ≡ siblingOf r = word-here f w (s .left) 2 h k (omega arith) in
+    let own : n .own ≡ ownOf r = word-here f w (s .left) 3 h k (omega arith) in
+    let children : n .children ≡ childrenOf r = word-here f w (s .left) 4 h k (omega arith) in
+    let more : ownAtoms (take (suc i) rs) ≡ taken + ownOf r = own-more rs i (omega arith) in
+    let all : ownAtoms (take (suc i) rs) ≤ b = omega (arith, own-within rs (suc i), w .all-taken) in
+    let at : getD (listOf f) i d ≡ record { what = nodeOf os (drop taken xs) r; childCount = childrenOf r } = held-at os xs rs i d (omega arith) in
+    let start : s .atom ≡ read.atomsAt a + 1 + atomLength * taken = reached .atom in
+    let next : c - (s .left - 1) ≡ suc i = omega arith in
+    record {
+      within = rw (length-held os xs rs) (omega arith);
+      what = ap (λ (x : Listed PolicyNode). x .what) at ∙ sym (same-node
+          (ap (cellsAt f) inner ∙ cells-here f w (innerOf r) (right .inner))
+          (ap (cellsAt f) parent ∙ cells-here f w (parentOf r) (right .parent))
+          (ap (cellsAt f) sibling ∙ cells-here f w (siblingOf r) (right .sibling))
+          (ap₂ (λ p m. rowsOf rowLength rowOf (atomsAt f p m)) start own ∙ atoms-here f w taken (ownOf r) (omega arith)));
+      children = ap (λ (x : Listed PolicyNode). x .childCount) at ∙ sym children;
+      atoms-fit = omega arith;
+      next = record {
+        accepted = reached .accepted;
+        left = omega arith;
+        atom = rw (next, more) (omega arith);
+      };
+      further = next;
+    }
+  where
+    same-node : {o₁ o₂ o₃ p₁ p₂ p₃ : List ℕ} {x y : List (Row Match Action)} → o₁ ≡ p₁ → o₂ ≡ p₂ → o₃ ≡ p₃ → x ≡ y
+        → _≡_ {A = PolicyNode} (record { inner = o₁; parent = o₂; sibling = o₃; atoms = x }) (record { inner = p₁; parent = p₂; sibling = p₃; atoms = y })
+    same-node a b c d = rw (a, b, c, d)
+
+-- the walk starts at the root, with all nodes left
+pub reached-start : (f : List ℕ) (l : Layout) → readOf f ≡ Accepted l → (s : Spot) → s .left ≡ l .nodes → s .atom ≡ read.atomsAt (l .operators) + 1
+    → Reached f s × (0 < s .left) × (nodeIndex f s ≡ 0) × (l ≡ layoutOf f)
+reached-start f l e s p q =
+    let w : WellFormed f l = accepted-exactly f l .0 e in
+    let o : Otherwise f (l .operators) (l .atoms) (l .nodes) = w .otherwise in
+    let a : getD f 0 0 ≡ l .operators = o .operators .count in
+    let b : getD f (read.atomsAt (l .operators)) 0 ≡ l .atoms = o .atoms .count in
+    let c : getD f (nodesAt (l .operators) (l .atoms)) 0 ≡ l .nodes = o .nodes .count in
+    let same : layoutOf f ≡ l = rw (a, b, c) in
+    let left : s .left ≡ layoutOf f .nodes = p ∙ ap (λ (x : Layout). x .nodes) (sym same) in
+    let some : 1 ≤ l .nodes = o .nodes .least in
+    let first : layoutOf f .nodes - s .left ≡ 0 = omega arith in (
+      record {
+        accepted = rw same e;
+        left = omega arith;
+        atom = q ∙ ap (λ (x : Layout). read.atomsAt (x .operators) + 1) (sym same) ∙ rw first (omega arith);
+      },
+      omega arith,
+      first,
+      sym same,
+    )

@@ -1,0 +1,37 @@
+-- Where a node, its operators and its atoms stand in a policy file, for every list of words.
+use Prim.Native.Nat.{ℕ, _+_, _-_, _*_, _/_}
+use mathlib.Core.Bool.{cond}
+use mathlib.Core.List.{List, [], _∷_}
+use lib.Dec.{leb, ltb}
+use lib.ListN.{getD, length, take, drop}
+use Rattle.policy.specs.Numbers.{operatorLength, atomLength, nodeLength}
+use Rattle.nodes.specs.declared.NodeWords.{NodeWords}
+
+-- the word where the node stands that has so many nodes left from it on; the end of the file if it has not so many
+unfoldable pub nodePlace : ℕ → ℕ → ℕ
+nodePlace words left = cond (ltb (words / nodeLength) left) words (words - nodeLength * left)
+
+-- that node's five words
+unfoldable pub nodeAt : List ℕ → ℕ → NodeWords
+nodeAt f left =
+    let at : ℕ = nodePlace (length f) left in
+    record { inner = getD f (at + 0) 0; parent = getD f (at + 1) 0; sibling = getD f (at + 2) 0; own = getD f (at + 3) 0; children = getD f (at + 4) 0 }
+
+-- the nine cells of the operator of an index
+unfoldable pub cellsAt : List ℕ → ℕ → List ℕ
+cellsAt f i =
+    let at : ℕ = 1 + operatorLength * i in
+    getD f at 0
+    ∷ getD f (at + 1) 0
+    ∷ getD f (at + 2) 0
+    ∷ getD f (at + 3) 0
+    ∷ getD f (at + 4) 0
+    ∷ getD f (at + 5) 0
+    ∷ getD f (at + 6) 0
+    ∷ getD f (at + 7) 0
+    ∷ getD f (at + 8) 0
+    ∷ []
+
+-- the words of n atoms from a word of the file on; none if they are not all there
+unfoldable pub atomsAt : List ℕ → ℕ → ℕ → List ℕ
+atomsAt f from n = cond (leb (from + atomLength * n) (length f)) (take (atomLength * n) (drop from f)) []

@@ -1,0 +1,48 @@
+-- A walk over the nodes of an accepted file: at each place, how many nodes are left, and where the next node's atoms start.
+--
+--   layoutOf     the layout that a file's counts say
+--   listOf       its nodes in order, each with what it holds
+--   nodeIndex    the index of the next node
+--   atomsFrom    the word where the atoms start that the nodes before an index leave
+--   Reached      a place that a walk over an accepted file reaches
+use Prim.Native.Nat.{ℕ, _+_, _*_, _-_, _≤_}
+use mathlib.Core.Path.{_≡_}
+use mathlib.Core.List.{List}
+use lib.ListN.{getD, take}
+use Rattle.theory.specs.Nodes.{Listed}
+use Rattle.policy.specs.Numbers.{atomLength}
+use Rattle.policy.specs.Read.{ownAtoms, nodesAt, nodeRecords, layout, readOf}
+use Rattle.policy.specs.Read as read
+use Rattle.policy.specs.File.{PolicyNode, fileNodes}
+use Rattle.policy.specs.declared.Layout.{Layout}
+use Rattle.policy.specs.declared.Reading.the-variants.{Accepted}
+use Rattle.nodes.specs.declared.Spot.{Spot}
+
+-- the layout that a file's counts say
+abbrev pub layoutOf : List ℕ → Layout
+layoutOf f =
+    let a : ℕ = getD f 0 0 in
+    let b : ℕ = getD f (read.atomsAt a) 0 in
+    layout a b (getD f (nodesAt a b) 0)
+
+-- the nodes of a file in order
+abbrev pub listOf : List ℕ → List (Listed PolicyNode)
+listOf f = fileNodes f (layoutOf f)
+
+-- the nodes of a file in order, each by its words
+abbrev pub recordsOf : List ℕ → List (List ℕ)
+recordsOf f = nodeRecords f (layoutOf f .operators) (layoutOf f .atoms) (layoutOf f .nodes)
+
+-- the index of the next node
+abbrev pub nodeIndex : List ℕ → Spot → ℕ
+nodeIndex f s = layoutOf f .nodes - s .left
+
+-- the word where the atoms start that the nodes before an index leave
+abbrev pub atomsFrom : List ℕ → ℕ → ℕ
+atomsFrom f i = read.atomsAt (layoutOf f .operators) + 1 + atomLength * ownAtoms (take i (recordsOf f))
+
+-- a place that a walk over an accepted file reaches: its atoms start where those of the nodes before it end
+pub record Reached (f : List ℕ) (s : Spot) : Type 0 where
+  pub accepted : readOf f ≡ Accepted (layoutOf f)
+  pub left : s .left ≤ layoutOf f .nodes
+  pub atom : s .atom ≡ atomsFrom f (nodeIndex f s)

@@ -1,0 +1,88 @@
+// Where a node, its operators and its atoms stand in a policy file. Each function is total: outside the file all is 0, and there are no atoms.
+ghost use mathlib.Core.Path.{_≡_};
+ghost use Prim.Native.Nat.{_≤_};
+ghost use Rattle.nodes.specs.Nodes.{nodePlace, nodeAt, cellsAt, atomsAt};
+use action::Operator;
+use policy::ATOM_WORDS;
+use policy::CHILDREN;
+use policy::INNER;
+use policy::NODE_WORDS;
+use policy::OPERATOR_WORDS;
+use policy::OWN;
+use policy::PARENT;
+use policy::SIBLING;
+use words::word;
+
+// A place in the list of nodes: how many nodes are left from it on, and the word where the next node's atoms start.
+pub struct Spot {
+    pub left: usize,
+    pub atom: usize,
+}
+
+// A node's five words.
+pub struct NodeWords {
+    pub inner: u32,
+    pub parent: u32,
+    pub sibling: u32,
+    pub own: u32,
+    pub children: u32,
+}
+
+// The node that has so many nodes left from it on.
+pub fn node_at(file: &[u32], left: usize) -> NodeWords
+    ensures { λ r. ⌜ r ≡ nodeAt (now (file .entry)) left ⌝ }
+{
+    let at = node_place(file.len(), left);
+    NodeWords {
+        inner: word(file, at + INNER),
+        parent: word(file, at + PARENT),
+        sibling: word(file, at + SIBLING),
+        own: word(file, at + OWN),
+        children: word(file, at + CHILDREN),
+    }
+}
+
+// The operator of an index.
+pub fn operator_at(file: &[u32], index: u32) -> Operator
+    ensures { λ r. ⌜ r .cells ≡ cellsAt (now (file .entry)) index ⌝ }
+{
+    let at = 1 + OPERATOR_WORDS * (index as usize);
+    Operator {
+        cells: [
+            word(file, at),
+            word(file, at + 1),
+            word(file, at + 2),
+            word(file, at + 3),
+            word(file, at + 4),
+            word(file, at + 5),
+            word(file, at + 6),
+            word(file, at + 7),
+            word(file, at + 8),
+        ],
+    }
+}
+
+// The words of so many atoms, from a word of the file on.
+pub fn atoms_at(file: &[u32], from: usize, count: u32) -> &[u32]
+    ensures { λ r. ⌜ now r ≡ atomsAt (now (file .entry)) from count ⌝ }
+{
+    let words = ATOM_WORDS * (count as usize);
+    if file.len() < words {
+        return &file[..0];
+    }
+    if file.len() - words < from {
+        return &file[..0];
+    }
+    let end = from + words;
+    &file[from..end]
+}
+
+// The word where the node stands, or the end of the file.
+fn node_place(length: usize, left: usize) -> usize
+    ensures { λ r. ⌜ (r ≡ nodePlace length left) × (r ≤ length) ⌝ }
+{
+    if length / NODE_WORDS < left {
+        return length;
+    }
+    length - NODE_WORDS * left
+}

@@ -1,0 +1,179 @@
+-- A file is accepted exactly when it is well formed: every stage is passed exactly when its part of well-formedness holds. Assumes nothing.
+use Prim.Native.Nat.{ℕ, zero, suc, _+_, _*_, _-_, _≤_, _<_}
+use native.Mathlib.Omega.{arith}
+use mathlib.Core.Path.{_≡_, refl, sym, ap, _∙_}
+use mathlib.Core.Bool.{Bool, true, false, cond, _&&_}
+use mathlib.Core.List.{List, [], _∷_, _++_, map, append-nil, append-assoc}
+use lib.Dec.{eqb, leb, ltb}
+use lib.ListN.{getD, length, take, drop, length-drop, length-map, take-append-drop, drop-of-length-le}
+use lib.Seq.{drop-drop}
+use borrow.Author.Tests.{leb-true, le-leb, eqb-true, eq-eqb}
+use Rattle.words.specs.Records.{records}
+use Rattle.words.proofs.Records.{length-records}
+use Rattle.theory.specs.Rows.{Row}
+use Rattle.theory.specs.Nodes.{Listed, plant}
+use Rattle.theory.specs.Tree.{bare, _▸_}
+use Rattle.row.specs.Row.{rowOf}
+use Rattle.flow.specs.declared.Match.{Match}
+use Rattle.action.specs.declared.Action.{Action}
+use Rattle.policy.specs.Numbers.{operatorLength, atomLength, nodeLength, extraWords, wrongSum}
+use Rattle.policy.specs.Read.{unless, each, recordFault, sectionFault, childrenOf, ownOf, shape, shapeFault, ownAtoms, sumFault, lawsFault, atomsAt, nodesAt, endOf, operatorRecords, atomRecords, nodeRecords, stages, layout, answer, readOf}
+use Rattle.policy.specs.File.{held, atomsOf, fileNodes, firstTree, treeOf, allAtoms}
+use Rattle.policy.specs.WellFormed.{Present, OneTree, Otherwise, WellFormed}
+use Rattle.policy.specs.Theorems.{AcceptedExactly, FileTree, AcceptedTree, AcceptedAtoms}
+use Rattle.policy.specs.declared.Layout.{Layout}
+use Rattle.policy.specs.declared.Reading.{Reading}
+use Rattle.policy.specs.declared.Reading.the-variants.{Accepted, Refused}
+use Rattle.policy.specs.declared.Section.the-variants.{Operators, Atoms, Nodes}
+use Rattle.policy.specs.declared.Test.{Test}
+use Rattle.policy.specs.declared.Test.the-variants.{Passed, Failed}
+use Rattle.policy.proofs.Records.{unless-true, Section-passed, section-passed}
+use Rattle.policy.proofs.Trees.{shape-one-tree, one-tree-shape, one-tree-planted}
+use Rattle.policy.proofs.Passed.{each-passed, passed-each, record-long, cells-fault, fault-cells, atom-fault, fault-atom, node-fault, fault-node, present, passed-section, laws-kept, kept-laws}
+
+-- the stages that are passed, each by its name
+pub record Stages (f : List ℕ) (a b c : ℕ) : Type 0 where
+  pub operators : sectionFault f 0 Operators ≡ Passed
+  pub atoms : sectionFault f (atomsAt a) Atoms ≡ Passed
+  pub nodes : sectionFault f (nodesAt a b) (Nodes a) ≡ Passed
+  pub extra : unless (leb (length f) (endOf a b c)) extraWords (endOf a b c) ≡ Passed
+  pub tree : shapeFault (nodeRecords f a b c) ≡ Passed
+  pub sum : sumFault (nodeRecords f a b c) b ≡ Passed
+
+-- all of some stages are passed
+abbrev pub AllPassed : List Test → Type 0
+AllPassed [] = Unit {0}
+AllPassed (t ∷ ts) = (t ≡ Passed) × AllPassed ts
+
+-- an answer accepts exactly when all stages are passed
+all-passed : (ts : List Test) (l m : Layout) → answer ts l ≡ Accepted m → AllPassed ts × (l ≡ m)
+unfolding answer
+all-passed [] l m e = (tt, cc)
+all-passed (Passed ∷ ts) l m e = let r : AllPassed ts × (l ≡ m) = all-passed ts l m e in ((refl, r .0), r .1)
+all-passed (Failed r ∷ ts) l m e = let z : _≡_ {A = ℕ} 0 1 = cc in absurd (omega arith)
+
+answer-passed : (f : List ℕ) (a b c : ℕ) (m : Layout) → answer (stages f a b c) (layout a b c) ≡ Accepted m
+    → Stages f a b c × (lawsFault (nodeRecords f a b c) (operatorRecords f a) ≡ Passed) × (layout a b c ≡ m)
+unfolding stages
+answer-passed f a b c m e =
+    let r : AllPassed (stages f a b c) × (layout a b c ≡ m) = all-passed (stages f a b c) (layout a b c) m e in
+    let p : AllPassed (stages f a b c) = r .0 in
+    (record { operators = p .0; atoms = p .1 .0; nodes = p .1 .1 .0; extra = p .1 .1 .1 .0; tree = p .1 .1 .1 .1 .0; sum = p .1 .1 .1 .1 .1 .0 }, p .1 .1 .1 .1 .1 .1 .0, r .1)
+
+passed-answer : (f : List ℕ) (a b c : ℕ) → Stages f a b c → lawsFault (nodeRecords f a b c) (operatorRecords f a) ≡ Passed
+    → answer (stages f a b c) (layout a b c) ≡ Accepted (layout a b c)
+unfolding stages answer
+passed-answer f a b c s laws = rw (s .operators, s .atoms, s .nodes, s .extra, s .tree, s .sum, laws)
+
+-- the child counts of the nodes are those of their records
+held-children : (os : List (List ℕ)) (xs : List (Row Match Action)) (rs : List (List ℕ)) → map (λ n. n .childCount) (held os xs rs) ≡ map childrenOf rs
+held-children os xs [] = refl
+held-children os xs (r ∷ rs) = ap (λ l. childrenOf r ∷ l) (held-children os (drop (ownOf r) xs) rs)
+
+module _ (f : List ℕ) (a b c : ℕ) where
+  children-shape : shape (map (λ n. n .childCount) (fileNodes f (layout a b c))) (1 ∷ []) 0 ≡ shape (map childrenOf (nodeRecords f a b c)) (1 ∷ []) 0
+  children-shape = ap (λ ks. shape ks (1 ∷ []) 0) (held-children (operatorRecords f a) (atomsOf f (layout a b c)) (nodeRecords f a b c))
+
+  -- what the stages before the laws say
+  pub otherwise-of : a ≡ getD f 0 0 → b ≡ getD f (atomsAt a) 0 → c ≡ getD f (nodesAt a b) 0 → Stages f a b c → Otherwise f a b c
+  unfolding shapeFault sumFault
+  otherwise-of p q w s =
+      let so : Section-passed f 0 Operators = section-passed f 0 Operators (s .operators) in
+      let sa : Section-passed f (atomsAt a) Atoms = section-passed f (atomsAt a) Atoms (s .atoms) in
+      let sn : Section-passed f (nodesAt a b) (Nodes a) = section-passed f (nodesAt a b) (Nodes a) (s .nodes) in
+      let whole : nodesAt a b + 1 + nodeLength * c ≤ length f = rw w (sn .whole) in
+      let extra : length f ≤ endOf a b c = leb-true _ _ (unless-true (leb (length f) (endOf a b c)) extraWords (endOf a b c) (s .extra)) in
+      let long : (i : ℕ) → i < a → length (getD (operatorRecords f a) i []) ≡ operatorLength =
+      λ i l. record-long a operatorLength (drop 1 f) i (rw length-drop (omega arith)) l in
+      record {
+        operators = rw p (present f 0 Operators so);
+        atoms = rw q (present f (atomsAt a) Atoms sa);
+        nodes = rw w (present f (nodesAt a b) (Nodes a) sn);
+        cells = λ i j l m.
+            cells-fault _ (getD (operatorRecords f a) i [])
+            (each-passed (recordFault Operators) 1 operatorLength (operatorRecords f a) (rw p (so .all)) i (rw length-records l)) j (rw (long i l) m);
+        matches = λ i l. atom-fault _ (getD (atomRecords f a b) i []) (each-passed (recordFault Atoms) (atomsAt a + 1) atomLength (atomRecords f a b) (rw q (sa .all)) i (rw length-records l)) .0;
+        actions = λ i l. atom-fault _ (getD (atomRecords f a b) i []) (each-passed (recordFault Atoms) (atomsAt a + 1) atomLength (atomRecords f a b) (rw q (sa .all)) i (rw length-records l)) .1;
+        right-nodes = λ i l. node-fault a _ (getD (nodeRecords f a b c) i []) (each-passed (recordFault (Nodes a)) (nodesAt a b + 1) nodeLength (nodeRecords f a b c) (rw w (sn .all)) i (rw length-records l));
+        ends = omega arith;
+        one-tree = shape-one-tree (fileNodes f (layout a b c)) (children-shape ∙ s .tree);
+        all-taken = eqb-true _ _ (unless-true (eqb (ownAtoms (nodeRecords f a b c)) b) wrongSum 0 (s .sum));
+      }
+
+  -- and the other way round
+  pub of-otherwise : Otherwise f a b c → Stages f a b c
+  unfolding shapeFault sumFault
+  of-otherwise o =
+      let whole : nodesAt a b + 1 + nodeLength * c ≤ length f = o .nodes .whole in
+      let long : (i : ℕ) → i < a → length (getD (operatorRecords f a) i []) ≡ operatorLength =
+      λ i l. record-long a operatorLength (drop 1 f) i (rw length-drop (omega arith)) l in
+      record {
+        operators = passed-section f 0 Operators a (o .operators)
+            (passed-each (recordFault Operators) 1 operatorLength (operatorRecords f a)
+            (λ i l p. let h : i < a = rw length-records at l in fault-cells p (getD (operatorRecords f a) i []) (λ j m. o .cells i j h (rw (long i h) at m))));
+        atoms = passed-section f (atomsAt a) Atoms b (o .atoms)
+            (passed-each (recordFault Atoms) (atomsAt a + 1) atomLength (atomRecords f a b)
+            (λ i l p. let h : i < b = rw length-records at l in fault-atom p (getD (atomRecords f a b) i []) (o .matches i h) (o .actions i h)));
+        nodes = passed-section f (nodesAt a b) (Nodes a) c (o .nodes)
+            (passed-each (recordFault (Nodes a)) (nodesAt a b + 1) nodeLength (nodeRecords f a b c)
+            (λ i l p. fault-node a p (getD (nodeRecords f a b c) i []) (o .right-nodes i (rw length-records at l))));
+        extra = rw (le-leb (length f) (endOf a b c) (omega (arith, o .ends)));
+        tree = sym children-shape ∙ one-tree-shape (fileNodes f (layout a b c)) (o .one-tree);
+        sum = rw (eq-eqb (ownAtoms (nodeRecords f a b c)) b (o .all-taken));
+      }
+
+-- ACCEPTED EXACTLY WHEN WELL FORMED
+pub accepted-exactly : AcceptedExactly
+unfolding readOf lawsFault
+accepted-exactly f l = (well, accepts)
+  where
+    well : readOf f ≡ Accepted l → WellFormed f l
+    well e =
+        let a : ℕ = getD f 0 0 in
+        let b : ℕ = getD f (atomsAt a) 0 in
+        let c : ℕ = getD f (nodesAt a b) 0 in
+        let p = answer-passed f a b c l e in
+        let o : Otherwise f a b c = otherwise-of f a b c refl refl refl (p .0) in
+        rw (← p .2) (record {
+          otherwise = o;
+          lawful = laws-kept a (operatorRecords f a) (nodeRecords f a b c) (length-records a operatorLength (drop 1 f)) (o .cells) (λ i h. o .right-nodes i (rw length-records at h)) (p .1);
+        })
+
+    accepts : WellFormed f l → readOf f ≡ Accepted l
+    accepts w =
+        let a : ℕ = l .operators in
+        let b : ℕ = l .atoms in
+        let c : ℕ = l .nodes in
+        let o : Otherwise f a b c = w .otherwise in
+        rw (o .operators .count, o .atoms .count, o .nodes .count)
+        (passed-answer f a b c (of-otherwise f a b c o)
+        (kept-laws a (operatorRecords f a) (nodeRecords f a b c) (length-records a operatorLength (drop 1 f)) (o .cells) (λ i h. o .right-nodes i (rw length-records at h)) (w .lawful)))
+
+-- ONE TREE, whose nodes in file order are the file's
+pub accepted-tree : AcceptedTree
+accepted-tree f l e =
+    let o : OneTree (fileNodes f l) = accepted-exactly f l .0 e .otherwise .one-tree in
+    let p : plant (fileNodes f l) ≡ o .tree ▸ bare = one-tree-planted (fileNodes f l) o in
+    let q : treeOf f l ≡ o .tree = ap firstTree p in
+    record { planted = rw q p; lists = rw q (o .lists); shallow = rw q (o .shallow) }
+
+-- the own atoms of some nodes, and what they leave
+taken : (os : List (List ℕ)) (xs : List (Row Match Action)) (rs : List (List ℕ)) → allAtoms (held os xs rs) ++ drop (ownAtoms rs) xs ≡ xs
+taken os xs [] = refl
+taken os xs (r ∷ rs) =
+    let n : ℕ = ownOf r in
+    append-assoc (take n xs) (allAtoms (held os (drop n xs) rs)) (drop (n + ownAtoms rs) xs)
+    ∙ ap (λ l. take n xs ++ (allAtoms (held os (drop n xs) rs) ++ l)) (sym (drop-drop (ownAtoms rs) n xs))
+    ∙ ap (λ l. take n xs ++ l) (taken os (drop n xs) rs)
+    ∙ take-append-drop n xs
+
+-- EVERY ATOM BELONGS TO ONE NODE
+pub accepted-atoms : AcceptedAtoms
+accepted-atoms f l e =
+    let os : List (List ℕ) = operatorRecords f (l .operators) in
+    let xs : List (Row Match Action) = atomsOf f l in
+    let rs : List (List ℕ) = nodeRecords f (l .operators) (l .atoms) (l .nodes) in
+    let many : length xs ≡ l .atoms = length-map (atomRecords f (l .operators) (l .atoms)) rowOf ∙ length-records (l .atoms) atomLength (drop (atomsAt (l .operators) + 1) f) in
+    let sum : ownAtoms rs ≡ l .atoms = accepted-exactly f l .0 e .otherwise .all-taken in
+    let none : drop (ownAtoms rs) xs ≡ [] = drop-of-length-le xs {i = ownAtoms rs} (omega arith) in
+    sym (append-nil (allAtoms (held os xs rs))) ∙ ap (λ l. allAtoms (held os xs rs) ++ l) (sym none) ∙ taken os xs rs

@@ -1,0 +1,10 @@
+pub mod Records
+pub mod Nodes
+pub mod Stack
+pub mod Turns
+pub mod Chain
+pub mod Trees
+pub mod Passed
+pub mod Accepted
+pub mod Refused
+pub mod Examples

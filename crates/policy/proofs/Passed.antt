@@ -1,0 +1,218 @@
+-- A stage is passed exactly when what it tests holds: of every record, of every cell, of every operator that is named. Assumes nothing.
+use Prim.Native.Nat.{ℕ, zero, suc, _+_, _*_, _-_, _≤_, _<_}
+use native.Mathlib.Omega.{arith}
+use mathlib.Core.Path.{_≡_, refl, sym, ap, _∙_}
+use mathlib.Core.Bool.{Bool, true, false, cond, _&&_, _||_, and-eq-true-iff}
+use mathlib.Core.List.{List, [], _∷_, map}
+use mathlib.Core.Logic.{⊎-elim}
+use lib.Dec.{eqb, leb, ltb}
+use lib.ListN.{getD, length, take, drop, length-drop}
+use lib.Seq.{length-take-le}
+use borrow.Author.Tests.{eqb-true, eq-eqb, ltb-true, lt-ltb, leb-true, le-leb}
+use Rattle.words.specs.Records.{records}
+use Rattle.words.proofs.Records.{length-records}
+use Rattle.row.specs.Row.{rightRowMatch, rightRowAction}
+use Rattle.action.specs.Operator.{rightCell, RightCodes}
+use Rattle.action.specs.Laws.{lawSearch}
+use Rattle.action.specs.declared.Lawful.{Lawful}
+use Rattle.action.specs.declared.Lawful.the-variants.{Yes, Broken}
+use Rattle.action.proofs.Exact.{search-exact}
+use Rattle.policy.specs.Numbers.{operatorLength, mostAtoms, mostChildren, wrongMatch, wrongAction, wrongCell, wrongNode, short, wrongCount}
+use Rattle.policy.specs.Read.{unless, _else_, each, cellsFrom, cellsFault, atomFault, nodeFault, recordLength, least, most, countFault, recordFault, sectionFault, innerOf, parentOf, siblingOf, ownOf, childrenOf, names, named, broken, cellsOf, operatorFault, lawsFrom}
+use Rattle.policy.specs.File.{operatorAt}
+use Rattle.policy.specs.WellFormed.{Present, RightNode, KeepsLaws, LawsKept}
+use Rattle.policy.specs.declared.Section.{Section}
+use Rattle.policy.specs.declared.Section.the-variants.{Operators, Atoms, Nodes}
+use Rattle.policy.specs.declared.Test.{Test}
+use Rattle.policy.specs.declared.Test.the-variants.{Passed, Failed}
+use Rattle.policy.proofs.Records.{unless-true, else-both, Counted, Section-passed, section-passed}
+use Rattle.logic.proofs.Tests.{by-test, and-left, and-right, and-both, or-split}
+
+-- both of two tests pass
+both-else : (x y : Test) → x ≡ Passed → y ≡ Passed → _else_ x y ≡ Passed
+both-else x y p q = rw (p, q)
+
+-- every record of some passes
+pub each-passed : (t : ℕ → List ℕ → Test) (at k : ℕ) (rs : List (List ℕ)) → each t at k rs ≡ Passed → (i : ℕ) → i < length rs → t (at + k * i) (getD rs i []) ≡ Passed
+each-passed t at k [] e i h = absurd (omega arith)
+each-passed t at k (r ∷ rs) e zero h =
+    let z : at + k * 0 ≡ at = omega arith in
+    rw z (else-both (t at r) (each t (at + k) k rs) e .0)
+each-passed t at k (r ∷ rs) e (suc i) h =
+    let g : k * suc i ≡ k + k * i = omega arith in
+    let z : at + k * suc i ≡ at + k + k * i = omega arith in
+    rw z (each-passed t (at + k) k rs (else-both (t at r) (each t (at + k) k rs) e .1) i (omega arith))
+
+pub passed-each : (t : ℕ → List ℕ → Test) (at k : ℕ) (rs : List (List ℕ)) → ((i : ℕ) → i < length rs → (p : ℕ) → t p (getD rs i []) ≡ Passed) → each t at k rs ≡ Passed
+passed-each t at k [] h = refl
+passed-each t at k (r ∷ rs) h =
+    both-else (t at r) (each t (at + k) k rs) (h 0 (omega arith) at) (passed-each t (at + k) k rs (λ i l. h (suc i) (omega arith)))
+
+-- a record of a section that is there has its whole length
+pub record-long : (n k : ℕ) (ws : List ℕ) (i : ℕ) → k * n ≤ length ws → i < n → length (getD (records n k ws) i []) ≡ k
+record-long zero k ws i h l = absurd (omega arith)
+record-long (suc n) k ws zero h l =
+    let g : k * suc n ≡ k + k * n = omega arith in
+    length-take-le k ws (omega arith)
+record-long (suc n) k ws (suc i) h l =
+    let g : k * suc n ≡ k + k * n = omega arith in
+    record-long n k (drop k ws) i (rw length-drop (omega arith)) (omega arith)
+
+-- the cells of an operator
+cells-right : (j at : ℕ) (cs : List ℕ) → cellsFrom j at cs ≡ Passed → (i : ℕ) → i < length cs → rightCell (j + i) (getD cs i 0) ≡ true
+cells-right j at [] e i h = absurd (omega arith)
+cells-right j at (c ∷ cs) e zero h =
+    let z : j + 0 ≡ j = omega arith in
+    rw z (unless-true (rightCell j c) wrongCell at (else-both (unless (rightCell j c) wrongCell at) (cellsFrom (suc j) (suc at) cs) e .0))
+cells-right j at (c ∷ cs) e (suc i) h =
+    let z : j + suc i ≡ suc j + i = omega arith in
+    rw z (cells-right (suc j) (suc at) cs (else-both (unless (rightCell j c) wrongCell at) (cellsFrom (suc j) (suc at) cs) e .1) i (omega arith))
+
+right-cells : (j at : ℕ) (cs : List ℕ) → ((i : ℕ) → i < length cs → rightCell (j + i) (getD cs i 0) ≡ true) → cellsFrom j at cs ≡ Passed
+right-cells j at [] h = refl
+right-cells j at (c ∷ cs) h =
+    let z : j + 0 ≡ j = omega arith in
+    let first : rightCell j c ≡ true = rw z at (h 0 (omega arith)) in
+    rw first
+    (right-cells (suc j) (suc at) cs (λ i l. let y : j + suc i ≡ suc j + i = omega arith in rw y at (h (suc i) (omega arith))))
+
+pub cells-fault : (at : ℕ) (cs : List ℕ) → cellsFault at cs ≡ Passed → (j : ℕ) → j < length cs → rightCell j (getD cs j 0) ≡ true
+unfolding cellsFault
+cells-fault at cs e j h = let z : 0 + j ≡ j = omega arith in rw z at (cells-right 0 at cs e j h)
+
+pub fault-cells : (at : ℕ) (cs : List ℕ) → ((j : ℕ) → j < length cs → rightCell j (getD cs j 0) ≡ true) → cellsFault at cs ≡ Passed
+unfolding cellsFault
+fault-cells at cs h = right-cells 0 at cs (λ i l. let z : 0 + i ≡ i = omega arith in rw z (h i l))
+
+-- an atom's match and action
+pub atom-fault : (at : ℕ) (r : List ℕ) → atomFault at r ≡ Passed → (rightRowMatch r ≡ true) × (rightRowAction r ≡ true)
+unfolding atomFault
+atom-fault at r e =
+    let h = else-both (unless (rightRowMatch r) wrongMatch at) (unless (rightRowAction r) wrongAction at) e in
+    (unless-true (rightRowMatch r) wrongMatch at (h .0), unless-true (rightRowAction r) wrongAction at (h .1))
+
+pub fault-atom : (at : ℕ) (r : List ℕ) → rightRowMatch r ≡ true → rightRowAction r ≡ true → atomFault at r ≡ Passed
+unfolding atomFault
+fault-atom at r p q = rw (p, q)
+
+-- a node's indexes and counts
+pub node-fault : (a at : ℕ) (r : List ℕ) → nodeFault a at r ≡ Passed → RightNode a r
+unfolding nodeFault
+node-fault a at r e =
+    let t : Bool = ltb (innerOf r) a && ltb (parentOf r) a && ltb (siblingOf r) a && leb (ownOf r) mostAtoms && leb (childrenOf r) mostChildren in
+    let h = simp and-eq-true-iff at (unless-true t wrongNode at e) in
+    record {
+      inner = ltb-true _ _ (h .0 .0 .0 .0);
+      parent = ltb-true _ _ (h .0 .0 .0 .1);
+      sibling = ltb-true _ _ (h .0 .0 .1);
+      own = leb-true _ _ (h .0 .1);
+      children = leb-true _ _ (h .1);
+    }
+
+pub fault-node : (a at : ℕ) (r : List ℕ) → RightNode a r → nodeFault a at r ≡ Passed
+unfolding nodeFault
+fault-node a at r n =
+    rw (lt-ltb (innerOf r) a (n .inner), lt-ltb (parentOf r) a (n .parent), lt-ltb (siblingOf r) a (n .sibling), le-leb (ownOf r) mostAtoms (n .own), le-leb (childrenOf r) mostChildren (n .children))
+
+-- a section that passes is present, and the other way round where its records pass
+pub present : (f : List ℕ) (at : ℕ) (s : Section) → Section-passed f at s → Present f at (least s) (most s) (recordLength s) (getD f at 0)
+present f at s p = record { there = p .count .there; count = refl; least = p .count .few; most = p .count .many; whole = p .whole }
+
+pub passed-section : (f : List ℕ) (at : ℕ) (s : Section) (n : ℕ) → Present f at (least s) (most s) (recordLength s) n
+    → each (recordFault s) (at + 1) (recordLength s) (records n (recordLength s) (drop (at + 1) f)) ≡ Passed → sectionFault f at s ≡ Passed
+unfolding sectionFault countFault
+passed-section f at s n p e =
+    rw (p .count, lt-ltb at (length f) (p .there), le-leb (least s) n (p .least), le-leb n (most s) (p .most), le-leb (at + 1 + recordLength s * n) (length f) (p .whole)) e
+
+-- a node that names an operator
+record Naming (i : ℕ) (ns : List (List ℕ)) : Type 0 where
+  at : ℕ
+  within : at < length ns
+  names-it : names i (getD ns at []) ≡ true
+
+naming : (i : ℕ) (ns : List (List ℕ)) → named i ns ≡ true → Naming i ns
+naming i [] e = let z : _≡_ {A = ℕ} 0 1 = cc in absurd (omega arith)
+naming i (r ∷ ns) e =
+    ⊎-elim
+    (λ h. record { at = 0; within = omega arith; names-it = h })
+    (λ h. let n : Naming i ns = naming i ns h in record { at = suc (n .at); within = omega (arith, n .within); names-it = n .names-it })
+    (or-split (names i r) (named i ns) e)
+
+named-by : (i : ℕ) (ns : List (List ℕ)) (n : ℕ) → n < length ns → names i (getD ns n []) ≡ true → named i ns ≡ true
+named-by i [] n h e = absurd (omega arith)
+named-by i (r ∷ ns) zero h e = rw e
+named-by i (r ∷ ns) (suc n) h e =
+    by-test (names i r) (λ t. rw t) (λ t. rw t (named-by i ns n (omega arith) e))
+
+-- the operators that are named
+pub unbroken : (i : ℕ) (x : Lawful) → broken i x ≡ Passed → x ≡ Yes
+unbroken i Yes g = refl
+unbroken i (Broken l a b c) g = let w : _≡_ {A = ℕ} 0 1 = cc in absurd (omega arith)
+
+laws-passed : (ns : List (List ℕ)) (i : ℕ) (os : List (List ℕ)) → lawsFrom ns i os ≡ Passed → (j : ℕ) → j < length os → named (i + j) ns ≡ true → lawSearch (cellsOf (getD os j [])) ≡ Yes
+unfolding operatorFault
+laws-passed ns i [] e j h n = absurd (omega arith)
+laws-passed ns i (o ∷ os) e zero h n =
+    let z : i + 0 ≡ i = omega arith in
+    let n′ : named i ns ≡ true = rw z at n in
+    unbroken i (lawSearch (cellsOf o)) (rw n′ at (else-both (operatorFault ns i o) (lawsFrom ns (suc i) os) e .0))
+laws-passed ns i (o ∷ os) e (suc j) h n =
+    let z : i + suc j ≡ suc i + j = omega arith in
+    laws-passed ns (suc i) os (else-both (operatorFault ns i o) (lawsFrom ns (suc i) os) e .1) j (omega arith) (rw z at n)
+
+passed-laws : (ns : List (List ℕ)) (i : ℕ) (os : List (List ℕ)) → ((j : ℕ) → j < length os → named (i + j) ns ≡ true → lawSearch (cellsOf (getD os j [])) ≡ Yes) → lawsFrom ns i os ≡ Passed
+unfolding operatorFault
+passed-laws ns i [] h = refl
+passed-laws ns i (o ∷ os) h =
+    let z : i + 0 ≡ i = omega arith in
+    let rest : lawsFrom ns (suc i) os ≡ Passed = passed-laws ns (suc i) os (λ j l n. let y : i + suc j ≡ suc i + j = omega arith in h (suc j) (omega arith) (rw y n)) in
+    by-test (named i ns)
+    (λ t. rw (t, h 0 (omega arith) (rw z t)) rest)
+    (λ t. rw t rest)
+
+-- right cells are right codes
+pub right-codes : (r : List ℕ) → ((j : ℕ) → j < operatorLength → rightCell j (getD r j 0) ≡ true) → RightCodes (cellsOf r)
+right-codes r h = (refl, go)
+  where
+    go : (j : ℕ) → j < operatorLength → rightCell j (getD (cellsOf r) j 0) ≡ true
+    go zero l = h 0 l
+    go (suc zero) l = h 1 l
+    go (suc (suc zero)) l = h 2 l
+    go (suc (suc (suc zero))) l = h 3 l
+    go (suc (suc (suc (suc zero)))) l = h 4 l
+    go (suc (suc (suc (suc (suc zero))))) l = h 5 l
+    go (suc (suc (suc (suc (suc (suc zero)))))) l = h 6 l
+    go (suc (suc (suc (suc (suc (suc (suc zero))))))) l = h 7 l
+    go (suc (suc (suc (suc (suc (suc (suc (suc zero)))))))) l = h 8 l
+    go (suc (suc (suc (suc (suc (suc (suc (suc (suc j))))))))) l = absurd (omega arith)
+
+-- THE LAWS: the stage is passed exactly when every operator that a node names as inner or sibling keeps them at all allowed rates
+module _ (a : ℕ) (os ns : List (List ℕ)) (many : length os ≡ a)
+    (cells : (i j : ℕ) → i < a → j < operatorLength → rightCell j (getD (getD os i []) j 0) ≡ true)
+    (nodes : (i : ℕ) → i < length ns → RightNode a (getD ns i [])) where
+  pub laws-kept : lawsFrom ns 0 os ≡ Passed → LawsKept os ns
+  laws-kept e n h =
+      let r : List ℕ = getD ns n [] in
+      let inner : innerOf r < a = nodes n h .inner in
+      let sibling : siblingOf r < a = nodes n h .sibling in (
+        kept (innerOf r) inner (named-by (innerOf r) ns n h (rw (eq-eqb (innerOf r) (innerOf r) refl))),
+        kept (siblingOf r) sibling (named-by (siblingOf r) ns n h (by-test (eqb (innerOf r) (siblingOf r)) (λ t. rw t) (λ t. rw (t, eq-eqb (siblingOf r) (siblingOf r) refl)))),
+      )
+    where
+      kept : (i : ℕ) → i < a → named i ns ≡ true → KeepsLaws (operatorAt os i)
+      kept i l t = search-exact (operatorAt os i) (right-codes (getD os i []) (λ j. cells i j l)) .0 (laws-passed ns 0 os e i (omega arith) (let z : 0 + i ≡ i = omega arith in rw z t))
+
+  pub kept-laws : LawsKept os ns → lawsFrom ns 0 os ≡ Passed
+  kept-laws keeps = passed-laws ns 0 os searched
+    where
+      searched : (j : ℕ) → j < length os → named (0 + j) ns ≡ true → lawSearch (cellsOf (getD os j [])) ≡ Yes
+      searched j h t =
+          let z : 0 + j ≡ j = omega arith in
+          let n : Naming j ns = naming j ns (rw z at t) in
+          let r : List ℕ = getD ns (n .at) [] in
+          let k : KeepsLaws (operatorAt os (innerOf r)) × KeepsLaws (operatorAt os (siblingOf r)) = keeps (n .at) (n .within) in
+          let exact : KeepsLaws (operatorAt os j) → lawSearch (operatorAt os j) ≡ Yes = search-exact (operatorAt os j) (right-codes (getD os j []) (λ i. cells j i (omega arith))) .1 in
+          ⊎-elim
+          (λ e. let q : innerOf r ≡ j = eqb-true (innerOf r) j e in exact (rw (← q) (k .0)))
+          (λ e. let q : siblingOf r ≡ j = eqb-true (siblingOf r) j e in exact (rw (← q) (k .1)))
+          (or-split (eqb (innerOf r) j) (eqb (siblingOf r) j) (n .names-it))

@@ -1,0 +1,53 @@
+-- `policy::read` meets its contract: the section's stage, and then the rest.
+-- Assumes nothing.
+use borrow.Author.Needs.{needs}
+use native.Mathlib.Omega.{arith}
+use denote.Ref.{now}
+use Rattle.policy.specs.Read.{stages, readOf}
+use Rattle.policy.specs.Steps.{fromStage, withNodes, withAtoms}
+use Rattle.policy.proofs.Chain.{stop, go, carry}
+use Rattle.policy.proofs.Records.{section-bounds}
+use Rattle.policy.proofs.read.Statement.{statement}
+use Rattle.policy.proofs.read.Tie as tie
+
+section-fault-requires : tie.Need-section-fault-requires
+section-fault-requires c κs = search needs
+
+enum-known-found : tie.Need-enum-known-found
+enum-known-found c = search needs
+
+returns : tie.Need-returns
+unfolding readOf stages
+returns c = stop _ _ _ _ (c .before .before .before .section-fault .ensures) _ (c .before .found .given .1)
+
+enum-told : tie.Need-enum-told
+enum-told c = search needs
+
+word-requires : tie.Need-word-requires
+word-requires c κs = search needs
+
+wide-requires : tie.Need-wide-requires
+wide-requires c κs = search needs
+
+read-atoms-requires : tie.Need-read-atoms-requires
+read-atoms-requires c κs = omega (arith, section-bounds _ _ _ _ (c .before .before .before .before .section-fault .ensures) (c .before .before .enum-told .given .1) _ _ (c .wide .ensures) (c .before .word .ensures))
+
+returns-2 : tie.Need-returns-2
+unfolding readOf withAtoms withNodes fromStage stages
+returns-2 c =
+    let g = c .before .before .before .before .before .before .before .args in
+    carry (λ n. withAtoms 0 (now (g .file)) n) _ _ _ _ (c .before .wide .ensures) (c .before .before .word .ensures)
+    (go _ _ _ _ (c .before .before .before .before .before .section-fault .ensures) (c .before .before .before .enum-told .given .1) _ (c .read-atoms .ensures))
+
+pub read-spec : {M : Type 1} → statement M
+read-spec =
+    tie.close
+    (tie.spec
+    section-fault-requires
+    enum-known-found
+    returns
+    enum-told
+    word-requires
+    wide-requires
+    read-atoms-requires
+    returns-2)

@@ -1,0 +1,66 @@
+-- `policy::shape::settled` meets its contract: a node that has all its children goes, one that waits stays.
+-- Assumes nothing.
+use borrow.Author.Needs.{needs}
+use native.Mathlib.Omega.{arith}
+use Prim.Native.Nat.{suc, _≤_}
+use mathlib.Core.Path.{_≡_, refl, sym, _∙_}
+use Rattle.policy.specs.Numbers.{deepest}
+use Rattle.policy.specs.Read.{waitingNodes}
+use Rattle.policy.specs.Steps.{stacked}
+use Rattle.policy.proofs.Stack.{settle-on, settle-here, settle-none, positive}
+use Rattle.policy.proofs.shape.settled.Statement.{statement}
+use Rattle.policy.proofs.shape.settled.Tie as tie
+
+abbrev Inv-loop : tie.InvT-loop
+Inv-loop height waiting d₀ d = (d ≤ height) × (height ≤ suc deepest) × (waitingNodes (stacked waiting d) ≡ waitingNodes (stacked waiting height))
+
+abbrev μ-loop : tie.MeasureT-loop
+μ-loop height waiting d₀ d = d
+
+loop-holds : tie.Need-loop-holds Inv-loop μ-loop
+loop-holds c = (omega arith, omega arith, refl)
+
+sub-top : tie.Need-sub-top Inv-loop μ-loop
+sub-top c = search needs
+
+mul-if1 : tie.Need-mul-if1 Inv-loop μ-loop
+mul-if1 c = search needs
+
+array-read-if1 : tie.Need-array-read-if1 Inv-loop μ-loop
+array-read-if1 c = search needs
+
+returns : tie.Need-returns Inv-loop μ-loop
+returns c =
+    let l = c .before .before .loop in
+    let g = c .before .before .before .args in
+    (settle-here (g .t1) (l .d) (c .before .loop-test .taken) (c .if1 .taken) ∙ l .inv .2, l .inv .0, λ h. positive _ (c .if1 .taken))
+
+loop-less : tie.Need-loop-less Inv-loop μ-loop
+loop-less c = search needs
+
+loop-again : tie.Need-loop-again Inv-loop μ-loop
+loop-again c =
+    let l = c .before .before .loop in
+    let g = c .before .before .before .args in
+    (omega arith, omega arith, sym (settle-on (g .t1) (l .d) (c .before .loop-test .taken) (c .if1 .left)) ∙ l .inv .2)
+
+returns-2 : tie.Need-returns-2 Inv-loop μ-loop
+returns-2 c =
+    let l = c .before .loop in
+    let g = c .before .before .args in
+    (settle-none (g .t1) (l .d) (c .loop-test .left) ∙ l .inv .2, l .inv .0, λ h. absurd (omega arith))
+
+pub settled-spec : {M : Type 1} → statement M
+settled-spec =
+    tie.close
+    (tie.spec
+    Inv-loop
+    μ-loop
+    loop-holds
+    sub-top
+    mul-if1
+    array-read-if1
+    returns
+    loop-less
+    loop-again
+    returns-2)

@@ -1,0 +1,7 @@
+pub mod Numbers
+pub mod Read
+pub mod Steps
+pub mod File
+pub mod WellFormed
+pub mod Theorems
+pub mod Examples

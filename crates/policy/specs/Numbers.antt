@@ -1,0 +1,76 @@
+-- The numbers of a policy file, each named once: how many words a record has, how many records and how deep, and the refusals.
+use Prim.Native.Nat.{ℕ}
+use Rattle.action.specs.Operator.{cellCount}
+use Rattle.row.specs.Row.{rowLength}
+
+-- the words of an operator: its cells
+abbrev pub operatorLength : ℕ
+operatorLength = cellCount
+
+-- the words of an atom: a match, then an action
+abbrev pub atomLength : ℕ
+atomLength = rowLength
+
+-- the words of a node: inner, parent and sibling operator indexes, own-atom count, child count
+abbrev pub nodeLength : ℕ
+nodeLength = 5
+
+-- at most so many operators, and at least 1
+abbrev pub mostOperators : ℕ
+mostOperators = 32
+
+-- at most so many atoms, in the file and in a node
+abbrev pub mostAtoms : ℕ
+mostAtoms = 1024
+
+-- at most so many nodes, and at least 1
+abbrev pub mostNodes : ℕ
+mostNodes = 256
+
+-- at most so many children of a node
+abbrev pub mostChildren : ℕ
+mostChildren = 255
+
+-- the deepest that a node may stand; the root has depth 1
+abbrev pub deepest : ℕ
+deepest = 16
+
+-- the file ends before a count or inside a counted section
+abbrev pub short : ℕ
+short = 1
+
+-- a count beyond its limits
+abbrev pub wrongCount : ℕ
+wrongCount = 2
+
+-- a wrong cell code
+abbrev pub wrongCell : ℕ
+wrongCell = 3
+
+-- a wrong match
+abbrev pub wrongMatch : ℕ
+wrongMatch = 4
+
+-- a wrong action
+abbrev pub wrongAction : ℕ
+wrongAction = 5
+
+-- an operator index, own-atom or child count too large
+abbrev pub wrongNode : ℕ
+wrongNode = 6
+
+-- words after the last node
+abbrev pub extraWords : ℕ
+extraWords = 7
+
+-- the nodes are not one tree, or too deep
+abbrev pub noTree : ℕ
+noTree = 8
+
+-- the own-atom counts do not add up to the atoms
+abbrev pub wrongSum : ℕ
+wrongSum = 9
+
+-- a law is broken
+abbrev pub lawBroken : ℕ
+lawBroken = 10

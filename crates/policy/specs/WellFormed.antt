@@ -1,0 +1,81 @@
+-- When a policy file is well formed, in the words of the scope, without the order in which it is read.
+--
+--   Present              a section: its count is there and within limits, and so are all its records
+--   depth, depths        how deep a tree is; the deepest of some trees
+--   OneTree              some nodes in file order are those of one tree, no deeper than allowed
+--   KeepsLaws            an operator is commutative and associative over all actions with allowed rates
+--   WellFormed f l       the file f is well formed, with the layout l
+use Prim.Native.Nat.{ℕ, suc, _+_, _*_, _≤_, _<_, max}
+use mathlib.Core.Path.{_≡_}
+use mathlib.Core.Bool.{true}
+use mathlib.Core.List.{List, []}
+use lib.ListN.{getD, length}
+use Rattle.theory.specs.Tree.{Tree, Forest, node, bare, _▸_}
+use Rattle.theory.specs.Nodes.{Listed, listTree}
+use Rattle.row.specs.Row.{rightRowMatch, rightRowAction}
+use Rattle.action.specs.Operator.{rightCell}
+use Rattle.action.specs.Laws.{Commutative, Associative}
+use Rattle.policy.specs.Numbers.{operatorLength, atomLength, nodeLength, mostOperators, mostAtoms, mostNodes, mostChildren, deepest}
+use Rattle.policy.specs.Read.{innerOf, parentOf, siblingOf, ownOf, childrenOf, ownAtoms, atomsAt, nodesAt, endOf, operatorRecords, atomRecords, nodeRecords}
+use Rattle.policy.specs.File.{operatorAt, fileNodes}
+use Rattle.policy.specs.declared.Layout.{Layout}
+
+-- the count at a place is n, from low to high, and the n records of k words behind it are there
+pub record Present (f : List ℕ) (at low high k n : ℕ) : Type 0 where
+  pub there : at < length f
+  pub count : getD f at 0 ≡ n
+  pub least : low ≤ n
+  pub most : n ≤ high
+  pub whole : at + 1 + k * n ≤ length f
+
+module _ {X : Type 0} where
+  abbrev mutual
+    -- how deep a tree is: a node without children is 1 deep
+    pub depth : Tree X → ℕ
+    depth (node x ts) = suc (depths ts)
+
+    -- the deepest of some trees
+    pub depths : Forest X → ℕ
+    depths bare = 0
+    depths (t ▸ ts) = max (depth t) (depths ts)
+
+-- the nodes, parent first and then each child's whole subtree, are those of one tree
+pub record OneTree {X : Type 0} (ns : List (Listed X)) : Type 0 where
+  pub tree : Tree X
+  pub lists : listTree tree ≡ ns
+  pub shallow : depth tree ≤ deepest
+
+-- an operator keeps both laws over all actions with allowed rates
+abbrev pub KeepsLaws : List ℕ → Type 0
+KeepsLaws o = Commutative o × Associative o
+
+-- a node's operator indexes are below the number of operators, its counts within their limits
+pub record RightNode (operators : ℕ) (r : List ℕ) : Type 0 where
+  pub inner : innerOf r < operators
+  pub parent : parentOf r < operators
+  pub sibling : siblingOf r < operators
+  pub own : ownOf r ≤ mostAtoms
+  pub children : childrenOf r ≤ mostChildren
+
+-- a well-formed file of a operators, b atoms and c nodes, but for the laws
+pub record Otherwise (f : List ℕ) (a b c : ℕ) : Type 0 where
+  pub operators : Present f 0 1 mostOperators operatorLength a
+  pub atoms : Present f (atomsAt a) 0 mostAtoms atomLength b
+  pub nodes : Present f (nodesAt a b) 1 mostNodes nodeLength c
+  pub cells : (i j : ℕ) → i < a → j < operatorLength → rightCell j (getD (getD (operatorRecords f a) i []) j 0) ≡ true
+  pub matches : (i : ℕ) → i < b → rightRowMatch (getD (atomRecords f a b) i []) ≡ true
+  pub actions : (i : ℕ) → i < b → rightRowAction (getD (atomRecords f a b) i []) ≡ true
+  pub right-nodes : (i : ℕ) → i < c → RightNode a (getD (nodeRecords f a b c) i [])
+  pub ends : length f ≡ endOf a b c
+  pub one-tree : OneTree (fileNodes f (record { operators = a; atoms = b; nodes = c }))
+  pub all-taken : ownAtoms (nodeRecords f a b c) ≡ b
+
+-- the operators that nodes name as inner or sibling keep the laws
+abbrev pub LawsKept : List (List ℕ) → List (List ℕ) → Type 0
+LawsKept os ns = (i : ℕ) → i < length ns
+    → KeepsLaws (operatorAt os (innerOf (getD ns i []))) × KeepsLaws (operatorAt os (siblingOf (getD ns i [])))
+
+-- a well-formed file
+pub record WellFormed (f : List ℕ) (l : Layout) : Type 0 where
+  pub otherwise : Otherwise f (l .operators) (l .atoms) (l .nodes)
+  pub lawful : LawsKept (operatorRecords f (l .operators)) (nodeRecords f (l .operators) (l .atoms) (l .nodes))

@@ -1,0 +1,216 @@
+// One section of a policy file: its count, that all of it is there, and its records in order.
+ghost use mathlib.Core.Path.{_≡_};
+ghost use mathlib.Core.Bool.{cond};
+ghost use Prim.Native.Nat.{_+_, _*_, _≤_, _<_, _^_};
+ghost use lib.ListN.{length, drop};
+ghost use Rattle.words.specs.Records.{records};
+ghost use Rattle.policy.specs.Read.{recordLength, least, most, unless, _else_, each, countFault, cellsFault, atomFault, nodeFault, recordFault, sectionFault};
+use crate::ATOM_WORDS;
+use crate::CHILDREN;
+use crate::INNER;
+use crate::NODE_WORDS;
+use crate::OPERATOR_WORDS;
+use crate::OWN;
+use crate::PARENT;
+use crate::Refusal;
+use crate::SHORT;
+use crate::SIBLING;
+use crate::Section;
+use crate::Test;
+use crate::WRONG_ACTION;
+use crate::WRONG_CELL;
+use crate::WRONG_COUNT;
+use crate::WRONG_MATCH;
+use crate::WRONG_NODE;
+use action::Action;
+use action::Law;
+use action::right_cell;
+use row::right_row_action;
+use row::right_row_match;
+use words::word;
+
+// How many records a section may have.
+const MOST_OPERATORS: u32 = 32;
+
+const MOST_ATOMS: u32 = 1024;
+
+const MOST_NODES: u32 = 256;
+
+// How many children a node may have.
+const MOST_CHILDREN: u32 = 255;
+
+// The first fault of the section whose count stands at a place.
+pub(crate) fn section_fault(file: &[u32], at: usize, section: Section) -> Test
+    requires { ⌜ at ≤ length (now file) ⌝ }
+    ensures { λ r. ⌜ r ≡ sectionFault (now (file .entry)) at section ⌝ }
+{
+    let counted = count_fault(file, at, section);
+    if let Test::Failed(_) = counted {
+        return counted;
+    }
+    let count = wide(word(file, at));
+    let first = at + 1;
+    let there = unless(
+        first + record_words(section) * count <= file.len(),
+        SHORT,
+        file.len(),
+    );
+    if let Test::Failed(_) = there {
+        return there;
+    }
+    records_fault(file, first, count, section)
+}
+
+// Whether a count is there and within its limits.
+fn count_fault(file: &[u32], at: usize, section: Section) -> Test
+    ensures { λ r. ⌜ r ≡ countFault (now (file .entry)) at section ⌝ }
+{
+    let count = word(file, at);
+    let there = unless(at < file.len(), SHORT, file.len());
+    let good = (least(section) <= count) & (count <= most(section));
+    otherwise(there, unless(good, WRONG_COUNT, at))
+}
+
+// The first fault of some records that stand one behind the other.
+fn records_fault(file: &[u32], at: usize, count: usize, section: Section) -> Test
+    requires { ⌜ at + recordLength section * count ≤ length (now file) ⌝ }
+    ensures { λ r. ⌜ r ≡ each (recordFault section) at (recordLength section) (records count (recordLength section) (drop at (now (file .entry)))) ⌝ }
+{
+    let step = record_words(section);
+    let mut from = at;
+    let mut left = count;
+    while 0 < left {
+        let end = from + step;
+        let found = record_fault(&file[from..end], from, section);
+        if let Test::Failed(_) = found {
+            return found;
+        }
+        from = end;
+        left -= 1;
+    }
+    Test::Passed
+}
+
+// The fault of one record, whose first word stands at a place of the file.
+fn record_fault(words: &[u32], at: usize, section: Section) -> Test
+    requires { ⌜ at + length (now words) < 2 ^ 64 ⌝ }
+    ensures { λ r. ⌜ r ≡ recordFault section at (now (words .entry)) ⌝ }
+{
+    match section {
+        Section::Operators => cells_fault(words, at),
+        Section::Atoms => atom_fault(words, at),
+        Section::Nodes(operators) => node_fault(words, at, operators),
+    }
+}
+
+// The first wrong cell of an operator.
+fn cells_fault(operator: &[u32], at: usize) -> Test
+    requires { ⌜ at + length (now operator) < 2 ^ 64 ⌝ }
+    ensures { λ r. ⌜ r ≡ cellsFault at (now (operator .entry)) ⌝ }
+{
+    let mut j = 0;
+    while j < operator.len() {
+        let found = unless(right_cell(j, operator[j]), WRONG_CELL, at + j);
+        if let Test::Failed(_) = found {
+            return found;
+        }
+        j += 1;
+    }
+    Test::Passed
+}
+
+// A wrong match, or else a wrong action.
+fn atom_fault(atom: &[u32], at: usize) -> Test
+    ensures { λ r. ⌜ r ≡ atomFault at (now (atom .entry)) ⌝ }
+{
+    otherwise(
+        unless(right_row_match(atom), WRONG_MATCH, at),
+        unless(right_row_action(atom), WRONG_ACTION, at),
+    )
+}
+
+// An operator index that is too large, or a count.
+fn node_fault(node: &[u32], at: usize, operators: usize) -> Test
+    ensures { λ r. ⌜ r ≡ nodeFault operators at (now (node .entry)) ⌝ }
+{
+    let inner = wide(word(node, INNER));
+    let parent = wide(word(node, PARENT));
+    let sibling = wide(word(node, SIBLING));
+    let own = word(node, OWN);
+    let children = word(node, CHILDREN);
+    unless(
+        (inner < operators)
+            & (parent < operators)
+            & (sibling < operators)
+            & (own <= MOST_ATOMS)
+            & (children <= MOST_CHILDREN),
+        WRONG_NODE,
+        at,
+    )
+}
+
+// How many words a record of a section has.
+fn record_words(section: Section) -> usize
+    ensures { λ r. ⌜ r ≡ recordLength section ⌝ }
+{
+    match section {
+        Section::Operators => OPERATOR_WORDS,
+        Section::Atoms => ATOM_WORDS,
+        Section::Nodes(_) => NODE_WORDS,
+    }
+}
+
+// The fewest records that a section may have.
+fn least(section: Section) -> u32
+    ensures { λ r. ⌜ r ≡ least section ⌝ }
+{
+    match section {
+        Section::Operators => 1,
+        Section::Atoms => 0,
+        Section::Nodes(_) => 1,
+    }
+}
+
+// The most records that a section may have.
+fn most(section: Section) -> u32
+    ensures { λ r. ⌜ r ≡ most section ⌝ }
+{
+    match section {
+        Section::Operators => MOST_OPERATORS,
+        Section::Atoms => MOST_ATOMS,
+        Section::Nodes(_) => MOST_NODES,
+    }
+}
+
+// A refusal that names no law, where a test is not met.
+pub(crate) fn unless(good: bool, number: u32, place: usize) -> Test
+    ensures { λ r. ⌜ r ≡ unless good number place ⌝ }
+{
+    if good {
+        return Test::Passed;
+    }
+    Test::Failed(Refusal {
+        number,
+        place,
+        law: Law::Unnamed,
+        first: Action::DontCare,
+        second: Action::DontCare,
+        third: Action::DontCare,
+    })
+}
+
+// The first of two faults.
+fn otherwise(a: Test, b: Test) -> Test
+    ensures { λ r. ⌜ r ≡ _else_ a b ⌝ }
+{
+    match a {
+        Test::Passed => b,
+        Test::Failed(_) => a,
+    }
+}
+
+pub(crate) fn wide(x: u32) -> usize
+    ensures { λ r. ⌜ r ≡ x ⌝ }
+{
+    x as usize
+}

@@ -1,0 +1,102 @@
+// Whether the nodes are one tree of the depth allowed, and their own-atom counts.
+ghost use mathlib.Core.Path.{_≡_};
+ghost use Prim.Native.Nat.{_+_, _-_, _*_, _≤_, _<_};
+ghost use lib.ListN.{length, getD, drop, set};
+ghost use Rattle.words.specs.Records.{records};
+ghost use Rattle.policy.specs.Numbers.{nodeLength, mostNodes, deepest};
+ghost use Rattle.policy.specs.Read.{waitingNodes, shapeFault, ownAtoms, sumFault};
+ghost use Rattle.policy.specs.Steps.{stacked};
+use crate::CHILDREN;
+use crate::NO_TREE;
+use crate::NODE_WORDS;
+use crate::OWN;
+use crate::Test;
+use crate::WRONG_SUM;
+use crate::sections::unless;
+use crate::sections::wide;
+
+// The root has depth 1.
+const DEEPEST: usize = 16;
+
+// The first node that the tree has no place for: it had ended, or the node is too deep; or the node count, if children are missing.
+pub(crate) fn shape_fault(file: &[u32], at: usize, count: usize) -> Test
+    requires { ⌜ at + nodeLength * count ≤ length (now file) ⌝ }
+    ensures { λ r. ⌜ r ≡ shapeFault (records count nodeLength (drop at (now (file .entry)))) ⌝ }
+{
+    let mut waiting = [0u32; 17];
+    waiting[0] = 1;
+    let mut height = 1;
+    let mut from = at;
+    let mut left = count;
+    let mut i = 0;
+    while 0 < left {
+        let d = settled(waiting, height);
+        if d == 0 {
+            return unless(false, NO_TREE, i);
+        }
+        if DEEPEST < d {
+            return unless(false, NO_TREE, i);
+        }
+        waiting = entered(waiting, d, file[from + CHILDREN]);
+        height = d + 1;
+        from += NODE_WORDS;
+        left -= 1;
+        i += 1;
+    }
+    let d = settled(waiting, height);
+    unless(d == 0, NO_TREE, i)
+}
+
+// Goes up past the nodes that have all their children.
+fn settled(waiting: [u32; 17], height: usize) -> usize
+    requires { ⌜ height ≤ deepest + 1 ⌝ }
+    ensures { λ r. ⌜ (stacked waiting r ≡ waitingNodes (stacked waiting height)) × (r ≤ height) × (0 < r → 0 < getD waiting (r - 1) 0) ⌝ }
+{
+    let mut d = height;
+    while 0 < d {
+        let top = d - 1;
+        if waiting[top] != 0 {
+            return d;
+        }
+        d = top;
+    }
+    d
+}
+
+// Takes a child of the innermost node that waits for one, with children of its own.
+fn entered(waiting: [u32; 17], height: usize, children: u32) -> [u32; 17]
+    requires { ⌜ (0 < height) × (height ≤ deepest) × (0 < getD waiting (height - 1) 0) ⌝ }
+    ensures { λ r. ⌜ r ≡ set (set waiting (height - 1) (getD waiting (height - 1) 0 - 1)) height children ⌝ }
+{
+    let mut w = waiting;
+    let top = height - 1;
+    let n = w[top];
+    w[top] = n - 1;
+    w[height] = children;
+    w
+}
+
+// Whether the own-atom counts add up to the atoms.
+pub(crate) fn sum_fault(file: &[u32], at: usize, count: usize, atoms: usize) -> Test
+    requires { ⌜ (at + nodeLength * count ≤ length (now file)) × (count ≤ mostNodes) ⌝ }
+    ensures { λ r. ⌜ r ≡ sumFault (records count nodeLength (drop at (now (file .entry)))) atoms ⌝ }
+{
+    let sum = own_atoms(file, at, count);
+    unless(sum == atoms, WRONG_SUM, 0)
+}
+
+// How many atoms the nodes take together.
+fn own_atoms(file: &[u32], at: usize, count: usize) -> usize
+    requires { ⌜ (at + nodeLength * count ≤ length (now file)) × (count ≤ mostNodes) ⌝ }
+    ensures { λ r. ⌜ r ≡ ownAtoms (records count nodeLength (drop at (now (file .entry)))) ⌝ }
+{
+    let mut sum = 0;
+    let mut from = at;
+    let mut left = count;
+    while 0 < left {
+        sum += wide(file[from + OWN]);
+        from += NODE_WORDS;
+        left -= 1;
+    }
+    sum
+}
