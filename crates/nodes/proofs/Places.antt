@@ -1,6 +1,6 @@
 -- What stands at a place of an accepted file is what the file's list of nodes has there: records by their words, atoms by what the nodes
 -- before have left. Assumes nothing.
-use Prim.Native.Nat.{ℕ, zero, suc, _+_, _*_, _-_, _/_, _≤_, _<_}
+use Prim.Native.Nat.{ℕ, zero, suc, _+_, _*_, _-_, _/_, _%_, _≤_, _<_}
 use native.Mathlib.Omega.{arith}
 use native.Mathlib.Numerals.{add-one}
 use mathlib.Core.Path.{_≡_, refl, sym, ap, ap₂, _∙_}
@@ -23,6 +23,7 @@ use Rattle.policy.specs.WellFormed.{RightNode, Otherwise, WellFormed}
 use Rattle.policy.specs.declared.Layout.{Layout}
 use Rattle.policy.specs.declared.Reading.the-variants.{Accepted}
 use Rattle.policy.proofs.Accepted.{accepted-exactly}
+use Rattle.logic.proofs.Tests.{by-le}
 use Rattle.nodes.specs.Nodes.{nodePlace, nodeAt, cellsAt, atomsAt}
 use Rattle.nodes.specs.Walk.{layoutOf, listOf, recordsOf, nodeIndex, atomsFrom, Reached}
 use Rattle.nodes.specs.declared.NodeWords.{NodeWords}
@@ -36,6 +37,16 @@ atoms-there f from n h = let e : from + atomLength * n - from ≡ atomLength * n
 pub atoms-missing : (f : List ℕ) (from n : ℕ) → length f < from + atomLength * n → [] ≡ atomsAt f from n
 unfolding atomsAt
 atoms-missing f from n h = rw (lt-leb (from + atomLength * n) (length f) h)
+
+-- atoms are whole rows
+pub atoms-rows : (f : List ℕ) (from n : ℕ) → length (atomsAt f from n) % rowLength ≡ 0
+atoms-rows f from n =
+    by-le (from + atomLength * n) (length f)
+    (λ h.
+    let l : length (take (from + atomLength * n - from) (drop from f)) ≡ from + atomLength * n - from = length-take-le _ (drop from f) (rw length-drop (omega arith)) in
+    let e : length (atomsAt f from n) ≡ from + atomLength * n - from = ap length (sym (atoms-there f from n h)) ∙ l in
+    omega arith)
+    (λ h. rw (← atoms-missing f from n h) (omega arith))
 
 -- a word of a record is a word of the list
 record-at : (n k : ℕ) (ws : List ℕ) (i j : ℕ) → i < n → j < k → getD (getD (records n k ws) i []) j 0 ≡ getD ws (k * i + j) 0
@@ -86,6 +97,12 @@ held-at os xs (r ∷ rs) (suc i) d h =
 length-held : (os : List (List ℕ)) (xs : List (Row Match Action)) (rs : List (List ℕ)) → length (held os xs rs) ≡ length rs
 length-held os xs [] = refl
 length-held os xs (r ∷ rs) = ap suc (length-held os (drop (ownOf r) xs) rs)
+
+-- there are as many nodes as the file's count says
+pub listed-many : (f : List ℕ) → length (listOf f) ≡ layoutOf f .nodes
+listed-many f =
+    length-held (operatorRecords f (layoutOf f .operators)) (atomsOf f (layoutOf f)) (recordsOf f)
+    ∙ length-records (layoutOf f .nodes) nodeLength (drop (nodesAt (layoutOf f .operators) (layoutOf f .atoms) + 1) f)
 
 -- one node's atoms more
 own-more : (rs : List (List ℕ)) (i : ℕ) → i < length rs → ownAtoms (take (suc i) rs) ≡ ownAtoms (take i rs) + ownOf (getD rs i [])
@@ -234,3 +251,17 @@ reached-start f l e s p q =
       first,
       sym same,
     )
+
+-- the same with a node's words as the code has them
+module _ (f : List ℕ) (s : Spot) (reached : Reached f s) (h : 0 < s .left) (n : NodeWords) (e : n ≡ nodeAt f (s .left)) where
+  nothing : Listed PolicyNode
+  nothing = record { what = record { inner = []; parent = []; sibling = []; atoms = [] }; childCount = 0 }
+
+  pub atoms-within : s .atom + atomLength * n .own ≤ length f
+  atoms-within = rw e (here f s reached h nothing .atoms-fit)
+
+  pub next-spot : record { left = s .left - 1; atom = s .atom + atomLength * n .own } ≡ nextSpot f s
+  next-spot = rw e
+
+  pub next-reached : Reached f (record { left = s .left - 1; atom = s .atom + atomLength * n .own })
+  next-reached = rw e (here f s reached h nothing .next)

@@ -10,6 +10,7 @@
 --   lawsFault              the operators that some node names as inner or sibling keep the laws (10)
 --   stages, answer         all stages in order, with words after the last node (7) before the tree
 --   readOf                 the answer
+--   numbered               the answer's number, place, law and actions
 use Prim.Native.Nat.{ℕ, zero, suc, _+_, _*_, pred}
 use mathlib.Core.Bool.{Bool, true, false, cond, _&&_, _||_}
 use mathlib.Core.List.{List, [], _∷_, map}
@@ -248,3 +249,8 @@ readOf f =
     let b : ℕ = getD f (atomsAt a) 0 in
     let c : ℕ = getD f (nodesAt a b) 0 in
     answer (stages f a b c) (layout a b c)
+
+-- the number, place, law and actions of an answer: 0, 0, no law and three don't cares where the file is accepted
+abbrev pub numbered : Reading → Refusal
+numbered (Accepted l) = plain 0 0
+numbered (Refused r) = r

@@ -1,0 +1,79 @@
+-- The whole walk gives eval of the file's tree, and the answer goes by what reading said. Assumes nothing.
+use Prim.Native.Nat.{ℕ, _+_, _*_, _≤_, _<_}
+use native.Mathlib.Omega.{arith}
+use mathlib.Core.Path.{_≡_, refl, sym, ap, _∙_}
+use mathlib.Core.Bool.{Bool, true, false}
+use mathlib.Core.List.{List}
+use lib.ListN.{drop}
+use Rattle.theory.specs.Nodes.{plant}
+use Rattle.theory.specs.Tree.{_▸_}
+use Rattle.flow.specs.Packet.{packetOf, rightPacketWords}
+use Rattle.flow.specs.declared.Packet.{Packet}
+use Rattle.action.specs.declared.Action.{Action}
+use Rattle.policy.specs.Numbers.{mostOperators}
+use Rattle.policy.specs.Read.{plain, readOf}
+use Rattle.policy.specs.Read as read
+use Rattle.policy.specs.File.{PolicyTree, firstTree, treeOf}
+use Rattle.policy.specs.declared.Layout.{Layout}
+use Rattle.policy.specs.declared.Reading.{Reading}
+use Rattle.policy.specs.declared.Reading.the-variants.{Accepted, Refused}
+use Rattle.policy.specs.declared.Refusal.{Refusal}
+use Rattle.policy.proofs.Accepted.{accepted-exactly}
+use Rattle.nodes.specs.Walk.{layoutOf, listOf, nodeIndex, Reached}
+use Rattle.nodes.specs.declared.Spot.{Spot}
+use Rattle.nodes.proofs.Places.{reached-start}
+use Rattle.tree.specs.Action.{wrongPacket, evalTree, acceptedAction, actionOf, afterReading}
+use Rattle.tree.specs.Steps.{TreeGave}
+use Rattle.tree.specs.Theorems.{ActionEval, ActionRefused, ActionPacket}
+use Rattle.tree.specs.declared.Evaluated.{Evaluated}
+use Rattle.tree.specs.declared.Evaluated.the-variants as evaluated
+use Rattle.tree.specs.declared.Gave.{Gave}
+
+-- an accepted file has few operators
+pub few-operators : (f : List ℕ) (l : Layout) → readOf f ≡ Accepted l → l .operators ≤ mostOperators
+few-operators f l e = accepted-exactly f l .0 e .otherwise .operators .most
+
+-- the walk's start, as the code makes it
+module _ (f : List ℕ) (l : Layout) (e : readOf f ≡ Accepted l) where
+  pub start-reached : Reached f (record { left = l .nodes; atom = read.atomsAt (l .operators) + 1 }) × (0 < l .nodes)
+  start-reached = let r = reached-start f l e (record { left = l .nodes; atom = read.atomsAt (l .operators) + 1 }) refl refl in (r .0, r .1)
+
+  -- what the walk from the root gives
+  pub root-gave : (p : Packet) {q : Packet} {r : Gave} → q ≡ p → TreeGave f (record { left = l .nodes; atom = read.atomsAt (l .operators) + 1 }) q r → r .action ≡ evalTree (treeOf f l) p
+  root-gave p {q} {r} same t =
+      let s = reached-start f l e (record { left = l .nodes; atom = read.atomsAt (l .operators) + 1 }) refl refl in
+      let first : nodeIndex f (record { left = l .nodes; atom = read.atomsAt (l .operators) + 1 }) ≡ 0 = s .2 in
+      let stands : plant (listOf f) ≡ t .tree ▸ plant (drop (nodeIndex f (r .next)) (listOf f)) = rw first at (t .stands .stands) in
+      let tree : treeOf f l ≡ t .tree = ap (treeOf f) (s .3) ∙ ap firstTree stands in
+      t .answer ∙ ap (evalTree (t .tree)) same ∙ ap (λ (x : PolicyTree). evalTree x p) (sym tree)
+
+-- the packet's test, as the code has it
+module _ (f : List ℕ) (l : Layout) (p : List ℕ) (t : Bool) (q : t ≡ rightPacketWords p) where
+  pub accepted-gives : {x : Action} → t ≡ true → x ≡ evalTree (treeOf f l) (packetOf p) → evaluated.Gives x ≡ acceptedAction f l p
+  unfolding acceptedAction
+  accepted-gives {x} h e = rw (← q, h, e)
+
+  pub accepted-refuses : t ≡ false → evaluated.Refused (plain wrongPacket 0) ≡ acceptedAction f l p
+  unfolding acceptedAction
+  accepted-refuses h = rw (← q, h)
+
+-- what reading answered picks the case
+pub read-accepted : (f p : List ℕ) {r : Reading} (l : Layout) {x : Evaluated} → r ≡ readOf f → r ≡ Accepted l → x ≡ acceptedAction f l p → x ≡ actionOf f p
+unfolding actionOf
+read-accepted f p l e g h = rw (← e, g) h
+
+pub read-refused : (f p : List ℕ) {r : Reading} (x : Refusal) → r ≡ readOf f → r ≡ Refused x → evaluated.Refused x ≡ actionOf f p
+unfolding actionOf
+read-refused f p x e g = rw (← e, g)
+
+pub action-eval : ActionEval
+unfolding actionOf acceptedAction
+action-eval f p l e right = rw (e, right)
+
+pub action-refused : ActionRefused
+unfolding actionOf
+action-refused f p r e = rw e
+
+pub action-packet : ActionPacket
+unfolding actionOf acceptedAction
+action-packet f p l e wrong = rw (e, wrong)

@@ -1,0 +1,3 @@
+pub mod Action
+pub mod Steps
+pub mod Theorems

@@ -1,0 +1,162 @@
+// The tree's action: what a policy file says of a packet.
+ghost use mathlib.Core.Path.{_≡_};
+ghost use Prim.Native.Nat.{_<_, _%_};
+ghost use lib.ListN.{length};
+ghost use Rattle.policy.specs.Read.{readOf};
+ghost use Rattle.policy.specs.declared.Reading.the-variants.{Accepted};
+ghost use Rattle.nodes.specs.Walk.{Reached};
+ghost use Rattle.row.specs.Row.{rowLength};
+ghost use Rattle.tree.specs.Action.{actionOf, acceptedAction};
+ghost use Rattle.tree.specs.Steps.{ownAction, withAtom, TreeGave, ChildrenGave};
+use action::Action;
+use action::Law;
+use action::Operator;
+use flow::Packet;
+use flow::meets;
+use flow::read_match;
+use flow::read_packet;
+use flow::right_packet_words;
+use nodes::Spot;
+use nodes::atoms_at;
+use nodes::node_at;
+use nodes::operator_at;
+use policy::ATOM_WORDS;
+use policy::Layout;
+use policy::OPERATOR_WORDS;
+use policy::Reading;
+use policy::Refusal;
+use policy::read;
+use row::ROW_WORDS;
+use row::row_action;
+
+// The number of the refusal of a packet.
+pub const WRONG_PACKET: u32 = 11;
+
+pub enum Evaluated {
+    Gives(Action),
+    Refused(Refusal),
+}
+
+// What was found of a subtree or of some children, and the place of the nodes behind them.
+pub struct Gave {
+    pub action: Action,
+    pub next: Spot,
+}
+
+// What the policy in a file says of a packet.
+pub fn tree_action(file: &[u32], packet: &[u32]) -> Evaluated
+    ensures { λ r. ⌜ r ≡ actionOf (now (file .entry)) (now (packet .entry)) ⌝ }
+{
+    let reading = read(file);
+    match reading {
+        Reading::Accepted(layout) => accepted_action(file, layout, packet),
+        Reading::Refused(refusal) => Evaluated::Refused(refusal),
+    }
+}
+
+// The same of an accepted file: the packet is tested, and the walk starts at the root.
+fn accepted_action(file: &[u32], layout: Layout, packet: &[u32]) -> Evaluated
+    requires { ⌜ readOf (now file) ≡ Accepted layout ⌝ }
+    ensures { λ r. ⌜ r ≡ acceptedAction (now (file .entry)) layout (now (packet .entry)) ⌝ }
+{
+    if right_packet_words(packet) {
+        let start = Spot {
+            left: layout.nodes,
+            atom: 1 + OPERATOR_WORDS * layout.operators + 1,
+        };
+        let gave = subtree(file, start, read_packet(packet));
+        let action = gave.action;
+        Evaluated::Gives(action)
+    } else {
+        Evaluated::Refused(Refusal {
+            number: WRONG_PACKET,
+            place: 0,
+            law: Law::Unnamed,
+            first: Action::DONT_CARE,
+            second: Action::DONT_CARE,
+            third: Action::DONT_CARE,
+        })
+    }
+}
+
+// The action of the subtree at a place: the node's own on the left, its children's on the right.
+fn subtree(file: &[u32], at: Spot, packet: Packet) -> Gave
+    requires { ⌜ Reached (now file) at × (0 < at .left) ⌝ }
+    ensures { λ r. ⌜ TreeGave (now (file .entry)) at packet r ⌝ }
+{
+    let node = node_at(file, at.left);
+    let from = at.atom;
+    let own = own_action(
+        operator_at(file, node.inner),
+        atoms_at(file, from, node.own),
+        packet,
+    );
+    let next = Spot {
+        left: at.left - 1,
+        atom: from + ATOM_WORDS * (node.own as usize),
+    };
+    let below = children(file, next, node.sibling, node.children, packet);
+    let theirs = below.action;
+    let behind = below.next;
+    let action = operator_at(file, node.parent).join(own, theirs);
+    Gave {
+        action,
+        next: behind,
+    }
+}
+
+// The action of so many children from a place on, folded from the last under a sibling operator.
+fn children(file: &[u32], at: Spot, sibling: u32, count: u32, packet: Packet) -> Gave
+    requires { ⌜ Reached (now file) at ⌝ }
+    ensures { λ r. ⌜ ChildrenGave (now (file .entry)) at sibling count packet r ⌝ }
+{
+    if count == 0 {
+        return Gave {
+            action: Action::DONT_CARE,
+            next: at,
+        };
+    }
+    if at.left == 0 {
+        return Gave {
+            action: Action::DONT_CARE,
+            next: at,
+        };
+    }
+    let first = subtree(file, at, packet);
+    let one = first.action;
+    let next = first.next;
+    let rest = children(file, next, sibling, count - 1, packet);
+    let others = rest.action;
+    let behind = rest.next;
+    let action = operator_at(file, sibling).join(one, others);
+    Gave {
+        action,
+        next: behind,
+    }
+}
+
+// A node's own action: its matching atoms, folded from the last.
+fn own_action(op: Operator, atoms: &[u32], packet: Packet) -> Action
+    requires { ⌜ length (now atoms) % rowLength ≡ 0 ⌝ }
+    ensures { λ r. ⌜ r ≡ ownAction (op .cells) (now (atoms .entry)) packet ⌝ }
+{
+    let mut i = atoms.len();
+    let mut given = Action::DONT_CARE;
+    while ROW_WORDS <= i {
+        let from = i - ROW_WORDS;
+        given = with_atom(op, &atoms[from..i], packet, given);
+        i = from;
+    }
+    given
+}
+
+// One atom before the others.
+fn with_atom(op: Operator, atom: &[u32], packet: Packet, rest: Action) -> Action
+    ensures { λ r. ⌜ r ≡ withAtom (op .cells) (now (atom .entry)) packet rest ⌝ }
+{
+    if meets(read_match(atom), packet) {
+        op.join(row_action(atom), rest)
+    } else {
+        rest
+    }
+}
