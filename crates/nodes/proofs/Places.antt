@@ -25,7 +25,7 @@ use Rattle.policy.specs.declared.Reading.the-variants.{Accepted}
 use Rattle.policy.proofs.Accepted.{accepted-exactly}
 use Rattle.logic.proofs.Tests.{by-le}
 use Rattle.nodes.specs.Nodes.{nodePlace, nodeAt, cellsAt, atomsAt}
-use Rattle.nodes.specs.Walk.{layoutOf, listOf, recordsOf, nodeIndex, atomsFrom, Reached}
+use Rattle.nodes.specs.Walk.{layoutOf, listOf, recordsOf, nodeIndex, atomsFrom, Reached, nextSpot}
 use Rattle.nodes.specs.declared.NodeWords.{NodeWords}
 use Rattle.nodes.specs.declared.Spot.{Spot}
 
@@ -127,9 +127,9 @@ nodeHere f s =
       atoms = rowsOf rowLength rowOf (atomsAt f (s .atom) (n .own));
     }
 
--- the place behind a node's own atoms
-abbrev pub nextSpot : List ℕ → Spot → Spot
-nextSpot f s = record { left = s .left - 1; atom = s .atom + atomLength * nodeAt f (s .left) .own }
+-- stands for a node past the last: it holds nothing
+pub nothing : Listed PolicyNode
+nothing = record { what = record { inner = []; parent = []; sibling = []; atoms = [] }; childCount = 0 }
 
 -- WHAT STANDS AT A PLACE that a walk reaches, with nodes left
 pub record Here (f : List ℕ) (s : Spot) (d : Listed PolicyNode) : Type 0 where
@@ -254,9 +254,6 @@ reached-start f l e s p q =
 
 -- the same with a node's words as the code has them
 module _ (f : List ℕ) (s : Spot) (reached : Reached f s) (h : 0 < s .left) (n : NodeWords) (e : n ≡ nodeAt f (s .left)) where
-  nothing : Listed PolicyNode
-  nothing = record { what = record { inner = []; parent = []; sibling = []; atoms = [] }; childCount = 0 }
-
   pub atoms-within : s .atom + atomLength * n .own ≤ length f
   atoms-within = rw e (here f s reached h nothing .atoms-fit)
 

@@ -5,6 +5,7 @@
 --   nodeIndex    the index of the next node
 --   atomsFrom    the word where the atoms start that the nodes before an index leave
 --   Reached      a place that a walk over an accepted file reaches
+--   nextSpot     the place behind a node's own atoms
 use Prim.Native.Nat.{ℕ, _+_, _*_, _-_, _≤_}
 use mathlib.Core.Path.{_≡_}
 use mathlib.Core.List.{List}
@@ -16,6 +17,7 @@ use Rattle.policy.specs.Read as read
 use Rattle.policy.specs.File.{PolicyNode, fileNodes}
 use Rattle.policy.specs.declared.Layout.{Layout}
 use Rattle.policy.specs.declared.Reading.the-variants.{Accepted}
+use Rattle.nodes.specs.Nodes.{nodeAt}
 use Rattle.nodes.specs.declared.Spot.{Spot}
 
 -- the layout that a file's counts say
@@ -46,3 +48,7 @@ pub record Reached (f : List ℕ) (s : Spot) : Type 0 where
   pub accepted : readOf f ≡ Accepted (layoutOf f)
   pub left : s .left ≤ layoutOf f .nodes
   pub atom : s .atom ≡ atomsFrom f (nodeIndex f s)
+
+-- the place behind a node's own atoms: that of its first child
+abbrev pub nextSpot : List ℕ → Spot → Spot
+nextSpot f s = record { left = s .left - 1; atom = s .atom + atomLength * nodeAt f (s .left) .own }

@@ -18,17 +18,13 @@ use Rattle.action.specs.declared.Action.the-variants.{DontCare}
 use Rattle.policy.specs.Numbers.{atomLength}
 use Rattle.policy.specs.File.{PolicyNode, PolicyTree}
 use Rattle.nodes.specs.Nodes.{nodeAt, cellsAt, atomsAt}
-use Rattle.nodes.specs.Walk.{listOf, nodeIndex, layoutOf, Reached}
+use Rattle.nodes.specs.Walk.{listOf, nodeIndex, Reached, nextSpot}
 use Rattle.nodes.specs.declared.NodeWords.{NodeWords}
 use Rattle.nodes.specs.declared.Spot.{Spot}
-use Rattle.nodes.proofs.Places.{nodeHere, nextSpot, Here, here, listed-many}
+use Rattle.nodes.proofs.Places.{nodeHere, nothing, Here, here, listed-many}
 use Rattle.tree.specs.Action.{evalTree}
 use Rattle.tree.specs.Steps.{ownAction, TreeGave, ChildrenGave}
 use Rattle.tree.specs.declared.Gave.{Gave}
-
--- a listed node that holds nothing
-nothing : Listed PolicyNode
-nothing = record { what = record { inner = []; parent = []; sibling = []; atoms = [] }; childCount = 0 }
 
 -- no child is wanted, or no node is left
 pub children-end : (f : List ℕ) (s : Spot) (sibling k : ℕ) (p : Packet) → Reached f s → k ≡ 0 → ChildrenGave f s sibling k p (record { action = DontCare; next = s })
