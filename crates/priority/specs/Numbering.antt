@@ -1,0 +1,89 @@
+-- The numbering of a table: its answer, and every word of both buffers after it.
+--
+--   shortBuffer                   the number of a buffer that is too short
+--   over ws j i                   whether rows j and i overlap
+--   levelsOf ws                   the rows' levels
+--   prioritiesOf ws               the rows' priorities
+--   chainOf ws                    the chain
+--   numbered x p c l              the answer of l priorities, where the check x passes and the buffers are long enough
+--   numberOf ws p c               the answer, for buffers of p and c words
+--   stored r F buffer             a buffer with the words F at its start, unless the answer r is a refusal
+--   prioritiesAfter, chainAfter   the priority buffer and the chain buffer afterwards
+--   Answered                      the answer and both buffers, together
+--   answerNumber, answerPlace     the number and the place of an answer; both are 0 where it is no refusal
+--   answerCount                   how many priorities an answer counts; 0 where it is a refusal
+use Prim.Native.Nat.{ℕ}
+use mathlib.Core.Path.{_≡_}
+use mathlib.Core.Bool.{Bool, cond, _&&_}
+use mathlib.Core.List.{List}
+use lib.Dec.{leb}
+use lib.ListN.{length}
+use Rattle.words.specs.Words.{laid}
+use Rattle.theory.specs.Number.{rowsOverlap, levels, levelCount, priorities, chain}
+use Rattle.flow.specs.Match.{overlap}
+use Rattle.table.specs.Table.{rowCount, rowsIn, past, checkOf}
+use Rattle.table.specs.declared.Checked.{Checked}
+use Rattle.table.specs.declared.Checked.the-variants.{Rows, Wrong}
+use Rattle.priority.specs.declared.Numbered.{Numbered}
+use Rattle.priority.specs.declared.Numbered.the-variants.{Priorities, Refused}
+
+-- the number of a buffer that is shorter than the row count
+abbrev pub shortBuffer : ℕ
+shortBuffer = 17
+
+-- whether rows j and i overlap
+unfoldable pub over : List ℕ → ℕ → ℕ → Bool
+over ws j i = rowsOverlap overlap past (rowsIn ws) j i
+
+-- the rows' levels
+unfoldable pub levelsOf : List ℕ → List ℕ
+levelsOf ws = levels (over ws) (rowCount ws)
+
+-- the rows' priorities
+abbrev pub prioritiesOf : List ℕ → List ℕ
+prioritiesOf ws = priorities (levelsOf ws)
+
+-- the chain
+abbrev pub chainOf : List ℕ → List ℕ
+chainOf ws = chain (over ws) (levelsOf ws)
+
+-- the answer of l priorities, where the table is right and neither buffer is shorter than the row count
+abbrev pub numbered : Checked → ℕ → ℕ → ℕ → Numbered
+numbered (Rows n) p c l = cond (leb n p && leb n c) (Priorities l) (Refused shortBuffer 0)
+numbered (Wrong n i) p c l = Refused n i
+
+-- the answer, for buffers of p and c words
+unfoldable pub numberOf : List ℕ → ℕ → ℕ → Numbered
+numberOf ws p c = numbered (checkOf ws) p c (levelCount (levelsOf ws))
+
+-- words at the start of a buffer, unless the answer is a refusal; every other word stays
+abbrev pub stored : Numbered → List ℕ → List ℕ → List ℕ
+stored (Priorities l) F buffer = laid 0 F buffer
+stored (Refused n i) F buffer = buffer
+
+-- the priority buffer afterwards
+unfoldable pub prioritiesAfter : List ℕ → List ℕ → List ℕ → List ℕ
+prioritiesAfter ws ps cs = stored (numberOf ws (length ps) (length cs)) (prioritiesOf ws) ps
+
+-- the chain buffer afterwards
+unfoldable pub chainAfter : List ℕ → List ℕ → List ℕ → List ℕ
+chainAfter ws ps cs = stored (numberOf ws (length ps) (length cs)) (chainOf ws) cs
+
+-- what the numbering leaves: the answer, the priority buffer and the chain buffer
+abbrev pub Answered : List ℕ → List ℕ → List ℕ → Numbered → List ℕ → List ℕ → Type 0
+Answered ws ps cs r ps′ cs′ = (r ≡ numberOf ws (length ps) (length cs)) × (ps′ ≡ prioritiesAfter ws ps cs) × (cs′ ≡ chainAfter ws ps cs)
+
+-- the number of an answer, 0 where it is no refusal
+abbrev pub answerNumber : Numbered → ℕ
+answerNumber (Priorities l) = 0
+answerNumber (Refused n i) = n
+
+-- the place of an answer, 0 where it is no refusal
+abbrev pub answerPlace : Numbered → ℕ
+answerPlace (Priorities l) = 0
+answerPlace (Refused n i) = i
+
+-- how many priorities an answer counts, 0 where it is a refusal
+abbrev pub answerCount : Numbered → ℕ
+answerCount (Priorities l) = l
+answerCount (Refused n i) = 0
