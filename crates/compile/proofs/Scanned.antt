@@ -1,0 +1,218 @@
+-- What a success tells: the rows that stand in the table are right, and their scan is the tree's action. Assumes nothing.
+use Prim.Native.Nat.{ℕ, zero, suc, _+_, _*_, _-_, _/_, _≤_, _<_}
+use native.Mathlib.Omega.{arith}
+use mathlib.Core.Path.{_≡_, refl, sym, ap, ap₂, subst, _∙_}
+use mathlib.Core.Bool.{Bool, true, false, cond, _&&_}
+use mathlib.Core.List.{List, [], _∷_, _++_, map}
+use mathlib.Core.Logic.{_↔_}
+use lib.Dec.{ltb}
+use lib.ListN.{length, getD, take, drop, length-append}
+use lib.Seq.{take-at}
+use borrow.Author.Tests.{lt-ltb, le-ltb, ltb-true, ltb-false}
+use Rattle.logic.proofs.Tests.{by-test, and-left, and-right}
+use Rattle.words.proofs.Records.{length-records}
+use Rattle.theory.specs.Rows.{Row, EveryRow, scan}
+use Rattle.theory.specs.Tree.{Tree, Forest, node, bare, _▸_, Node, EveryAtom, EveryAtoms}
+use Rattle.theory.specs.Nodes.{Listed, listTree, listTrees}
+use Rattle.theory.specs.Theorems.{Laws}
+use Rattle.theory.proofs.Compile.{scan-compile}
+use Rattle.theory.proofs.Every.{compile-every}
+use Rattle.flow.specs.Packet.{packetOf, rightPacketWords}
+use Rattle.flow.specs.Match.{isEmpty, common, meets, rightMatch}
+use Rattle.flow.specs.declared.Match.{Match}
+use Rattle.flow.specs.declared.Packet.{Packet}
+use Rattle.flow.proofs.Matches.{meets-common, common-right, meets-empty}
+use Rattle.action.specs.Action.{inRange}
+use Rattle.action.specs.Operator as operator
+use Rattle.action.specs.declared.Action.{Action}
+use Rattle.action.specs.declared.Action.the-variants.{DontCare}
+use Rattle.action.proofs.Joined.{identity}
+use Rattle.row.specs.Row.{rowLength, rowOf, rightRowMatch}
+use Rattle.table.specs.Table.{rowCount, mostRows, checkOf}
+use Rattle.table.specs.Table as table
+use Rattle.table.specs.Scan.{scanOf, scanNumber, scanAction, found}
+use Rattle.table.specs.Theorems.{RightRow, RightTable}
+use Rattle.table.specs.declared.Checked.the-variants as checked
+use Rattle.table.proofs.Tables.{check-exactly, table-words, rows-read}
+use Rattle.table.proofs.Scans.{scan-found}
+use Rattle.tree.specs.Action.{actionOf, evalTree}
+use Rattle.tree.specs.declared.Evaluated.the-variants.{Gives}
+use Rattle.tree.proofs.Eval.{action-eval}
+use Rattle.policy.specs.Numbers.{atomLength}
+use Rattle.policy.specs.Read.{plain, readOf, atomRecords}
+use Rattle.policy.specs.Read as read
+use Rattle.policy.specs.File.{PolicyNode, PolicyTree, treeOf, allAtoms, atomsOf}
+use Rattle.policy.specs.declared.Layout.{Layout}
+use Rattle.policy.specs.declared.Refusal.{Refusal}
+use Rattle.policy.specs.declared.Reading.{Reading}
+use Rattle.policy.specs.declared.Reading.the-variants as reading
+use Rattle.policy.proofs.Accepted.{accepted-exactly, accepted-tree, accepted-atoms}
+use Rattle.compile.specs.Tables.{wordsOf}
+use Rattle.compile.specs.Build.{compileTree}
+use Rattle.compile.specs.Compile.{noRoom, noScratch, wrongRate, room, compiledRows, fine, zeros, acceptedAnswer, acceptedTable, afterReading, answerOf, tableAfter, numbered}
+use Rattle.compile.specs.Theorems.{tableRows, RoomExactly, Answered, AnswersRows, TableRight, TableScans}
+use Rattle.compile.specs.declared.Compiled.{Compiled}
+use Rattle.compile.specs.declared.Compiled.the-variants.{Rows, Refused}
+use Rattle.compile.proofs.Settling.{words-count}
+
+-- an atom whose match is right
+RightMatch : Row Match Action → Type 0
+RightMatch r = rightMatch (r .match) ≡ true
+
+-- what holds of some rows holds of the first of them, and of those behind
+every-split : (T : Row Match Action → Type 0) (N N′ : List (Row Match Action)) → EveryRow T (N ++ N′) → EveryRow T N × EveryRow T N′
+every-split T [] N′ f = (tt, f)
+every-split T (r ∷ N) N′ f = let g = every-split T N N′ (f .1) in ((f .0, g .0), g .1)
+
+every-both : (T : Row Match Action → Type 0) (ns ms : List (Listed PolicyNode)) → EveryRow T (allAtoms (ns ++ ms)) → EveryRow T (allAtoms ns) × EveryRow T (allAtoms ms)
+every-both T [] ms f = (tt, f)
+every-both T (n ∷ ns) ms f =
+    let a = every-split T (n .what .atoms) (allAtoms (ns ++ ms)) f in
+    let b = every-both T ns ms (a .1) in
+    (append-every T (n .what .atoms) (allAtoms ns) (a .0) (b .0), b .1)
+  where
+    append-every : (T : Row Match Action → Type 0) (N N′ : List (Row Match Action)) → EveryRow T N → EveryRow T N′ → EveryRow T (N ++ N′)
+    append-every T [] N′ f g = g
+    append-every T (r ∷ N) N′ f g = (f .0, append-every T N N′ (f .1) g)
+
+-- what every atom of the listed nodes has, every atom of the tree has
+mutual
+  tree-every : (T : Row Match Action → Type 0) (t : PolicyTree) → EveryRow T (allAtoms (listTree t)) → EveryAtom T t
+  tree-every T (node x ts) f = let a = every-split T (x .atoms) (allAtoms (listTrees ts)) f in (a .0, trees-every T ts (a .1))
+
+  trees-every : (T : Row Match Action → Type 0) (ts : Forest PolicyNode) → EveryRow T (allAtoms (listTrees ts)) → EveryAtoms T ts
+  trees-every T bare f = tt
+  trees-every T (t ▸ ts) f = let a = every-both T (listTree t) (listTrees ts) f in (tree-every T t (a .0), trees-every T ts (a .1))
+
+-- the rows of right records
+every-record : (rs : List (List ℕ)) → ((i : ℕ) → i < length rs → rightRowMatch (getD rs i []) ≡ true) → EveryRow RightMatch (map rowOf rs)
+unfolding RightMatch rightRowMatch
+every-record [] f = tt
+every-record (r ∷ rs) f = (f 0 (omega arith), every-record rs (λ i h. f (suc i) (omega arith)))
+
+-- every row in which the rates lie in range is right
+every-right : (N : List (Row Match Action)) → EveryRow (λ r. RightMatch r × (isEmpty (r .match) ≡ false)) N → fine N ≡ true → EveryRow RightRow N
+unfolding RightMatch
+every-right [] f h = tt
+every-right (r ∷ N) f h = (
+  record { match = f .0 .0; notEmpty = f .0 .1; action = and-left (inRange (r .action)) (fine N) h },
+  every-right N (f .1) (and-right (inRange (r .action)) (fine N) h),
+)
+
+module _ (f : List ℕ) (l : Layout) (e : readOf f ≡ reading.Accepted l) where
+  -- every atom of an accepted file has a right match
+  every-atom : EveryAtom RightMatch (treeOf f l)
+  every-atom =
+      let rs : List (List ℕ) = atomRecords f (l .operators) (l .atoms) in
+      let many : length rs ≡ l .atoms = length-records (l .atoms) atomLength (drop (read.atomsAt (l .operators) + 1) f) in
+      let all : EveryRow RightMatch (atomsOf f l) = every-record rs (λ i h. accepted-exactly f l .0 e .otherwise .matches i (omega arith)) in
+      tree-every RightMatch (treeOf f l) (subst (EveryRow RightMatch) (sym (ap allAtoms (accepted-tree f l e .lists) ∙ accepted-atoms f l e)) all)
+
+  -- so every row has one, and none is empty
+  every-compiled : EveryRow (λ r. RightMatch r × (isEmpty (r .match) ≡ false)) (compiledRows f l)
+  unfolding RightMatch compiledRows
+  every-compiled = compile-every operator.join common isEmpty RightMatch (λ o r s g h. common-right (r .match) (s .match) g h) (treeOf f l) every-atom
+
+  -- the scan of the rows is the action of the tree
+  rows-scan : (p : Packet) → scan meets DontCare (compiledRows f l) p ≡ evalTree (treeOf f l) p
+  unfolding compiledRows
+  rows-scan p =
+      let laws : Laws meets DontCare operator.join common isEmpty =
+      record { meets-common = meets-common; meets-empty = meets-empty; identity-left = λ o a. identity o a .0; identity-right = λ o a. identity o a .1 } in
+      scan-compile laws (treeOf f l) p
+
+  -- the rows, and zeros behind them
+  front : (zs : List ℕ) → tableRows (length (compiledRows f l)) (wordsOf (compiledRows f l) ++ zs) ≡ wordsOf (compiledRows f l)
+  front zs = take-at (wordsOf (compiledRows f l)) zs (length (compiledRows f l) * rowLength) (words-count (compiledRows f l))
+
+-- what the answer of rows tells, with every test that was passed
+record Success (f t s : List ℕ) (n : ℕ) : Type 0 where
+  pub told : Answered f t n
+  pub right : fine (compiledRows f (told .layout)) ≡ true
+  pub stands : tableAfter f t s ≡ wordsOf (compiledRows f (told .layout)) ++ zeros (length t - length (wordsOf (compiledRows f (told .layout))))
+
+no-rows : {X : Type 0} {n : ℕ} {r : Refusal} → Refused r ≡ Rows n → X
+no-rows q = let z : _≡_ {A = ℕ} 0 1 = cc in absurd (omega arith)
+
+-- of an accepted file
+accepted-rows : (f t s : List ℕ) (n : ℕ) (l : Layout) → readOf f ≡ reading.Accepted l → acceptedAnswer (compiledRows f l) t s ≡ Rows n → Success f t s n
+unfolding tableAfter
+accepted-rows f t s n l e =
+    let N : List (Row Match Action) = compiledRows f l in
+    by-test (ltb (length s) (rowLength * room (length t)))
+    (λ a q. let q′ : Refused (plain noScratch 0) ≡ Rows n = rw a at q in no-rows q′)
+    (λ a. by-test (ltb (room (length t)) (length N))
+    (λ b q. let q′ : Refused (plain noRoom 0) ≡ Rows n = rw (a, b) at q in no-rows q′)
+    (λ b. by-test (fine N)
+    (λ c q.
+    let q′ : Rows (length N) ≡ Rows n = rw (a, b, c) at q in
+    let m : length N ≡ n = cc in
+    record {
+      told = record { layout = l; accepted = e; count = sym m; fits = omega (arith, ltb-false (room (length t)) (length N) b) };
+      right = c;
+      stands = rw (e, a, b, c);
+    })
+    (λ c q. let q′ : Refused (plain wrongRate 0) ≡ Rows n = rw (a, b, c) at q in no-rows q′)))
+
+success : (f t s : List ℕ) (n : ℕ) → answerOf f t s ≡ Rows n → Success f t s n
+unfolding answerOf
+success f t s n = from (readOf f) refl
+  where
+    from : (x : Reading) → readOf f ≡ x → afterReading x (λ r. Refused r) (λ l. acceptedAnswer (compiledRows f l) t s) ≡ Rows n → Success f t s n
+    from (reading.Accepted l) e q = accepted-rows f t s n l e q
+    from (reading.Refused r) e q = no-rows q
+
+pub answers-rows : AnswersRows
+answers-rows f t s n q = success f t s n q .told
+
+-- what stands in the table: the rows, right and not too many
+record Standing (f l-rows : List ℕ) (l : Layout) (n : ℕ) : Type 0 where
+  pub words : l-rows ≡ wordsOf (compiledRows f l)
+  pub table : RightTable l-rows
+  pub many : n ≡ rowCount l-rows
+
+standing : (f t s : List ℕ) (n : ℕ) (k : Success f t s n) → Standing f (tableRows n (tableAfter f t s)) (k .told .layout) n
+standing f t s n k =
+    let l : Layout = k .told .layout in
+    let N : List (Row Match Action) = compiledRows f l in
+    let w : tableRows n (tableAfter f t s) ≡ wordsOf N = ap₂ tableRows (k .told .count) (k .stands) ∙ front f l (k .told .accepted) (zeros (length t - length (wordsOf N))) in
+    let every : EveryRow RightRow N = every-right N (every-compiled f l (k .told .accepted)) (k .right) in
+    let few : length N ≤ mostRows = omega (arith, k .told .count, k .told .fits) in
+    record {
+      words = w;
+      table = subst RightTable (sym w) (table-words N every few);
+      many = k .told .count ∙ omega (arith, words-count N) ∙ ap rowCount (sym w);
+    }
+
+pub table-right : TableRight
+table-right f t s n q =
+    let k : Success f t s n = success f t s n q in
+    let g : Standing f (tableRows n (tableAfter f t s)) (k .told .layout) n = standing f t s n k in
+    check-exactly (tableRows n (tableAfter f t s)) n .1 (g .table, g .many)
+
+pub table-scans : TableScans
+table-scans f t s p n q right =
+    let k : Success f t s n = success f t s n q in
+    let l : Layout = k .told .layout in
+    let e : readOf f ≡ reading.Accepted l = k .told .accepted in
+    let g : Standing f (tableRows n (tableAfter f t s)) l n = standing f t s n k in
+    let same : table.rowsIn (tableRows n (tableAfter f t s)) ≡ compiledRows f l = ap table.rowsIn (g .words) ∙ rows-read (compiledRows f l) in
+    let sees : scanOf (tableRows n (tableAfter f t s)) p ≡ found 0 (compiledRows f l) (packetOf p) =
+    scan-found (tableRows n (tableAfter f t s)) p (g .table) right ∙ ap (λ N. found 0 N (packetOf p)) same in (
+      ap scanNumber sees,
+      action-eval f p l e right ∙ ap Gives (sym (rows-scan f l e (packetOf p)) ∙ sym (ap scanAction sees)),
+    )
+
+pub room-exactly : RoomExactly
+unfolding answerOf
+room-exactly f t s l e enough =
+    let N : List (Row Match Action) = compiledRows f l in
+    let no-13 : ltb (length s) (rowLength * room (length t)) ≡ false = le-ltb _ _ enough in (
+      (λ q. by-test (ltb (room (length t)) (length N)) (λ b. ltb-true _ _ b) (λ b.
+          let q′ : cond (fine N) (Rows (length N)) (Refused (plain wrongRate 0)) ≡ Refused (plain noRoom 0) = rw (e, no-13, b) at q in absurd (other (fine N) (length N) q′))),
+      (λ h. rw (e, no-13, lt-ltb _ _ h)),
+    )
+  where
+    other : (x : Bool) (n : ℕ) → cond x (Rows n) (Refused (plain wrongRate 0)) ≡ Refused (plain noRoom 0) → ⊥
+    other true n q = let z : _≡_ {A = ℕ} 0 1 = cc in absurd (omega arith)
+    other false n q = let z : wrongRate ≡ noRoom = ap (λ (c : Compiled). numbered c .number) q in absurd (omega arith)

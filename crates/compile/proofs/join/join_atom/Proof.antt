@@ -1,0 +1,95 @@
+-- `compile::join::join_atom` meets its contract: an atom with the empty match leaves the table; another is one row, put before the table with its common rows.
+-- Assumes nothing.
+use borrow.Author.Needs.{needs}
+use native.Mathlib.Omega.{arith}
+use Rattle.compile.proofs.Grow.{lays-ends}
+use Rattle.compile.proofs.Own.{atom-none, atom-full, atom-joined}
+use Rattle.compile.proofs.join.join_atom.Statement.{statement}
+use Rattle.compile.proofs.join.join_atom.Tie as tie
+
+read-match-requires : tie.Need-read-match-requires
+read-match-requires c κs = search needs
+
+is-empty-requires : tie.Need-is-empty-requires
+is-empty-requires c κs = search needs
+
+returns : tie.Need-returns
+returns c = atom-none _ _ (c .before .before .read-match .ensures) (c .before .is-empty .ensures) (c .if1 .taken) (c .before .before .before .before .before .before .pre .0) (c .before .before .before .before .before .before .pre .1)
+
+row-action-requires : tie.Need-row-action-requires
+row-action-requires c κs = search needs
+
+words-of-row-requires : tie.Need-words-of-row-requires
+words-of-row-requires c κs = search needs
+
+slice-aggregate-row-before : tie.Need-slice-aggregate-row-before
+slice-aggregate-row-before c = search needs
+
+mul-row-before : tie.Need-mul-row-before
+mul-row-before c = search needs
+
+sub-row-before : tie.Need-sub-row-before
+sub-row-before c = search needs
+
+part-row-before-start : tie.Need-part-row-before-start
+part-row-before-start c = search needs
+
+part-row-before-end : tie.Need-part-row-before-end
+part-row-before-end c = search needs
+
+row-before-requires : tie.Need-row-before-requires
+row-before-requires c κs = search needs
+
+enum-known-made : tie.Need-enum-known-made
+enum-known-made c = search needs
+
+enum-told : tie.Need-enum-told
+enum-told c = search needs
+
+same-length : tie.Need-same-length
+same-length c = search needs
+
+same-length-2 : tie.Need-same-length-2
+same-length-2 c = search needs
+
+returns-2 : tie.Need-returns-2
+returns-2 c = atom-full _ _ _ _ (c .before .before .before .before .before .before .before .before .before .before .before .before .before .read-match .ensures) (c .before .before .before .before .before .before .before .before .before .before .before .before .is-empty .ensures) (c .before .before .before .before .before .before .before .before .before .before .before .if1 .left) (c .before .before .before .before .before .before .before .before .before .before .row-action .ensures) (c .before .before .before .before .before .before .before .before .before .words-of-row .ensures) (c .before .before .before .before .row-before .ensures) _ (omega (arith, c .before .before .before .before .before .before .before .before .before .before .before .before .before .before .before .before .before .pre .2)) (c .enum-told .given .1)
+
+put-before-requires : tie.Need-put-before-requires
+put-before-requires c κs =
+    let n = lays-ends (c .before .before .before .before .before .before .before .row-before .ensures) (c .before .before .before .made .given .1) in
+    (n .0, c .before .before .before .before .before .before .before .before .before .before .before .before .before .before .before .before .before .before .before .before .pre .0, omega (arith, n .1, c .before .before .before .before .before .before .before .before .before .before .before .before .before .before .before .before .before .before .before .before .pre .2), c .before .before .before .before .before .before .before .before .before .before .before .before .before .before .before .before .before .before .before .before .pre .1, omega (arith, c .before .before .before .before .before .before .before .before .before .before .before .before .before .before .before .before .before .before .before .before .pre .2, c .before .before .before .before .before .before .before .row-before .kept .1 .1 .1 .0))
+
+same-length-3 : tie.Need-same-length-3
+same-length-3 c = search needs
+
+same-length-4 : tie.Need-same-length-4
+same-length-4 c = search needs
+
+returns-3 : tie.Need-returns-3
+returns-3 c = atom-joined _ _ _ _ (c .before .before .before .before .before .before .before .before .before .before .before .before .before .before .before .before .before .before .before .before .before .read-match .ensures) (c .before .before .before .before .before .before .before .before .before .before .before .before .before .before .before .before .before .before .before .before .is-empty .ensures) (c .before .before .before .before .before .before .before .before .before .before .before .before .before .before .before .before .before .before .before .if1 .left) (c .before .before .before .before .before .before .before .before .before .before .before .before .before .before .before .before .before .before .row-action .ensures) (c .before .before .before .before .before .before .before .before .before .before .before .before .before .before .before .before .before .words-of-row .ensures) (c .before .before .before .before .before .before .before .before .before .before .before .before .row-before .ensures) (c .before .before .before .before .before .before .before .before .made .given .1) (c .before .before .before .before .put-before .ensures)
+
+pub join-atom-spec : {M : Type 1} → statement M
+join-atom-spec =
+    tie.close
+    (tie.spec
+    read-match-requires
+    is-empty-requires
+    returns
+    row-action-requires
+    words-of-row-requires
+    slice-aggregate-row-before
+    mul-row-before
+    sub-row-before
+    part-row-before-start
+    part-row-before-end
+    row-before-requires
+    enum-known-made
+    enum-told
+    same-length
+    same-length-2
+    returns-2
+    put-before-requires
+    same-length-3
+    same-length-4
+    returns-3)

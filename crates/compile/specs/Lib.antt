@@ -1,0 +1,5 @@
+pub mod Lays
+pub mod Tables
+pub mod Build
+pub mod Compile
+pub mod Theorems

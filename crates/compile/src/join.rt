@@ -1,0 +1,122 @@
+// Tables joined in their place, within the lent buffers. Both buffers are as long as there is room.
+ghost use mathlib.Core.Path.{_≡_};
+ghost use mathlib.Core.List.{_++_};
+ghost use Prim.Native.Nat.{_-_, _≤_, _%_};
+ghost use lib.ListN.{length, drop};
+ghost use Rattle.row.specs.Row.{rowLength, rowOf};
+ghost use Rattle.compile.specs.Lays.{part, Lays};
+ghost use Rattle.compile.specs.Tables.{commonWithWords, joinWords, atomWords, ownWords};
+use crate::rows::Made;
+use crate::rows::append;
+use crate::rows::common_rows;
+use crate::rows::common_with;
+use action::Operator;
+use flow::is_empty;
+use flow::read_match;
+use row::ROW_WORDS;
+use row::row_action;
+use row::words_of_row;
+use words::copy;
+
+// Joins the tables at start..middle and middle..end: their common rows are made in scratch, and put before them.
+pub(crate) fn join(
+    operator: Operator,
+    table: &mut [u32],
+    scratch: &mut [u32],
+    start: usize,
+    middle: usize,
+    end: usize,
+) -> Made
+    requires { ⌜ (start ≤ middle) × (middle ≤ end) × (end ≤ length (now table)) × (length (now scratch) ≡ length (now table)) ⌝ }
+    ensures { λ r. ⌜ Lays start (joinWords (operator .cells) (part start middle (now (table .entry))) (part middle end (now (table .entry)))) (now (table .entry)) (now (table .exit)) r ⌝ }
+{
+    let whole = &*table;
+    let common = common_rows(
+        operator,
+        &whole[start..middle],
+        &whole[middle..end],
+        scratch,
+        start,
+    );
+    let Made::Words(made) = common else {
+        return Made::Full;
+    };
+    put_before(table, scratch, start, made, end)
+}
+
+// The table of a node's own atoms, folded from the last.
+pub(crate) fn own_rows(
+    operator: Operator,
+    atoms: &[u32],
+    table: &mut [u32],
+    scratch: &mut [u32],
+    start: usize,
+) -> Made
+    requires { ⌜ (length (now atoms) % rowLength ≡ 0) × (start ≤ length (now table)) × (length (now scratch) ≡ length (now table)) ⌝ }
+    ensures { λ r. ⌜ Lays start (ownWords (operator .cells) (now (atoms .entry))) (now (table .entry)) (now (table .exit)) r ⌝ }
+{
+    let mut i = atoms.len();
+    let mut end = start;
+    while ROW_WORDS <= i {
+        let from = i - ROW_WORDS;
+        let made = join_atom(operator, &atoms[from..i], table, scratch, start, end);
+        let Made::Words(e) = made else {
+            return Made::Full;
+        };
+        end = e;
+        i = from;
+    }
+    Made::Words(end)
+}
+
+// Puts the words at start..made of scratch before those at start..end of the table.
+fn put_before(table: &mut [u32], scratch: &mut [u32], start: usize, made: usize, end: usize) -> Made
+    requires { ⌜ (start ≤ made) × (start ≤ end) × (made ≤ length (now table)) × (end ≤ length (now table)) × (length (now scratch) ≡ length (now table)) ⌝ }
+    ensures { λ r. ⌜ Lays start (part start made (now (scratch .entry)) ++ part start end (now (table .entry))) (now (table .entry)) (now (table .exit)) r ⌝ }
+{
+    if made == start {
+        return Made::Words(end);
+    }
+    let whole = append(scratch, made, &table[start..end]);
+    let Made::Words(e) = whole else {
+        return Made::Full;
+    };
+    copy(table, start, &scratch[start..e]);
+    Made::Words(e)
+}
+
+// Joins an atom with the table at start..end, in its place. One with the empty match has no row.
+fn join_atom(
+    operator: Operator,
+    atom: &[u32],
+    table: &mut [u32],
+    scratch: &mut [u32],
+    start: usize,
+    end: usize,
+) -> Made
+    requires { ⌜ (start ≤ end) × (end ≤ length (now table)) × (length (now scratch) ≡ length (now table)) ⌝ }
+    ensures { λ r. ⌜ Lays start (joinWords (operator .cells) (atomWords (now (atom .entry))) (part start end (now (table .entry)))) (now (table .entry)) (now (table .exit)) r ⌝ }
+{
+    let m = read_match(atom);
+    if is_empty(m) {
+        return Made::Words(end);
+    }
+    let row = words_of_row(m, row_action(atom));
+    let made = row_before(operator, &row, &table[start..end], scratch, start);
+    let Made::Words(e) = made else {
+        return Made::Full;
+    };
+    put_before(table, scratch, start, e, end)
+}
+
+// The common rows of a row and a table, and then the row.
+fn row_before(operator: Operator, row: &[u32], table: &[u32], out: &mut [u32], at: usize) -> Made
+    requires { ⌜ at ≤ length (now out) ⌝ }
+    ensures { λ r. ⌜ Lays at (commonWithWords (operator .cells) (rowOf (now (row .entry))) (now (table .entry)) ++ now (row .entry)) (now (out .entry)) (now (out .exit)) r ⌝ }
+{
+    let common = common_with(operator, row, table, out, at);
+    let Made::Words(end) = common else {
+        return Made::Full;
+    };
+    append(out, end, row)
+}
