@@ -3,6 +3,7 @@
 --   packetOf, packetWords   the packet that some words are, and its words
 --   rightPacket             the values are in their ranges
 --   rightPacketWords        some words are a packet
+--   wrongPacket             the number of words that are none
 use Prim.Native.Nat.{ℕ, _^_}
 use mathlib.Core.Bool.{Bool, _&&_}
 use mathlib.Core.List.{List, [], _∷_}
@@ -14,6 +15,10 @@ use Rattle.flow.specs.declared.Packet.{Packet}
 -- how many words a packet has
 abbrev pub packetLength : ℕ
 packetLength = 6
+
+-- the number of words that are no packet
+abbrev pub wrongPacket : ℕ
+wrongPacket = 11
 
 -- in-ports and ports are below this number
 abbrev pub portLimit : ℕ

@@ -20,6 +20,13 @@ pub const PACKET_WORDS: usize = 6;
 
 pub const MATCH_WORDS: usize = 9;
 
+pub type PacketWords = [u32; PACKET_WORDS];
+
+pub type MatchWords = [u32; MATCH_WORDS];
+
+// The number of the refusal for words that are no packet.
+pub const WRONG_PACKET: u32 = 11;
+
 // The flags: which values of a match are constrained, and the empty match.
 const IN_PORT: u32 = 1;
 
@@ -221,7 +228,7 @@ pub fn write_match(words: &mut [u32], m: Match)
 }
 
 // A packet's six words.
-pub fn words_of_packet(p: Packet) -> [u32; 6]
+pub fn words_of_packet(p: Packet) -> PacketWords
     ensures { λ r. ⌜ r ≡ packetWords p ⌝ }
 {
     [
@@ -235,7 +242,7 @@ pub fn words_of_packet(p: Packet) -> [u32; 6]
 }
 
 // A match's nine words.
-pub fn words_of_match(m: Match) -> [u32; 9]
+pub fn words_of_match(m: Match) -> MatchWords
     ensures { λ r. ⌜ r ≡ matchWords m ⌝ }
 {
     [

@@ -16,6 +16,8 @@ use words::word;
 // How many words an atom or a row has, and where its action stands.
 pub const ROW_WORDS: usize = MATCH_WORDS + 2;
 
+pub type RowWords = [u32; ROW_WORDS];
+
 const KIND: usize = MATCH_WORDS;
 
 const RATE: usize = MATCH_WORDS + 1;
@@ -28,7 +30,7 @@ pub fn row_action(row: &[u32]) -> Action
 }
 
 // The words of a row.
-pub fn words_of_row(m: Match, a: Action) -> [u32; ROW_WORDS]
+pub fn words_of_row(m: Match, a: Action) -> RowWords
     ensures { λ r. ⌜ r ≡ rowWords (record { match = m; action = a }) ⌝ }
 {
     let k = kind(a);

@@ -1,6 +1,5 @@
 -- The scan of a table for a packet, both as words.
 --
---   wrongPacket             the number of words that are no packet
 --   found k N p             the scan of the rows N, where k rows were tried before them
 --   whereRight c s          the answer s, where the table is right
 --   scanOf ws packet        the scan's answer
@@ -10,7 +9,7 @@ use Prim.Native.Nat.{ℕ, _+_}
 use mathlib.Core.Bool.{cond}
 use mathlib.Core.List.{List}
 use Rattle.theory.specs.Rows.{Row, scan, tried}
-use Rattle.flow.specs.Packet.{packetOf, rightPacketWords}
+use Rattle.flow.specs.Packet.{packetOf, rightPacketWords, wrongPacket}
 use Rattle.flow.specs.Match.{meets}
 use Rattle.flow.specs.declared.Match.{Match}
 use Rattle.flow.specs.declared.Packet.{Packet}
@@ -21,10 +20,6 @@ use Rattle.table.specs.declared.Checked.{Checked}
 use Rattle.table.specs.declared.Checked.the-variants.{Rows, Wrong}
 use Rattle.table.specs.declared.Scanned.{Scanned}
 use Rattle.table.specs.declared.Scanned.the-variants.{Found, Refused}
-
--- the number of words that are no packet
-abbrev pub wrongPacket : ℕ
-wrongPacket = 11
 
 -- the scan of rows before which k rows were tried
 abbrev pub found : ℕ → List (Row Match Action) → Packet → Scanned

@@ -17,7 +17,7 @@ use lib.ListN.{length, getD, take, drop}
 use Rattle.words.specs.Records.{flat}
 use Rattle.theory.specs.Rows.{Row, EveryRow, matchesAt}
 use Rattle.theory.specs.Number.{FirstPlace}
-use Rattle.flow.specs.Packet.{packetOf, rightPacketWords}
+use Rattle.flow.specs.Packet.{packetOf, rightPacketWords, wrongPacket}
 use Rattle.flow.specs.Match.{isEmpty, rightMatch, meets}
 use Rattle.flow.specs.declared.Match.{Match}
 use Rattle.action.specs.Action.{inRange}
@@ -25,7 +25,7 @@ use Rattle.action.specs.declared.Action.{Action}
 use Rattle.action.specs.declared.Action.the-variants.{DontCare}
 use Rattle.row.specs.Row.{rowLength, rowWords, rightRow}
 use Rattle.table.specs.Table.{mostRows, wrongRow, rowCount, rowsIn, past, rightLength, checkOf}
-use Rattle.table.specs.Scan.{wrongPacket, scanOf}
+use Rattle.table.specs.Scan.{scanOf}
 use Rattle.table.specs.declared.Checked.the-variants.{Rows, Wrong}
 use Rattle.table.specs.declared.Scanned.the-variants.{Found, Refused}
 

@@ -4,6 +4,7 @@ ghost use Rattle.table.specs.Table.{rowsIn, rightLength, checkRows, chec
 ghost use Rattle.table.specs.Scan.{found, scanOf};
 use action::Action;
 use flow::Packet;
+use flow::WRONG_PACKET;
 use flow::meets;
 use flow::read_match;
 use flow::read_packet;
@@ -16,8 +17,6 @@ use row::row_action;
 pub const MOST_ROWS: usize = 4096;
 
 // The numbers of the refusals.
-pub const WRONG_PACKET: u32 = 11;
-
 pub const WRONG_TABLE: u32 = 15;
 
 pub const WRONG_ROW: u32 = 16;

@@ -7,7 +7,7 @@ use mathlib.Core.List.{List}
 use lib.ListN.{drop}
 use Rattle.theory.specs.Nodes.{plant}
 use Rattle.theory.specs.Tree.{_▸_}
-use Rattle.flow.specs.Packet.{packetOf, rightPacketWords}
+use Rattle.flow.specs.Packet.{packetOf, rightPacketWords, wrongPacket}
 use Rattle.flow.specs.declared.Packet.{Packet}
 use Rattle.action.specs.declared.Action.{Action}
 use Rattle.policy.specs.Numbers.{mostOperators}
@@ -22,7 +22,7 @@ use Rattle.policy.proofs.Accepted.{accepted-exactly}
 use Rattle.nodes.specs.Walk.{layoutOf, listOf, nodeIndex, Reached}
 use Rattle.nodes.specs.declared.Spot.{Spot}
 use Rattle.nodes.proofs.Places.{reached-start}
-use Rattle.tree.specs.Action.{wrongPacket, evalTree, acceptedAction, actionOf, afterReading}
+use Rattle.tree.specs.Action.{evalTree, acceptedAction, actionOf, afterReading}
 use Rattle.tree.specs.Steps.{TreeGave}
 use Rattle.tree.specs.Theorems.{ActionEval, ActionRefused, ActionPacket}
 use Rattle.tree.specs.declared.Evaluated.{Evaluated}

@@ -3,7 +3,7 @@ use Prim.Native.Nat.{ℕ}
 use mathlib.Core.Bool.{cond}
 use mathlib.Core.List.{List}
 use Rattle.theory.specs.Tree.{eval}
-use Rattle.flow.specs.Packet.{packetOf, rightPacketWords}
+use Rattle.flow.specs.Packet.{packetOf, rightPacketWords, wrongPacket}
 use Rattle.flow.specs.Match.{meets}
 use Rattle.flow.specs.declared.Packet.{Packet}
 use Rattle.action.specs.Operator.{join}
@@ -17,10 +17,6 @@ use Rattle.policy.specs.declared.Reading.the-variants.{Accepted, Refused}
 use Rattle.policy.specs.declared.Refusal.{Refusal}
 use Rattle.tree.specs.declared.Evaluated.{Evaluated}
 use Rattle.tree.specs.declared.Evaluated.the-variants as evaluated
-
--- the packet is not six words, or a value is too large
-abbrev pub wrongPacket : ℕ
-wrongPacket = 11
 
 -- eval of Figure 1, at the matches, actions and operators of a policy file
 abbrev pub evalTree : PolicyTree → Packet → Action

@@ -3,13 +3,13 @@ use Prim.Native.Nat.{ℕ}
 use mathlib.Core.Path.{_≡_}
 use mathlib.Core.Bool.{true, false}
 use mathlib.Core.List.{List}
-use Rattle.flow.specs.Packet.{packetOf, rightPacketWords}
+use Rattle.flow.specs.Packet.{packetOf, rightPacketWords, wrongPacket}
 use Rattle.policy.specs.Read.{plain, readOf}
 use Rattle.policy.specs.File.{treeOf}
 use Rattle.policy.specs.declared.Layout.{Layout}
 use Rattle.policy.specs.declared.Refusal.{Refusal}
 use Rattle.policy.specs.declared.Reading.the-variants.{Accepted, Refused}
-use Rattle.tree.specs.Action.{wrongPacket, evalTree, actionOf}
+use Rattle.tree.specs.Action.{evalTree, actionOf}
 use Rattle.tree.specs.declared.Evaluated.the-variants as evaluated
 
 -- of an accepted file and a right packet, the answer is eval of Figure 1 on the tree that the file holds (action-eval)

@@ -12,6 +12,7 @@ use action::Action;
 use action::Law;
 use action::Operator;
 use flow::Packet;
+use flow::WRONG_PACKET;
 use flow::meets;
 use flow::read_match;
 use flow::read_packet;
@@ -28,9 +29,6 @@ use policy::Refusal;
 use policy::read;
 use row::ROW_WORDS;
 use row::row_action;
-
-// The number of the refusal of a packet.
-pub const WRONG_PACKET: u32 = 11;
 
 pub enum Evaluated {
     Gives(Action),
