@@ -1,26 +1,23 @@
 -- The steps of the walk that builds tables: a part that does not fit means that the whole does not, since a join holds both its parts. Assumes nothing.
-use Prim.Native.Nat.{ℕ, zero, suc, _+_, _*_, _-_, _≤_, _<_}
+use Prim.Native.Nat.{ℕ, zero, suc, _+_, _-_, _≤_, _<_}
 use native.Mathlib.Omega.{arith}
 use mathlib.Core.Path.{_≡_, refl, sym, ap, ap₂, subst, _∙_}
-use mathlib.Core.List.{List, [], _∷_, _++_}
+use mathlib.Core.List.{List, [], _∷_}
 use lib.ListN.{length, getD, drop, drop-of-length-le}
 use lib.Seq.{drop-cons}
 use Rattle.words.proofs.Laid.{length-laid}
-use Rattle.theory.specs.Rows.{Row}
-use Rattle.theory.specs.Tree.{Tree, Forest, node, bare, _▸_, table, compile, compiles}
+use Rattle.theory.specs.Tree.{Forest, node, bare, _▸_, table}
 use Rattle.theory.specs.Nodes.{Listed, takeTrees, dropTrees, plant}
 use Rattle.flow.specs.Match.{isEmpty, common}
-use Rattle.flow.specs.declared.Match.{Match}
 use Rattle.action.specs.Operator as operator
-use Rattle.action.specs.declared.Action.{Action}
 use Rattle.policy.specs.File.{PolicyNode, PolicyTree}
 use Rattle.nodes.specs.Nodes.{nodeAt, cellsAt, atomsAt}
-use Rattle.nodes.specs.Walk.{listOf, nodeIndex, layoutOf, nextSpot, Reached}
+use Rattle.nodes.specs.Walk.{listOf, nodeIndex, nextSpot, Reached}
 use Rattle.nodes.specs.declared.NodeWords.{NodeWords}
 use Rattle.nodes.specs.declared.Spot.{Spot}
 use Rattle.nodes.proofs.Places.{nodeHere, Here, here, listed-many, nothing}
-use Rattle.compile.specs.Lays.{part, madeOf, Lays}
-use Rattle.compile.specs.Tables.{rowsIn, wordsOf, joinRows, commonRowsWords, joinWords, ownWords}
+use Rattle.compile.specs.Lays.{part, Lays}
+use Rattle.compile.specs.Tables.{rowsIn, wordsOf, joinWords, ownWords}
 use Rattle.compile.specs.Build.{grown, compileTree, compileTrees, firstRows, ownAt, treeWords, childrenWords, After, Builds, NodeBuilt, TreeBuilt, ChildrenBuilt, Within, Joined, JoinBuilt}
 use Rattle.compile.specs.declared.build.Built.{Built}
 use Rattle.compile.specs.declared.build.Built.the-variants as built

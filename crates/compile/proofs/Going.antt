@@ -8,15 +8,13 @@
 --   lays-none, lays-same, lays-case      where nothing is to be laid; equal words, and equal answers
 use Prim.Native.Nat.{ℕ, _+_, _≤_, _<_}
 use native.Mathlib.Omega.{arith}
-use mathlib.Core.Path.{_≡_, refl, sym, ap, ap₂, subst, _∙_}
-use mathlib.Core.Bool.{cond}
+use mathlib.Core.Path.{_≡_, refl, sym, ap, subst, _∙_}
 use mathlib.Core.List.{List, [], _++_}
 use lib.Dec.{leb}
 use lib.ListN.{length, length-append}
 use borrow.Author.Tests.{leb-true, leb-false, le-leb, lt-leb}
 use Rattle.logic.proofs.Tests.{by-test}
 use Rattle.words.specs.Words.{laid}
-use Rattle.words.proofs.Laid.{length-laid}
 use Rattle.compile.specs.declared.rows.Made.{Made}
 use Rattle.compile.specs.declared.rows.Made.the-variants.{Words, Full}
 use Rattle.compile.specs.Lays.{madeOf, Lays}

@@ -9,8 +9,8 @@
 --   joins                        two tables that were laid one behind the other, replaced by their join
 use Prim.Native.Nat.{ℕ, _+_, _-_, _≤_, _<_}
 use native.Mathlib.Omega.{arith}
-use mathlib.Core.Path.{_≡_, refl, sym, ap, ap₂, subst, _∙_}
-use mathlib.Core.List.{List, [], _∷_, _++_}
+use mathlib.Core.Path.{_≡_, sym, ap, ap₂, _∙_}
+use mathlib.Core.List.{List, [], _++_}
 use lib.ListN.{length, take, drop, length-append, length-drop}
 use lib.Seq.{length-take-le, take-add, drop-drop}
 use Rattle.words.specs.Words.{laid, copied}
@@ -28,7 +28,7 @@ use Rattle.compile.specs.declared.rows.Made.the-variants.{Words, Full}
 use Rattle.compile.specs.Lays.{part, madeOf, Lays}
 use Rattle.compile.specs.Tables.{rowsIn, wordsOf, joinRows, commonRowsWords, joinWords}
 use Rattle.compile.proofs.Laid.{laid-part, laid-over, laid-then, laid-first, laid-second, laid-same}
-use Rattle.compile.proofs.Going.{Fitted, made-words, made-full, lays-full, lays-words, lays-same, lays-case}
+use Rattle.compile.proofs.Going.{Fitted, made-words, made-full, lays-full, lays-words, lays-same}
 use Rattle.compile.proofs.Common.{some-words, join-parts}
 
 -- where a lay ends

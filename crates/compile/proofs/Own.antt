@@ -11,11 +11,9 @@ use lib.ListN.{length-drop}
 use Rattle.words.specs.Words.{laid}
 use Rattle.words.proofs.Laid.{length-laid}
 use Rattle.words.proofs.Records.{rows-at, rows-end}
-use Rattle.theory.specs.Rows.{Row, kept}
-use Rattle.theory.specs.Tree.{table}
-use Rattle.flow.specs.Match.{isEmpty, common, matchOf}
+use Rattle.theory.specs.Rows.{kept}
+use Rattle.flow.specs.Match.{isEmpty, matchOf}
 use Rattle.flow.specs.declared.Match.{Match}
-use Rattle.action.specs.Operator as operator
 use Rattle.action.specs.declared.Action.{Action}
 use Rattle.row.specs.Row.{rowLength, rowOf, rowAction, rowWords}
 use Rattle.row.proofs.Rows.{row-long}
@@ -24,8 +22,8 @@ use Rattle.compile.specs.Tables.{rowsIn, wordsOf, ownRows, commonWithWor
 use Rattle.compile.specs.declared.rows.Made.{Made}
 use Rattle.compile.specs.declared.rows.Made.the-variants.{Words, Full}
 use Rattle.compile.proofs.Common.{some-words, common-rows-next, common-rows-end, join-parts}
-use Rattle.compile.proofs.Going.{Fitted, made-words, lays-words, lays-same, lays-none, lays-case}
-use Rattle.compile.proofs.Grow.{lays-ends, too-long, join-flat, join-length, join-none, laid-back}
+use Rattle.compile.proofs.Going.{Fitted, made-words, lays-words, lays-same, lays-none}
+use Rattle.compile.proofs.Grow.{too-long, join-flat, join-length, join-none, laid-back}
 use Rattle.compile.proofs.Laid.{laid-then, laid-over, laid-same}
 
 -- two parts laid one behind the other

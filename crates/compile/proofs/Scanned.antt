@@ -1,23 +1,22 @@
 -- What a success tells: the rows that stand in the table are right, and their scan is the tree's action. Assumes nothing.
-use Prim.Native.Nat.{ℕ, zero, suc, _+_, _*_, _-_, _/_, _≤_, _<_}
+use Prim.Native.Nat.{ℕ, suc, _+_, _*_, _-_, _≤_, _<_}
 use native.Mathlib.Omega.{arith}
 use mathlib.Core.Path.{_≡_, refl, sym, ap, ap₂, subst, _∙_}
-use mathlib.Core.Bool.{Bool, true, false, cond, _&&_}
+use mathlib.Core.Bool.{Bool, true, false, cond}
 use mathlib.Core.List.{List, [], _∷_, _++_, map}
-use mathlib.Core.Logic.{_↔_}
 use lib.Dec.{ltb}
-use lib.ListN.{length, getD, take, drop, length-append}
+use lib.ListN.{length, getD, drop}
 use lib.Seq.{take-at}
 use borrow.Author.Tests.{lt-ltb, le-ltb, ltb-true, ltb-false}
 use Rattle.logic.proofs.Tests.{by-test, and-left, and-right}
 use Rattle.words.proofs.Records.{length-records}
 use Rattle.theory.specs.Rows.{Row, EveryRow, scan}
-use Rattle.theory.specs.Tree.{Tree, Forest, node, bare, _▸_, Node, EveryAtom, EveryAtoms}
+use Rattle.theory.specs.Tree.{Forest, node, bare, _▸_, EveryAtom, EveryAtoms}
 use Rattle.theory.specs.Nodes.{Listed, listTree, listTrees}
 use Rattle.theory.specs.Theorems.{Laws}
 use Rattle.theory.proofs.Compile.{scan-compile}
 use Rattle.theory.proofs.Every.{compile-every}
-use Rattle.flow.specs.Packet.{packetOf, rightPacketWords}
+use Rattle.flow.specs.Packet.{packetOf}
 use Rattle.flow.specs.Match.{isEmpty, common, meets, rightMatch}
 use Rattle.flow.specs.declared.Match.{Match}
 use Rattle.flow.specs.declared.Packet.{Packet}
@@ -28,14 +27,13 @@ use Rattle.action.specs.declared.Action.{Action}
 use Rattle.action.specs.declared.Action.the-variants.{DontCare}
 use Rattle.action.proofs.Joined.{identity}
 use Rattle.row.specs.Row.{rowLength, rowOf, rightRowMatch}
-use Rattle.table.specs.Table.{rowCount, mostRows, checkOf}
+use Rattle.table.specs.Table.{rowCount, mostRows}
 use Rattle.table.specs.Table as table
 use Rattle.table.specs.Scan.{scanOf, scanNumber, scanAction, found}
 use Rattle.table.specs.Theorems.{RightRow, RightTable}
-use Rattle.table.specs.declared.Checked.the-variants as checked
 use Rattle.table.proofs.Tables.{check-exactly, table-words, rows-read}
 use Rattle.table.proofs.Scans.{scan-found}
-use Rattle.tree.specs.Action.{actionOf, evalTree}
+use Rattle.tree.specs.Action.{evalTree}
 use Rattle.tree.specs.declared.Evaluated.the-variants.{Gives}
 use Rattle.tree.proofs.Eval.{action-eval}
 use Rattle.policy.specs.Numbers.{atomLength}
@@ -48,8 +46,7 @@ use Rattle.policy.specs.declared.Reading.{Reading}
 use Rattle.policy.specs.declared.Reading.the-variants as reading
 use Rattle.policy.proofs.Accepted.{accepted-exactly, accepted-tree, accepted-atoms}
 use Rattle.compile.specs.Tables.{wordsOf}
-use Rattle.compile.specs.Build.{compileTree}
-use Rattle.compile.specs.Compile.{noRoom, noScratch, wrongRate, room, compiledRows, fine, zeros, acceptedAnswer, acceptedTable, afterReading, answerOf, tableAfter, numbered}
+use Rattle.compile.specs.Compile.{noRoom, noScratch, wrongRate, room, compiledRows, fine, zeros, acceptedAnswer, afterReading, answerOf, tableAfter, numbered}
 use Rattle.compile.specs.Theorems.{tableRows, RoomExactly, Answered, AnswersRows, TableRight, TableScans}
 use Rattle.compile.specs.declared.Compiled.{Compiled}
 use Rattle.compile.specs.declared.Compiled.the-variants.{Rows, Refused}

@@ -1,14 +1,14 @@
 -- The answer of the compile, from what was built: the rows that were laid are the file's, and the buffers are cleared behind them. Assumes nothing.
-use Prim.Native.Nat.{ℕ, zero, suc, _+_, _*_, _-_, _/_, _≤_, _<_, min}
+use Prim.Native.Nat.{ℕ, _+_, _*_, _-_, _/_, _≤_, _<_}
 use native.Mathlib.Omega.{arith}
 use mathlib.Core.Path.{_≡_, refl, sym, ap, ap₂, subst, _∙_}
 use mathlib.Core.Bool.{Bool, true, false, cond, _&&_}
 use mathlib.Core.List.{List, [], _∷_, _++_, map, append-assoc}
 use lib.Dec.{ltb}
-use lib.ListN.{length, take, drop, replicate, length-append, length-drop}
-use lib.Seq.{take-at, drop-at, length-take-le, take-append-le}
+use lib.ListN.{length, take, drop, length-append, length-drop}
+use lib.Seq.{take-at, drop-at, length-take-le}
 use borrow.Author.Tests.{lt-ltb, le-ltb}
-use Rattle.words.specs.Records.{rowsOf, flat}
+use Rattle.words.specs.Records.{rowsOf}
 use Rattle.words.specs.Words.{laid, cleared}
 use Rattle.words.proofs.Laid.{laid-is}
 use Rattle.words.proofs.Records.{rows-at, rows-end, rows-more, rows-none, length-flat}
@@ -16,7 +16,6 @@ use Rattle.theory.specs.Rows.{Row}
 use Rattle.theory.specs.Tree.{bare, _▸_}
 use Rattle.theory.specs.Nodes.{plant}
 use Rattle.flow.specs.declared.Match.{Match}
-use Rattle.action.specs.Action.{inRange, rightAction, kindOf, rateOf}
 use Rattle.action.specs.declared.Action.{Action}
 use Rattle.action.proofs.Words.{right-words}
 use Rattle.row.specs.Row.{rowLength, rowOf, rowWords, rightRowAction}
@@ -24,19 +23,19 @@ use Rattle.row.proofs.Rows.{row-back, row-long}
 use Rattle.policy.specs.Numbers.{mostOperators}
 use Rattle.policy.specs.Read.{plain, readOf}
 use Rattle.policy.specs.Read as read
-use Rattle.policy.specs.File.{firstTree, treeOf}
+use Rattle.policy.specs.File.{treeOf}
 use Rattle.policy.specs.declared.Layout.{Layout}
 use Rattle.policy.specs.declared.Reading.{Reading}
 use Rattle.policy.specs.declared.Reading.the-variants as reading
 use Rattle.policy.specs.declared.Refusal.{Refusal}
 use Rattle.policy.proofs.Accepted.{accepted-exactly, accepted-tree}
-use Rattle.nodes.specs.Walk.{layoutOf, listOf, nodeIndex, Reached}
+use Rattle.nodes.specs.Walk.{listOf, nodeIndex, Reached}
 use Rattle.nodes.specs.declared.Spot.{Spot}
 use Rattle.nodes.proofs.Places.{reached-start}
 use Rattle.compile.specs.Lays.{Lays}
 use Rattle.compile.specs.Tables.{wordsOf}
-use Rattle.compile.specs.Build.{grown, compileTree, firstRows, treeWords, TreeBuilt, Within}
-use Rattle.compile.specs.Compile.{noRoom, noScratch, wrongRate, room, compiledRows, fine, allRight, fineWords, zeros, acceptedAnswer, acceptedTable, acceptedScratch, answerOf, tableAfter, scratchAfter, Compiles, AcceptedCompiles, Settled, Settles}
+use Rattle.compile.specs.Build.{grown, firstRows, treeWords, TreeBuilt, Within}
+use Rattle.compile.specs.Compile.{noRoom, noScratch, wrongRate, room, compiledRows, fine, allRight, fineWords, zeros, answerOf, tableAfter, scratchAfter, Compiles, AcceptedCompiles, Settled, Settles}
 use Rattle.compile.specs.declared.Compiled.{Compiled}
 use Rattle.compile.specs.declared.Compiled.the-variants.{Rows, Refused}
 use Rattle.compile.specs.declared.build.Built.{Built}
@@ -46,7 +45,6 @@ use Rattle.compile.specs.declared.rows.Made.the-variants.{Words, Full}
 use Rattle.compile.proofs.Common.{some-words}
 use Rattle.compile.proofs.Going.{Fitted, made-words, made-full}
 use Rattle.compile.proofs.Grow.{lays-ends}
-use Rattle.logic.proofs.Tests.{by-test}
 
 -- the loop over the rates: a turn, a wrong one, the end
 module _ (ws : List ℕ) (i : ℕ) {W : Bool} (e : fineWords (drop i ws) ≡ W) where

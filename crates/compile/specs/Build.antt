@@ -9,7 +9,7 @@
 use Prim.Native.Nat.{ℕ, _-_, _≤_}
 use mathlib.Core.Path.{_≡_}
 use mathlib.Core.List.{List, []}
-use lib.ListN.{length, drop}
+use lib.ListN.{drop}
 use Rattle.theory.specs.Rows.{Row}
 use Rattle.theory.specs.Tree.{Forest, bare, _▸_, compile, compiles}
 use Rattle.theory.specs.Nodes.{takeTrees, dropTrees, plant}
@@ -25,7 +25,6 @@ use Rattle.compile.specs.Lays.{part, Lays}
 use Rattle.compile.specs.Tables.{wordsOf, joinWords, ownWords}
 use Rattle.compile.specs.declared.build.Built.{Built}
 use Rattle.compile.specs.declared.build.Built.the-variants as built
-use Rattle.compile.specs.declared.build.Part.{Part}
 use Rattle.compile.specs.declared.rows.Made.the-variants.{Words, Full}
 
 -- the trees that stand from a place on

@@ -1,8 +1,8 @@
 // Tables joined in their place, within the lent buffers. Both buffers are as long as there is room.
 ghost use mathlib.Core.Path.{_≡_};
 ghost use mathlib.Core.List.{_++_};
-ghost use Prim.Native.Nat.{_-_, _≤_, _%_};
-ghost use lib.ListN.{length, drop};
+ghost use Prim.Native.Nat.{_≤_, _%_};
+ghost use lib.ListN.{length};
 ghost use Rattle.row.specs.Row.{rowLength, rowOf};
 ghost use Rattle.compile.specs.Lays.{part, Lays};
 ghost use Rattle.compile.specs.Tables.{commonWithWords, joinWords, atomWords, ownWords};

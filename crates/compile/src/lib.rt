@@ -1,10 +1,8 @@
 // The compile: the rows of a policy's tree, joined within the lent buffers, and refused for room exactly when they must be.
 ghost use mathlib.Core.Path.{_≡_};
-ghost use Prim.Native.Nat.{_*_, _≤_};
-ghost use lib.ListN.{length, take};
+ghost use lib.ListN.{length};
 ghost use Rattle.policy.specs.Read.{readOf, plain};
 ghost use Rattle.policy.specs.declared.Reading.the-variants.{Accepted};
-ghost use Rattle.row.specs.Row.{rowLength};
 ghost use Rattle.compile.specs.Build.{Within};
 ghost use Rattle.compile.specs.Compile.{room, fineWords, Compiles, AcceptedCompiles, Settles};
 use action::Action;

@@ -1,6 +1,6 @@
 -- Laws of values that may be constrained, by the four cases of what is constrained. Assumes nothing.
 use mathlib.Core.Path.{_≡_, refl, sym, ap, _∙_}
-use mathlib.Core.Bool.{Bool, true, false, _&&_, _||_, and-true, and-comm}
+use mathlib.Core.Bool.{Bool, true, false, _||_, and-true, and-comm}
 use Prim.Native.Nat.{ℕ, _<_}
 use lib.Dec.{eqb}
 use borrow.Author.Tests.{eqb-true, eq-eqb}

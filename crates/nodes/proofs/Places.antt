@@ -2,9 +2,8 @@
 -- before have left. Assumes nothing.
 use Prim.Native.Nat.{ℕ, zero, suc, _+_, _*_, _-_, _/_, _%_, _≤_, _<_}
 use native.Mathlib.Omega.{arith}
-use native.Mathlib.Numerals.{add-one}
 use mathlib.Core.Path.{_≡_, refl, sym, ap, ap₂, _∙_}
-use mathlib.Core.List.{List, [], _∷_, _++_, map}
+use mathlib.Core.List.{List, [], _∷_, map}
 use lib.ListN.{getD, length, take, drop, length-drop}
 use lib.Seq.{getD-take, getD-drop, drop-drop, take-add, take-at, drop-at, length-take-le}
 use borrow.Author.Tests.{le-leb, lt-leb, le-ltb}
@@ -16,16 +15,16 @@ use Rattle.row.specs.Row.{rowLength, rowOf}
 use Rattle.flow.specs.declared.Match.{Match}
 use Rattle.action.specs.declared.Action.{Action}
 use Rattle.policy.specs.Numbers.{operatorLength, atomLength, nodeLength}
-use Rattle.policy.specs.Read.{innerOf, parentOf, siblingOf, ownOf, childrenOf, cellsOf, ownAtoms, nodesAt, endOf, operatorRecords, atomRecords, nodeRecords, readOf}
+use Rattle.policy.specs.Read.{innerOf, parentOf, siblingOf, ownOf, childrenOf, ownAtoms, nodesAt, endOf, operatorRecords, readOf}
 use Rattle.policy.specs.Read as read
-use Rattle.policy.specs.File.{PolicyNode, operatorAt, nodeOf, held, atomsOf, fileNodes}
+use Rattle.policy.specs.File.{PolicyNode, operatorAt, nodeOf, held, atomsOf}
 use Rattle.policy.specs.WellFormed.{RightNode, Otherwise, WellFormed}
 use Rattle.policy.specs.declared.Layout.{Layout}
 use Rattle.policy.specs.declared.Reading.the-variants.{Accepted}
 use Rattle.policy.proofs.Accepted.{accepted-exactly}
 use Rattle.logic.proofs.Tests.{by-le}
 use Rattle.nodes.specs.Nodes.{nodePlace, nodeAt, cellsAt, atomsAt}
-use Rattle.nodes.specs.Walk.{layoutOf, listOf, recordsOf, nodeIndex, atomsFrom, Reached, nextSpot}
+use Rattle.nodes.specs.Walk.{layoutOf, listOf, recordsOf, nodeIndex, Reached, nextSpot}
 use Rattle.nodes.specs.declared.NodeWords.{NodeWords}
 use Rattle.nodes.specs.declared.Spot.{Spot}
 

@@ -1,29 +1,26 @@
 -- A file is accepted exactly when it is well formed: every stage is passed exactly when its part of well-formedness holds. Assumes nothing.
-use Prim.Native.Nat.{ℕ, zero, suc, _+_, _*_, _-_, _≤_, _<_}
+use Prim.Native.Nat.{ℕ, _+_, _*_, _≤_, _<_}
 use native.Mathlib.Omega.{arith}
 use mathlib.Core.Path.{_≡_, refl, sym, ap, _∙_}
-use mathlib.Core.Bool.{Bool, true, false, cond, _&&_}
 use mathlib.Core.List.{List, [], _∷_, _++_, map, append-nil, append-assoc}
-use lib.Dec.{eqb, leb, ltb}
+use lib.Dec.{eqb, leb}
 use lib.ListN.{getD, length, take, drop, length-drop, length-map, take-append-drop, drop-of-length-le}
 use lib.Seq.{drop-drop}
 use borrow.Author.Tests.{leb-true, le-leb, eqb-true, eq-eqb}
-use Rattle.words.specs.Records.{records}
 use Rattle.words.proofs.Records.{length-records}
 use Rattle.theory.specs.Rows.{Row}
-use Rattle.theory.specs.Nodes.{Listed, plant}
+use Rattle.theory.specs.Nodes.{plant}
 use Rattle.theory.specs.Tree.{bare, _▸_}
 use Rattle.row.specs.Row.{rowOf}
 use Rattle.flow.specs.declared.Match.{Match}
 use Rattle.action.specs.declared.Action.{Action}
 use Rattle.policy.specs.Numbers.{operatorLength, atomLength, nodeLength, extraWords, wrongSum}
-use Rattle.policy.specs.Read.{unless, each, recordFault, sectionFault, childrenOf, ownOf, shape, shapeFault, ownAtoms, sumFault, lawsFault, atomsAt, nodesAt, endOf, operatorRecords, atomRecords, nodeRecords, stages, layout, answer, readOf}
+use Rattle.policy.specs.Read.{unless, recordFault, sectionFault, childrenOf, ownOf, shape, shapeFault, ownAtoms, sumFault, lawsFault, atomsAt, nodesAt, endOf, operatorRecords, atomRecords, nodeRecords, stages, layout, answer, readOf}
 use Rattle.policy.specs.File.{held, atomsOf, fileNodes, firstTree, treeOf, allAtoms}
-use Rattle.policy.specs.WellFormed.{Present, OneTree, Otherwise, WellFormed}
-use Rattle.policy.specs.Theorems.{AcceptedExactly, FileTree, AcceptedTree, AcceptedAtoms}
+use Rattle.policy.specs.WellFormed.{OneTree, Otherwise, WellFormed}
+use Rattle.policy.specs.Theorems.{AcceptedExactly, AcceptedTree, AcceptedAtoms}
 use Rattle.policy.specs.declared.Layout.{Layout}
-use Rattle.policy.specs.declared.Reading.{Reading}
-use Rattle.policy.specs.declared.Reading.the-variants.{Accepted, Refused}
+use Rattle.policy.specs.declared.Reading.the-variants.{Accepted}
 use Rattle.policy.specs.declared.Section.the-variants.{Operators, Atoms, Nodes}
 use Rattle.policy.specs.declared.Test.{Test}
 use Rattle.policy.specs.declared.Test.the-variants.{Passed, Failed}

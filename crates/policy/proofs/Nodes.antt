@@ -1,16 +1,15 @@
 -- One turn of each walk over the nodes, and of that over the operators. Assumes nothing.
-use Prim.Native.Nat.{ℕ, zero, suc, _+_, _*_, _-_, _≤_, _<_}
+use Prim.Native.Nat.{ℕ, zero, suc, _+_, _-_, _≤_, _<_}
 use native.Mathlib.Omega.{arith}
 use native.Mathlib.Numerals.{add-one}
-use mathlib.Core.Path.{_≡_, refl, sym, ap, _∙_}
-use mathlib.Core.Bool.{Bool, true, false, cond, _||_}
-use mathlib.Core.List.{List, [], _∷_}
-use lib.ListN.{getD, length, take, drop}
+use mathlib.Core.Path.{_≡_, sym, _∙_}
+use mathlib.Core.Bool.{Bool, true, false, _||_}
+use mathlib.Core.List.{List}
+use lib.ListN.{getD, take, drop}
 use Rattle.action.specs.Laws.{lawSearch}
 use Rattle.action.specs.declared.Lawful.{Lawful}
 use Rattle.words.specs.Records.{records}
-use Rattle.words.proofs.Records.{records-next, record-word, records-none}
-use Rattle.policy.specs.Numbers.{operatorLength, nodeLength}
+use Rattle.words.proofs.Records.{records-next, record-word}
 use Rattle.policy.specs.Read.{_else_, ownAtoms, names, named, broken, operatorFault, lawsFrom, cellsOf}
 use Rattle.policy.specs.declared.Refusal.{Refusal}
 use Rattle.policy.specs.declared.Test.{Test}

@@ -1,32 +1,30 @@
 -- A stage is passed exactly when what it tests holds: of every record, of every cell, of every operator that is named. Assumes nothing.
-use Prim.Native.Nat.{ℕ, zero, suc, _+_, _*_, _-_, _≤_, _<_}
+use Prim.Native.Nat.{ℕ, zero, suc, _+_, _*_, _≤_, _<_}
 use native.Mathlib.Omega.{arith}
-use mathlib.Core.Path.{_≡_, refl, sym, ap, _∙_}
-use mathlib.Core.Bool.{Bool, true, false, cond, _&&_, _||_, and-eq-true-iff}
-use mathlib.Core.List.{List, [], _∷_, map}
+use mathlib.Core.Path.{_≡_, refl}
+use mathlib.Core.Bool.{Bool, true, _&&_, and-eq-true-iff}
+use mathlib.Core.List.{List, [], _∷_}
 use mathlib.Core.Logic.{⊎-elim}
 use lib.Dec.{eqb, leb, ltb}
-use lib.ListN.{getD, length, take, drop, length-drop}
+use lib.ListN.{getD, length, drop, length-drop}
 use lib.Seq.{length-take-le}
 use borrow.Author.Tests.{eqb-true, eq-eqb, ltb-true, lt-ltb, leb-true, le-leb}
 use Rattle.words.specs.Records.{records}
-use Rattle.words.proofs.Records.{length-records}
 use Rattle.row.specs.Row.{rightRowMatch, rightRowAction}
 use Rattle.action.specs.Operator.{rightCell, RightCodes}
 use Rattle.action.specs.Laws.{lawSearch}
 use Rattle.action.specs.declared.Lawful.{Lawful}
 use Rattle.action.specs.declared.Lawful.the-variants.{Yes, Broken}
 use Rattle.action.proofs.Exact.{search-exact}
-use Rattle.policy.specs.Numbers.{operatorLength, mostAtoms, mostChildren, wrongMatch, wrongAction, wrongCell, wrongNode, short, wrongCount}
+use Rattle.policy.specs.Numbers.{operatorLength, mostAtoms, mostChildren, wrongMatch, wrongAction, wrongCell, wrongNode}
 use Rattle.policy.specs.Read.{unless, _else_, each, cellsFrom, cellsFault, atomFault, nodeFault, recordLength, least, most, countFault, recordFault, sectionFault, innerOf, parentOf, siblingOf, ownOf, childrenOf, names, named, broken, cellsOf, operatorFault, lawsFrom}
 use Rattle.policy.specs.File.{operatorAt}
 use Rattle.policy.specs.WellFormed.{Present, RightNode, KeepsLaws, LawsKept}
 use Rattle.policy.specs.declared.Section.{Section}
-use Rattle.policy.specs.declared.Section.the-variants.{Operators, Atoms, Nodes}
 use Rattle.policy.specs.declared.Test.{Test}
-use Rattle.policy.specs.declared.Test.the-variants.{Passed, Failed}
-use Rattle.policy.proofs.Records.{unless-true, else-both, Counted, Section-passed, section-passed}
-use Rattle.logic.proofs.Tests.{by-test, and-left, and-right, and-both, or-split}
+use Rattle.policy.specs.declared.Test.the-variants.{Passed}
+use Rattle.policy.proofs.Records.{unless-true, else-both, Section-passed}
+use Rattle.logic.proofs.Tests.{by-test, or-split}
 
 -- both of two tests pass
 both-else : (x y : Test) → x ≡ Passed → y ≡ Passed → _else_ x y ≡ Passed

@@ -1,7 +1,7 @@
 -- What a refusal says: every stage but the last refuses with a number below 10 and no law, and the last with what the law search found. Assumes nothing.
-use Prim.Native.Nat.{ℕ, zero, suc, _+_, _*_, _-_, _≤_, _<_}
+use Prim.Native.Nat.{ℕ, zero, suc, _+_, _*_, _≤_, _<_}
 use native.Mathlib.Omega.{arith}
-use mathlib.Core.Path.{_≡_, refl, sym, ap, _∙_}
+use mathlib.Core.Path.{_≡_, refl}
 use mathlib.Core.Bool.{Bool, true, false, cond, _&&_}
 use mathlib.Core.List.{List, [], _∷_, _++_, map}
 use mathlib.Core.Logic.{_⊎_, inl, inr, ⊎-elim}
@@ -18,11 +18,10 @@ use Rattle.action.proofs.Exact.{search-exact, search-shows}
 use Rattle.policy.specs.Numbers.{operatorLength, mostAtoms, mostChildren, deepest, short, wrongCount, wrongCell, wrongMatch, wrongAction, wrongNode, extraWords, noTree, wrongSum, lawBroken}
 use Rattle.policy.specs.Read.{plain, unless, _else_, each, recordLength, least, most, countFault, cellsFrom, cellsFault, atomFault, nodeFault, recordFault, sectionFault, innerOf, parentOf, siblingOf, ownOf, childrenOf, waitingNodes, oneLess, shape, shapeFault, ownAtoms, sumFault, named, broken, cellsOf, operatorFault, lawsFrom, lawsFault, atomsAt, nodesAt, endOf, operatorRecords, nodeRecords, stages, layout, answer, readOf}
 use Rattle.policy.specs.File.{operatorAt}
-use Rattle.policy.specs.WellFormed.{Otherwise, KeepsLaws, LawsKept}
-use Rattle.policy.specs.Theorems.{BrokenLaw, RefusedLaw, BrokenRefused, RefusedPlain}
+use Rattle.policy.specs.WellFormed.{Otherwise}
+use Rattle.policy.specs.Theorems.{RefusedLaw, BrokenRefused, RefusedPlain}
 use Rattle.policy.specs.declared.Layout.{Layout}
-use Rattle.policy.specs.declared.Reading.{Reading}
-use Rattle.policy.specs.declared.Reading.the-variants.{Accepted, Refused}
+use Rattle.policy.specs.declared.Reading.the-variants.{Refused}
 use Rattle.policy.specs.declared.Refusal.{Refusal}
 use Rattle.policy.specs.declared.Section.{Section}
 use Rattle.policy.specs.declared.Section.the-variants.{Operators, Atoms, Nodes}

@@ -1,10 +1,10 @@
 -- The stack that an array and a height are: how it is settled, and how a child enters it. Assumes nothing.
-use Prim.Native.Nat.{ℕ, zero, suc, _+_, _*_, _-_, _≤_, _<_, pred}
+use Prim.Native.Nat.{ℕ, zero, suc, _+_, _-_, _≤_, _<_, pred}
 use native.Mathlib.Omega.{arith}
 use native.Mathlib.Numerals.{add-one}
-use mathlib.Core.Path.{_≡_, refl, sym, ap, ap₂, _∙_}
-use mathlib.Core.List.{List, [], _∷_}
-use lib.ListN.{getD, length, take, drop, set, length-set}
+use mathlib.Core.Path.{_≡_, refl, ap, ap₂, _∙_}
+use mathlib.Core.List.{List, _∷_}
+use lib.ListN.{getD, length, set, length-set}
 use lib.Seq.{getD-set-same, getD-set-other}
 use Rattle.policy.specs.Read.{waitingNodes, oneLess}
 use Rattle.policy.specs.Steps.{stacked}

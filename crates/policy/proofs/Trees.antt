@@ -1,24 +1,24 @@
 -- The shape test is exact: it passes exactly where every node finds its children and the trees that were awaited stand there, each as deep
 -- as its place allows. Assumes nothing.
-use Prim.Native.Nat.{ℕ, zero, suc, _+_, _-_, _≤_, _<_, max}
+use Prim.Native.Nat.{ℕ, zero, suc, _-_, _≤_}
 use native.Mathlib.Omega.{arith}
 use mathlib.Core.Path.{_≡_, refl, sym, ap, _∙_}
 use mathlib.Core.Bool.{Bool, true, false, cond, _&&_}
 use mathlib.Core.List.{List, [], _∷_, _++_, map, append-assoc, append-nil}
 use lib.Dec.{eqb, leb}
 use lib.ListN.{length}
-use borrow.Author.Tests.{eqb-true, eq-eqb, leb-true, le-leb}
+use borrow.Author.Tests.{eqb-true, leb-true, le-leb}
 use Rattle.theory.specs.Tree.{Tree, Forest, node, bare, _▸_}
 use Rattle.theory.specs.Nodes.{Listed, takeTrees, dropTrees, countTrees, plant, listTree, listTrees, ChildrenFound}
 use Rattle.theory.proofs.Nodes.{_⧺_, list-plant, plants-before, plant-list}
 use Rattle.policy.specs.Numbers.{deepest, noTree}
-use Rattle.policy.specs.Read.{plain, unless, waitingNodes, oneLess, shape}
+use Rattle.policy.specs.Read.{plain, waitingNodes, oneLess, shape}
 use Rattle.policy.specs.WellFormed.{depth, depths, OneTree}
 use Rattle.policy.specs.declared.Refusal.{Refusal}
 use Rattle.policy.specs.declared.Test.{Test}
 use Rattle.policy.specs.declared.Test.the-variants.{Passed, Failed}
 use Rattle.policy.proofs.Records.{unless-true}
-use Rattle.logic.proofs.Tests.{and-left, and-right, and-both}
+use Rattle.logic.proofs.Tests.{and-left, and-right}
 
 -- a test that guards a refusal was passed
 guarded : (b : Bool) (v : Test) (x : Refusal) → cond b v (Failed x) ≡ Passed → (b ≡ true) × (v ≡ Passed)

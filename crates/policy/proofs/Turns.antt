@@ -1,20 +1,19 @@
 -- One turn of the shape test. Assumes nothing.
-use Prim.Native.Nat.{ℕ, zero, suc, _+_, _*_, _-_, _≤_, _<_}
+use Prim.Native.Nat.{ℕ, zero, suc, _+_, _-_, _≤_, _<_}
 use native.Mathlib.Omega.{arith}
 use native.Mathlib.Numerals.{add-one}
-use mathlib.Core.Path.{_≡_, refl, sym, ap, _∙_}
-use mathlib.Core.Bool.{Bool, true, false, cond, _&&_}
-use mathlib.Core.List.{List, [], _∷_, map}
-use lib.ListN.{getD, length, take, drop, set}
+use mathlib.Core.Path.{_≡_, sym, _∙_}
+use mathlib.Core.Bool.{cond, _&&_}
+use mathlib.Core.List.{List, _∷_, map}
+use lib.ListN.{getD, length, drop, set}
 use lib.Dec.{eqb, leb}
 use borrow.Author.Tests.{le-leb, lt-leb}
 use Rattle.words.specs.Records.{records}
-use Rattle.words.proofs.Records.{records-next, record-word, records-none}
-use Rattle.policy.specs.Numbers.{nodeLength, deepest, noTree}
+use Rattle.words.proofs.Records.{records-next, record-word}
 use Rattle.policy.specs.Read.{plain, unless, waitingNodes, oneLess, childrenOf, shape}
 use Rattle.policy.specs.Steps.{stacked}
 use Rattle.policy.specs.declared.Test.{Test}
-use Rattle.policy.specs.declared.Test.the-variants.{Passed, Failed}
+use Rattle.policy.specs.declared.Test.the-variants.{Failed}
 use Rattle.policy.proofs.Stack.{stacked-length, enter}
 
 module _ (f : List ℕ) (from left i : ℕ) (w : List ℕ) (h d : ℕ) (v : Test)

@@ -12,7 +12,7 @@
 --   readOf                 the answer
 --   numbered               the answer's number, place, law and actions
 use Prim.Native.Nat.{ℕ, zero, suc, _+_, _*_, pred}
-use mathlib.Core.Bool.{Bool, true, false, cond, _&&_, _||_}
+use mathlib.Core.Bool.{Bool, false, cond, _&&_, _||_}
 use mathlib.Core.List.{List, [], _∷_, map}
 use lib.Dec.{eqb, leb, ltb}
 use lib.ListN.{getD, length, drop}

@@ -2,7 +2,7 @@
 ghost use mathlib.Core.Path.{_≡_};
 ghost use Prim.Native.Nat.{_+_, _*_, _≤_};
 ghost use lib.ListN.{length};
-ghost use Rattle.policy.specs.Numbers.{operatorLength, atomLength, nodeLength, mostOperators, mostAtoms, mostNodes};
+ghost use Rattle.policy.specs.Numbers.{nodeLength, mostOperators, mostAtoms, mostNodes};
 ghost use Rattle.policy.specs.Read.{atomsAt, nodesAt, readOf};
 ghost use Rattle.policy.specs.Steps.{fromStage, withNodes, withAtoms};
 use action::Action;

@@ -1,6 +1,5 @@
 // One section of a policy file: its count, that all of it is there, and its records in order.
 ghost use mathlib.Core.Path.{_≡_};
-ghost use mathlib.Core.Bool.{cond};
 ghost use Prim.Native.Nat.{_+_, _*_, _≤_, _<_, _^_};
 ghost use lib.ListN.{length, drop};
 ghost use Rattle.words.specs.Records.{records};

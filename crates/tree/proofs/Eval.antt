@@ -1,6 +1,5 @@
 -- The whole walk gives eval of the file's tree, and the answer goes by what reading said. Assumes nothing.
-use Prim.Native.Nat.{ℕ, _+_, _*_, _≤_, _<_}
-use native.Mathlib.Omega.{arith}
+use Prim.Native.Nat.{ℕ, _+_, _≤_, _<_}
 use mathlib.Core.Path.{_≡_, refl, sym, ap, _∙_}
 use mathlib.Core.Bool.{Bool, true, false}
 use mathlib.Core.List.{List}
@@ -19,10 +18,9 @@ use Rattle.policy.specs.declared.Reading.{Reading}
 use Rattle.policy.specs.declared.Reading.the-variants.{Accepted, Refused}
 use Rattle.policy.specs.declared.Refusal.{Refusal}
 use Rattle.policy.proofs.Accepted.{accepted-exactly}
-use Rattle.nodes.specs.Walk.{layoutOf, listOf, nodeIndex, Reached}
-use Rattle.nodes.specs.declared.Spot.{Spot}
+use Rattle.nodes.specs.Walk.{listOf, nodeIndex, Reached}
 use Rattle.nodes.proofs.Places.{reached-start}
-use Rattle.tree.specs.Action.{evalTree, acceptedAction, actionOf, afterReading}
+use Rattle.tree.specs.Action.{evalTree, acceptedAction, actionOf}
 use Rattle.tree.specs.Steps.{TreeGave}
 use Rattle.tree.specs.Theorems.{ActionEval, ActionRefused, ActionPacket}
 use Rattle.tree.specs.declared.Evaluated.{Evaluated}

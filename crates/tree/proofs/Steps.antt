@@ -1,13 +1,11 @@
 -- The steps of the walk: a node and its children are a tree, a tree and the others are children. Assumes nothing.
-use Prim.Native.Nat.{ℕ, zero, suc, _+_, _*_, _-_, _%_, _≤_, _<_}
+use Prim.Native.Nat.{ℕ, suc, _-_, _<_}
 use native.Mathlib.Omega.{arith}
-use mathlib.Core.Path.{_≡_, refl, sym, ap, ap₂, subst, _∙_}
-use mathlib.Core.Bool.{true}
-use mathlib.Core.List.{List, []}
-use lib.ListN.{getD, length}
+use mathlib.Core.Path.{_≡_, refl, ap, ap₂, subst, _∙_}
+use mathlib.Core.List.{List}
+use lib.ListN.{getD}
 use Rattle.words.specs.Records.{rowsOf}
-use Rattle.theory.specs.Tree.{Tree, Forest, node, bare, _▸_, own, eval, evals}
-use Rattle.theory.specs.Nodes.{Listed}
+use Rattle.theory.specs.Tree.{node, bare, _▸_, own}
 use Rattle.theory.proofs.Walk.{Subtree, Children, children-none, children-past, children-more, subtree-step}
 use Rattle.row.specs.Row.{rowLength, rowOf}
 use Rattle.flow.specs.Match.{meets}
@@ -15,14 +13,11 @@ use Rattle.flow.specs.declared.Packet.{Packet}
 use Rattle.action.specs.Operator.{join}
 use Rattle.action.specs.declared.Action.{Action}
 use Rattle.action.specs.declared.Action.the-variants.{DontCare}
-use Rattle.policy.specs.Numbers.{atomLength}
-use Rattle.policy.specs.File.{PolicyNode, PolicyTree}
 use Rattle.nodes.specs.Nodes.{nodeAt, cellsAt, atomsAt}
 use Rattle.nodes.specs.Walk.{listOf, nodeIndex, Reached, nextSpot}
 use Rattle.nodes.specs.declared.NodeWords.{NodeWords}
 use Rattle.nodes.specs.declared.Spot.{Spot}
 use Rattle.nodes.proofs.Places.{nodeHere, nothing, Here, here, listed-many}
-use Rattle.tree.specs.Action.{evalTree}
 use Rattle.tree.specs.Steps.{ownAction, TreeGave, ChildrenGave}
 use Rattle.tree.specs.declared.Gave.{Gave}
 

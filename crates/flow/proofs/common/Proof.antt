@@ -2,7 +2,6 @@
 -- Assumes nothing.
 use borrow.Author.Needs.{needs}
 use Rattle.flow.specs.Match.{common}
-use mathlib.Core.Path.{sym}
 use Rattle.flow.proofs.common.Statement.{statement}
 use Rattle.flow.proofs.common.Tie as tie
 

@@ -1,7 +1,6 @@
 -- `nodes::node_at` meets its contract: the body is the definition, with the callees' results rewritten.
 -- Assumes nothing.
 use borrow.Author.Needs.{needs}
-use native.Mathlib.Omega.{arith}
 use Rattle.nodes.specs.Nodes.{nodeAt}
 use Rattle.nodes.proofs.node_at.Statement.{statement}
 use Rattle.nodes.proofs.node_at.Tie as tie

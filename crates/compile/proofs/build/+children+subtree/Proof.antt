@@ -3,7 +3,7 @@
 use Prim.Native.Nat.{ℕ, _<_}
 use borrow.Author.Needs.{needs}
 use Prim.Native.Nat.{_+_}
-use mathlib.Core.Path.{_≡_, ap, _∙_}
+use mathlib.Core.Path.{ap}
 use native.Mathlib.Omega.{arith}
 use Rattle.nodes.specs.declared.Spot.{Spot}
 use Rattle.nodes.proofs.Places.{here, nothing}
