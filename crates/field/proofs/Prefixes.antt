@@ -10,7 +10,8 @@ use lib.Arith.{digits-lt}
 use borrow.Author.Tests.{eqb-true, eq-eqb, leb-true, leb-false}
 use Rattle.field.specs.Prefix.{leading, inPrefix, rightPrefix, prefixesMeet, covers, longerAddress, longerLength}
 use Rattle.field.specs.Theorems.{InBoth, SharedAddress, MeetExactly, Contains, CoversExactly}
-use Rattle.logic.proofs.Tests.{and-left, and-right, and-both, and-under, same-test, Joins, Keeps}
+use Rattle.logic.specs.Tests.{Joins, Keeps}
+use Rattle.logic.proofs.Tests.{and-left, and-right, and-both, and-under, same-test}
 
 -- numbers that agree in n bits agree in any fewer
 leading-fewer : (w m n a b : ℕ) → m ≤ n → leading w n a ≡ leading w n b → leading w m a ≡ leading w m b

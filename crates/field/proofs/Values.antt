@@ -6,7 +6,8 @@ use lib.Dec.{eqb}
 use borrow.Author.Tests.{eqb-true, eq-eqb}
 use Rattle.field.specs.Value.{meetsValue, valuesMeet, commonValue, rightValue}
 use Rattle.field.specs.Theorems.{ValueBoth}
-use Rattle.logic.proofs.Tests.{and-under, Joins, Keeps}
+use Rattle.logic.specs.Tests.{Joins, Keeps}
+use Rattle.logic.proofs.Tests.{and-under}
 
 -- A NUMBER MEETS BOTH VALUES exactly when they meet and it meets both together
 pub value-both : ValueBoth

@@ -8,7 +8,7 @@ use lib.Dec.{eqb, ltb}
 use borrow.Author.Tests.{ltb-true, lt-ltb}
 use Rattle.field.specs.Value.{meetsValue, valuesMeet, commonValue, rightValue}
 use Rattle.field.proofs.Values.{value-joins, common-value-right}
-use Rattle.logic.proofs.Tests.{Joins, Keeps}
+use Rattle.logic.specs.Tests.{Joins, Keeps}
 
 -- the flag of value 2 ^ i is set
 abbrev pub bit : ℕ → ℕ → Bool

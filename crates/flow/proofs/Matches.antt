@@ -15,7 +15,8 @@ use Rattle.flow.specs.Theorems.{MeetsCommon, MeetsEmpty, SharedPacket, O
 use Rattle.flow.specs.declared.Match.{Match}
 use Rattle.flow.specs.declared.Packet.{Packet}
 use Rattle.flow.proofs.Flags.{flag-or, unset-joins, flagged-joins, flagged-right, flags-right}
-use Rattle.logic.proofs.Tests.{and-left, and-right, and-both, or-split, Joins, joins-and, Keeps, keeps-and}
+use Rattle.logic.specs.Tests.{Joins, Keeps}
+use Rattle.logic.proofs.Tests.{and-left, and-right, and-both, or-split, joins-and, keeps-and}
 
 -- a packet meets both matches exactly where they overlap and it meets both together
 meets-both : (a b : Match) (p : Packet) → Joins (meets a p) (meets b p) (overlap a b) (meets (both a b) p)

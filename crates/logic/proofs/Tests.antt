@@ -4,14 +4,14 @@
 --   by-le m n f g      goes by m ≤ n or n < m
 --   and-left, and-right, and-both, or-split      a conjunction taken apart and put together, a disjunction taken apart
 --   same-test          tests that imply each other are equal
---   Joins a b c j      a and b together are c and then j, as where a packet meets two matches; joins-and goes part by part
---   Keeps a b c        where a and b hold, so does c; keeps-and goes part by part
+--   joins-and, keeps-and      Joins and Keeps go part by part
 use mathlib.Core.Path.{_≡_, refl, sym, ap, ap₂, _∙_}
 use mathlib.Core.Bool.{Bool, true, false, _&&_, _||_, false≢true}
 use mathlib.Core.Logic.{_⊎_, inl, inr}
 use Prim.Native.Nat.{ℕ, _≤_, _<_}
 use lib.Dec.{leb}
 use borrow.Author.Tests.{leb-true, leb-false}
+use Rattle.logic.specs.Tests.{Joins, Keeps}
 
 -- a test, with the equation that each outcome has
 pub by-test {ℓ} : {X : Type ℓ} (b : Bool) → (b ≡ true → X) → (b ≡ false → X) → X
@@ -57,19 +57,13 @@ same-test true b h k = sym (h refl)
 same-test false true h k = k refl
 same-test false false h k = refl
 
--- a and b together are the test c and then j
-pub record Joins (a b c j : Bool) : Type 0 where
-  pub eq : (a && b) ≡ (c && j)
-
+-- two parts that join, joined
 pub joins-and : {a b c j a′ b′ c′ j′ : Bool} → Joins a b c j → Joins a′ b′ c′ j′ → Joins (a && a′) (b && b′) (c && c′) (j && j′)
 joins-and {a} {b} {c} {j} {a′} {b′} {c′} {j′} p q = record {
   eq = and-pairs a a′ b b′ ∙ ap₂ (λ (x y : Bool). x && y) (p .eq) (q .eq) ∙ and-pairs c j c′ j′;
 }
 
--- where a and b hold, so does c
-pub record Keeps (a b c : Bool) : Type 0 where
-  pub gives : a ≡ true → b ≡ true → c ≡ true
-
+-- two parts that are kept, together
 pub keeps-and : {a b c a′ b′ c′ : Bool} → Keeps a b c → Keeps a′ b′ c′ → Keeps (a && a′) (b && b′) (c && c′)
 keeps-and {a} {b} {c} {a′} {b′} {c′} p q = record {
   gives = λ e f. and-both (p .gives (and-left a a′ e) (and-left b b′ f)) (q .gives (and-right a a′ e) (and-right b b′ f));
