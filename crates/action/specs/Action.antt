@@ -1,4 +1,4 @@
--- Actions: their kinds and rates, and which two words are an action. Assumes nothing.
+-- Actions: their kinds and rates, and which two words are an action. Assumes nothing. See docs/FORMAT.md, "Actions".
 --
 --   largestRate, gmb       the largest rate, and GMB's kind
 --   kindOf a, rateOf a     the two words of an action

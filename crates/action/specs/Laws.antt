@@ -1,4 +1,4 @@
--- The laws of an operator, and the finite search for a failure. Assumes nothing.
+-- The laws of an operator, and the finite search for a failure. Assumes nothing. See docs/FORMAT.md, "Laws".
 --
 --   Commutative o, Associative o     the laws, over all actions in range
 --   same a b                         equal actions

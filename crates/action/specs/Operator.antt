@@ -1,4 +1,5 @@
 -- Operators. An operator is its cells, a list of nine codes: the left action's kind slowest, the right's fastest. Assumes nothing.
+-- See docs/FORMAT.md, "Operators".
 --
 --   kinds, cellCount       the kinds that have cells, and the cells
 --   cell a b               the cell of two actions

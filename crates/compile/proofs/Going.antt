@@ -18,7 +18,7 @@ use Rattle.words.specs.Words.{laid}
 use Rattle.compile.specs.declared.rows.Made.{Made}
 use Rattle.compile.specs.declared.rows.Made.the-variants.{Words, Full}
 use Rattle.compile.specs.Lays.{madeOf, Lays}
-use Rattle.compile.proofs.Laid.{laid-none, laid-then}
+use Rattle.words.proofs.Laid.{laid-none, laid-then}
 
 -- words that fit into the room, and where they end
 pub record Fitted (at : ℕ) (F : List ℕ) (room e : ℕ) : Type 0 where

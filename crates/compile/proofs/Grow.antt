@@ -14,7 +14,7 @@ use mathlib.Core.List.{List, [], _++_}
 use lib.ListN.{length, take, drop, length-append, length-drop}
 use lib.Seq.{length-take-le, take-add, drop-drop}
 use Rattle.words.specs.Words.{laid, copied}
-use Rattle.words.proofs.Laid.{copied-fits, length-laid}
+use Rattle.words.proofs.Laid.{copied-fits, length-laid, laid-then}
 use Rattle.words.proofs.Records.{flat-append, rows-none, rows-flat}
 use Rattle.theory.specs.Rows.{Row, commonRows}
 use Rattle.flow.specs.Match.{isEmpty, common}
@@ -27,7 +27,7 @@ use Rattle.compile.specs.declared.rows.Made.{Made}
 use Rattle.compile.specs.declared.rows.Made.the-variants.{Words, Full}
 use Rattle.compile.specs.Lays.{part, madeOf, Lays}
 use Rattle.compile.specs.Tables.{rowsIn, wordsOf, joinRows, commonRowsWords, joinWords}
-use Rattle.compile.proofs.Laid.{laid-part, laid-over, laid-then, laid-first, laid-second, laid-same}
+use Rattle.compile.proofs.Laid.{laid-part, laid-over, laid-first, laid-second, laid-same}
 use Rattle.compile.proofs.Going.{Fitted, made-words, made-full, lays-full, lays-words, lays-same}
 use Rattle.compile.proofs.Common.{some-words, join-parts}
 

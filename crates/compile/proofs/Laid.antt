@@ -1,26 +1,12 @@
 -- Laws of words laid over a buffer, part after part: laid one behind the other, read back, and hidden by what is laid over them. Assumes nothing.
-use Prim.Native.Nat.{ℕ, suc, _+_, _-_, _≤_}
+use Prim.Native.Nat.{ℕ, _+_, _-_, _≤_}
 use native.Mathlib.Omega.{arith}
-use native.Mathlib.Nat.{add-zero}
 use mathlib.Core.Path.{_≡_, refl, sym, ap, _∙_}
-use mathlib.Core.List.{List, [], _∷_, _++_, append-assoc}
-use lib.ListN.{length, take, drop, set, length-append, length-drop, take-append-drop}
-use lib.Seq.{sets, length-take-le, take-at, drop-at, drop-drop}
+use mathlib.Core.List.{List, _++_, append-assoc}
+use lib.ListN.{length, take, drop, length-append, length-drop, take-append-drop}
+use lib.Seq.{length-take-le, take-at, drop-at, drop-drop}
 use Rattle.words.specs.Words.{laid}
-use Rattle.words.proofs.Laid.{laid-is, length-laid}
-
--- no words change nothing
-pub laid-none : (a : ℕ) (l : List ℕ) → laid a [] l ≡ l
-unfolding laid
-laid-none a l = refl
-
--- one part, then the next behind it
-pub laid-then : (a : ℕ) (F G l : List ℕ) → laid (a + length F) G (laid a F l) ≡ laid a (F ++ G) l
-unfolding laid
-laid-then a [] G l = ap (λ k. sets l k G) (add-zero a)
-laid-then a (v ∷ F) G l =
-    let q : a + suc (length F) ≡ suc a + length F = omega arith in
-    ap (λ k. sets (sets (set l a v) (suc a) F) k G) q ∙ laid-then (suc a) F G (set l a v)
+use Rattle.words.proofs.Laid.{laid-then, laid-is, length-laid}
 
 -- the words before it stay
 laid-before : (a : ℕ) (F l : List ℕ) → a + length F ≤ length l → take a (laid a F l) ≡ take a l

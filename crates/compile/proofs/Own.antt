@@ -5,11 +5,10 @@ use mathlib.Core.Path.{_≡_, refl, sym, ap, ap₂, subst, _∙_}
 use mathlib.Core.Bool.{Bool, true, false, cond}
 use mathlib.Core.List.{List, [], _∷_, _++_, append-assoc, append-nil}
 use lib.Dec.{leb}
-use lib.ListN.{length, take, drop, length-append}
+use lib.ListN.{length, take, drop, length-append, length-drop}
 use lib.Seq.{take-all, length-take-le}
-use lib.ListN.{length-drop}
 use Rattle.words.specs.Words.{laid}
-use Rattle.words.proofs.Laid.{length-laid}
+use Rattle.words.proofs.Laid.{length-laid, laid-then}
 use Rattle.words.proofs.Records.{rows-at, rows-end}
 use Rattle.theory.specs.Rows.{kept}
 use Rattle.flow.specs.Match.{isEmpty, matchOf}
@@ -24,7 +23,7 @@ use Rattle.compile.specs.declared.rows.Made.the-variants.{Words, Full}
 use Rattle.compile.proofs.Common.{some-words, common-rows-next, common-rows-end, join-parts}
 use Rattle.compile.proofs.Going.{Fitted, made-words, lays-words, lays-same, lays-none}
 use Rattle.compile.proofs.Grow.{too-long, join-flat, join-length, join-none, laid-back}
-use Rattle.compile.proofs.Laid.{laid-then, laid-over, laid-same}
+use Rattle.compile.proofs.Laid.{laid-over, laid-same}
 
 -- two parts laid one behind the other
 pub lays-then : {a b : ℕ} {C D old mid new : List ℕ} {r : Made} → Lays a C old mid (Words b) → Lays b D mid new r → Lays a (C ++ D) old new r

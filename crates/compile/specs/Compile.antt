@@ -1,4 +1,5 @@
 -- The compile's one answer for every file and every pair of buffers, and every word of both buffers after it.
+-- See docs/FORMAT.md, "Rows" and "Numbers a caller can get back".
 --
 --   room words           the rows that a buffer has room for
 --   compiledRows f l     the rows of an accepted file

@@ -1,4 +1,4 @@
--- Tables in words: the theory's joins at rows of 11 words. An operator is its list of cells.
+-- Tables in words: the theory's joins at rows of 11 words. An operator is its list of cells. See docs/FORMAT.md, "Rows".
 --
 --   rowsIn ws                  the rows that some words hold
 --   wordsOf N                  the words of rows, one row behind the other

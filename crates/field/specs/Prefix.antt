@@ -1,5 +1,5 @@
 -- Prefixes of addresses of w bits. The prefix p, n is the set of the addresses that agree with p in their first n bits: length 0 is the
--- paper's star, length w its constant. A length beyond w counts as w.
+-- paper's star, length w its constant. A length beyond w counts as w. See docs/FORMAT.md, "Matches".
 --
 --   leading w n x                the number that the first n of w bits of x make
 --   inPrefix w p n x             x lies in p, n

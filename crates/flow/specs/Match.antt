@@ -1,5 +1,6 @@
 -- A match: nine words, in this order: the six values of a packet, source prefix length, destination prefix length, flags. The flags say which of
 -- in-port, protocol, source port and destination port are constrained; the addresses are constrained by their prefixes. Flag 16 is the empty match.
+-- See docs/FORMAT.md, "Matches".
 --
 --   matchOf, matchWords   the match that some words are, and its words
 --   constrains f m        the flag f of m is set

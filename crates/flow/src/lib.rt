@@ -28,13 +28,13 @@ pub type MatchWords = [u32; MATCH_WORDS];
 pub const WRONG_PACKET: u32 = 11;
 
 // The flags: which values of a match are constrained, and the empty match.
-const IN_PORT: u32 = 1;
+pub const IN_PORT: u32 = 1;
 
-const PROTOCOL: u32 = 2;
+pub const PROTOCOL: u32 = 2;
 
-const SOURCE_PORT: u32 = 4;
+pub const SOURCE_PORT: u32 = 4;
 
-const DESTINATION_PORT: u32 = 8;
+pub const DESTINATION_PORT: u32 = 8;
 
 const EMPTY: u32 = 16;
 

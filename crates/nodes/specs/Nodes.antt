@@ -1,4 +1,4 @@
--- Where a node, its operators and its atoms stand in a policy file, for every list of words.
+-- Where a node, its operators and its atoms stand in a policy file, for every list of words. See docs/FORMAT.md, "The policy file".
 use Prim.Native.Nat.{ℕ, _+_, _-_, _*_, _/_}
 use mathlib.Core.Bool.{cond}
 use mathlib.Core.List.{List, [], _∷_}

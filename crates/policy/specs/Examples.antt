@@ -1,4 +1,4 @@
--- Worked examples: files, each with what reading it answers.
+-- Worked examples: files, each with what reading it answers. See docs/FORMAT.md, "A file, word by word".
 use Prim.Native.Nat.{ℕ}
 use mathlib.Core.Path.{_≡_}
 use mathlib.Core.List.{List, [], _∷_, _++_}

@@ -1,4 +1,4 @@
--- What an accepted file holds: its operators, its atoms and its nodes, and the tree that the nodes are.
+-- What an accepted file holds: its operators, its atoms and its nodes, and the tree that the nodes are. See docs/FORMAT.md, "The policy file".
 --
 --   PolicyNode, PolicyTree   a node with its operators' cells and its atoms; a tree of such nodes
 --   atomsOf                  the atoms of a file, each a match and an action

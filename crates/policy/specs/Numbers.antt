@@ -1,5 +1,6 @@
 -- The numbers of a policy file, each named once: how many words a record has, how many records and how deep, and the refusals.
-use Prim.Native.Nat.{ℕ}
+-- See docs/FORMAT.md, "The policy file" and "Numbers a caller can get back".
+use Prim.Native.Nat.{ℕ, _+_, _*_}
 use Rattle.action.specs.Operator.{cellCount}
 use Rattle.row.specs.Row.{rowLength}
 
@@ -30,6 +31,10 @@ mostNodes = 256
 -- at most so many children of a node
 abbrev pub mostChildren : ℕ
 mostChildren = 255
+
+-- the words of the longest file: three counts, and three full sections
+abbrev pub longestFile : ℕ
+longestFile = 3 + operatorLength * mostOperators + atomLength * mostAtoms + nodeLength * mostNodes
 
 -- the deepest that a node may stand; the root has depth 1
 abbrev pub deepest : ℕ

@@ -1,4 +1,5 @@
 -- What reading a policy file answers, for every list of words: the first refusal in the order of the stages, or the layout.
+-- See docs/FORMAT.md, "The policy file" and "Numbers a caller can get back".
 --
 --   unless, _else_         a refusal where a test is not met; the first of two
 --   each                   the first refusal of some records in order

@@ -1,4 +1,4 @@
--- When a policy file is well formed, in the words of the scope, without the order in which it is read.
+-- When a policy file is well formed, in the words of the scope, without the order in which it is read. See docs/FORMAT.md, "The policy file".
 --
 --   Present              a section: its count is there and within limits, and so are all its records
 --   depth, depths        how deep a tree is; the deepest of some trees

@@ -22,6 +22,12 @@ pub const ATOM_WORDS: usize = ROW_WORDS;
 
 pub const NODE_WORDS: usize = 5;
 
+// How many words the longest file has: three counts, and three full sections.
+pub const LONGEST_FILE: usize = 3
+    + OPERATOR_WORDS * (sections::MOST_OPERATORS as usize)
+    + ATOM_WORDS * (sections::MOST_ATOMS as usize)
+    + NODE_WORDS * (sections::MOST_NODES as usize);
+
 // Where the words of a node stand: operator indexes, own-atom count, child count.
 pub const INNER: usize = 0;
 

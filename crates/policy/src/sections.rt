@@ -29,11 +29,11 @@ use row::right_row_match;
 use words::word;
 
 // How many records a section may have.
-const MOST_OPERATORS: u32 = 32;
+pub const MOST_OPERATORS: u32 = 32;
 
-const MOST_ATOMS: u32 = 1024;
+pub const MOST_ATOMS: u32 = 1024;
 
-const MOST_NODES: u32 = 256;
+pub const MOST_NODES: u32 = 256;
 
 // How many children a node may have.
 const MOST_CHILDREN: u32 = 255;

@@ -8,7 +8,7 @@ use mathlib.Core.List.{List}
 use lib.ListN.{length, getD, take, drop}
 use borrow.Author.Tests.{le-leb}
 use Rattle.words.specs.Words.{laid}
-use Rattle.words.proofs.Laid.{length-laid}
+use Rattle.words.proofs.Laid.{length-laid, take-laid, drop-laid, getD-laid}
 use Rattle.theory.specs.Rows.{matchesAt}
 use Rattle.theory.specs.Number.{rowsOverlap, FirstPlace, levelCount, priorities, chain, Chained, Right, distinct, seek}
 use Rattle.theory.proofs.Seek.{seek-first}
@@ -26,10 +26,8 @@ use Rattle.table.specs.Theorems.{RightTable}
 use Rattle.table.proofs.Tables.{length-rows, right-row-at, check-exactly}
 use Rattle.table.proofs.Scans.{scan-found}
 use Rattle.priority.specs.Numbering.{over, levelsOf, prioritiesOf, chainOf, numberOf, prioritiesAfter, chainAfter}
-use Rattle.priority.specs.Theorems.{Ready, Shared, count, priority, link, AnswerCounts, EarlierHigher, PrioritiesUsed, FewestNumbers, ChainForces}
-use Rattle.priority.specs.Theorems.{SwitchScans, SwitchObeys, WordsStay, RefusedStays}
+use Rattle.priority.specs.Theorems.{Ready, Shared, count, priority, link, AnswerCounts, EarlierHigher, PrioritiesUsed, FewestNumbers, ChainForces, SwitchScans, SwitchObeys, WordsStay, RefusedStays}
 use Rattle.priority.specs.declared.Numbered.the-variants.{Priorities}
-use Rattle.priority.proofs.Stores.{take-laid, drop-laid, getD-laid}
 use Rattle.priority.proofs.Whole.{levels-many, levels-few, priorities-many}
 
 -- rows of a right table overlap exactly where some packet in range matches both

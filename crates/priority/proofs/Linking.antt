@@ -11,7 +11,8 @@ use Rattle.theory.proofs.Seek.{seek-first}
 use Rattle.theory.proofs.Levels.{level-highest}
 use Rattle.priority.specs.Numbering.{over}
 use Rattle.priority.proofs.Seeking.{seek-within}
-use Rattle.priority.proofs.Stores.{laid-last, laid-one}
+use Rattle.words.proofs.Laid.{laid-one}
+use Rattle.priority.proofs.Stores.{laid-last}
 
 -- the part of the chain that ends at row `at` of level k is still to be laid over the buffer l, which was l₀
 pub record Linking (ws ls l₀ l : List ℕ) (count k at : ℕ) : Type 0 where
@@ -70,5 +71,5 @@ linking-turn ws ls l₀ l count (suc k) at at′ l′ g h e d =
 -- the start of the chain is stored last
 pub linking-end : (ws ls l₀ l : List ℕ) (count k at : ℕ) (l′ : List ℕ) → Linking ws ls l₀ l count k at → k ≤ 0 → l′ ≡ set l 0 at
     → l′ ≡ laid 0 (chainUnder (over ws) ls count) l₀
-linking-end ws ls l₀ l count zero at l′ g h e = e ∙ sym (laid-one l at) ∙ g .ahead
+linking-end ws ls l₀ l count zero at l′ g h e = e ∙ sym (laid-one 0 at l) ∙ g .ahead
 linking-end ws ls l₀ l count (suc k) at l′ g h e = absurd (omega arith)

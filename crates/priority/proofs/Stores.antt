@@ -4,10 +4,10 @@ use native.Mathlib.Omega.{arith}
 use native.Mathlib.Numerals.{add-one}
 use mathlib.Core.Path.{_≡_, refl, sym, ap, _∙_}
 use mathlib.Core.List.{List, [], _∷_, _++_, map, append-nil}
-use lib.ListN.{length, getD, take, drop, set, length-append, length-map, length-set, drop-of-length-le, List·getD-append}
-use lib.Seq.{drop-cons, set-at, set-split, append-snoc, take-all, length-take-le, getD-at, take-at, drop-at}
+use lib.ListN.{length, getD, take, drop, set, length-append, length-map, length-set, drop-of-length-le}
+use lib.Seq.{drop-cons, set-at, set-split, append-snoc, take-all, length-take-le, getD-at, drop-at}
 use Rattle.words.specs.Words.{laid}
-use Rattle.words.proofs.Laid.{laid-is}
+use Rattle.words.proofs.Laid.{laid-front}
 
 -- a word stored behind the first i
 pub store-next : (F l : List ℕ) (i v : ℕ) → length F ≡ i → i < length l → set (F ++ drop i l) i v ≡ (F ++ (v ∷ [])) ++ drop (i + 1) l
@@ -45,22 +45,6 @@ module _ (f : ℕ → ℕ) (l₀ l : List ℕ) (i : ℕ) (inv : l ≡ map f (tak
       ∙ ap (λ x. map f l₀ ++ x) (drop-of-length-le l₀ {i = i} (omega arith))
       ∙ append-nil (map f l₀)
 
--- words laid at the start of a buffer that holds them: its first words, and the others, which stay
-module _ (F l : List ℕ) (n : ℕ) (e : length F ≡ n) (h : n ≤ length l) where
-  pub laid-front : laid 0 F l ≡ F ++ drop n l
-  laid-front =
-      let k : 0 + length F ≡ n = omega arith in
-      laid-is 0 F l (omega arith) ∙ ap (λ x. F ++ drop x l) k
-
-  pub take-laid : take n (laid 0 F l) ≡ F
-  take-laid = ap (take n) laid-front ∙ take-at F (drop n l) n e
-
-  pub drop-laid : drop n (laid 0 F l) ≡ drop n l
-  drop-laid = ap (drop n) laid-front ∙ drop-at F (drop n l) n e
-
-  pub getD-laid : (i : ℕ) → i < n → getD (laid 0 F l) i 0 ≡ getD F i 0
-  getD-laid i g = ap (λ x. getD x i 0) laid-front ∙ List·getD-append F (drop n l) 0 i (omega arith)
-
 -- the last of some words may be stored before the others
 pub laid-last : (F l : List ℕ) (n v : ℕ) → length F ≡ n → n < length l → laid 0 F (set l n v) ≡ laid 0 (F ++ (v ∷ [])) l
 laid-last F l n v e h =
@@ -71,8 +55,3 @@ laid-last F l n v e h =
     laid-front F (set l n v) n e (omega arith)
     ∙ rw d (sym (append-snoc F v (drop (suc n) l)))
     ∙ sym (laid-front (F ++ (v ∷ [])) l (suc n) k h)
-
--- one word laid is one word stored
-pub laid-one : (l : List ℕ) (v : ℕ) → laid 0 (v ∷ []) l ≡ set l 0 v
-unfolding laid
-laid-one l v = refl

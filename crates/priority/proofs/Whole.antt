@@ -19,7 +19,7 @@ use Rattle.table.proofs.Tables.{check-exactly}
 use Rattle.priority.specs.Numbering.{shortBuffer, over, levelsOf, prioritiesOf, chainOf, numberOf, prioritiesAfter, chainAfter, Answered}
 use Rattle.priority.specs.declared.Numbered.the-variants.{Priorities, Refused}
 use Rattle.priority.proofs.Back.{count-few}
-use Rattle.priority.proofs.Stores.{laid-front}
+use Rattle.words.proofs.Laid.{laid-front}
 
 -- a level for each row, and no more levels than rows
 pub levels-many : (ws : List ℕ) → length (levelsOf ws) ≡ rowCount ws

@@ -1,4 +1,4 @@
--- The numbering of a table: its answer, and every word of both buffers after it.
+-- The numbering of a table: its answer, and every word of both buffers after it. See docs/FORMAT.md, "Priorities" and "Numbers a caller can get back".
 --
 --   shortBuffer                   the number of a buffer that is too short
 --   over ws j i                   whether rows j and i overlap

@@ -1,4 +1,4 @@
--- An atom or a row: 11 words, a match and then an action's kind and rate.
+-- An atom or a row: 11 words, a match and then an action's kind and rate. See docs/FORMAT.md, "Actions".
 --
 --   rowLength                       how many words it has
 --   rowOf, rowWords                 the match and the action that some words are, and their words

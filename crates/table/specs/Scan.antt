@@ -1,4 +1,4 @@
--- The scan of a table for a packet, both as words.
+-- The scan of a table for a packet, both as words. See docs/FORMAT.md, "The scan".
 --
 --   found k N p             the scan of the rows N, where k rows were tried before them
 --   whereRight c s          the answer s, where the table is right

@@ -1,4 +1,4 @@
--- Tables: rows that stand one behind the other in a list of words, and which tables are right.
+-- Tables: rows that stand one behind the other in a list of words, and which tables are right. See docs/FORMAT.md, "Rows" and "Numbers a caller can get back".
 --
 --   mostRows          the most rows that a table may have
 --   wrongTable        the number of a table of a wrong length

@@ -1,4 +1,4 @@
--- Nodes in file order, parent first and then each child's whole subtree, and the trees that they are.
+-- Nodes in file order, parent first and then each child's whole subtree, and the trees that they are. See docs/FORMAT.md, "The policy file".
 --
 --   Listed X                  what a node holds, and its child count
 --   takeTrees, dropTrees      the first trees of a forest, and the others

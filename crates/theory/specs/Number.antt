@@ -1,4 +1,4 @@
--- The numbering over places: rows are known by place, and `over j i` tests whether rows j and i overlap.
+-- The numbering over places: rows are known by place, and `over j i` tests whether rows j and i overlap. See docs/FORMAT.md, "Priorities".
 --
 --   rowsOverlap       that test, for the rows of a table
 --   FirstPlace        a place is the first that passes a test

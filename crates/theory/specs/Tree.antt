@@ -1,4 +1,5 @@
 -- Policy trees over any matches, actions and operators: the tree's action, and the rows that it is compiled to.
+-- See docs/FORMAT.md, "The tree's action" and "Rows".
 --
 --   Tree X, Forest X     a tree whose nodes each hold an X, and trees in order: node, bare, _▸_
 --   Node O M A           what a node of a policy holds: its operators and its atoms

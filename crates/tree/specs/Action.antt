@@ -1,4 +1,4 @@
--- The tree's action, for every list of words and every packet: the file's refusals come first, then the packet's.
+-- The tree's action, for every list of words and every packet: the file's refusals come first, then the packet's. See docs/FORMAT.md, "The tree's action".
 use Prim.Native.Nat.{ℕ}
 use mathlib.Core.Bool.{cond}
 use mathlib.Core.List.{List}
