@@ -3,7 +3,7 @@ use Prim.Native.Nat.{ℕ}
 use mathlib.Core.Path.{_≡_, sym, _∙_, ap}
 use mathlib.Core.List.{List}
 use denote.Ref.{now}
-use Rattle.promises.specs.Answers.{NoSecond, answerAnd}
+use Rattle.promises.specs.Answers.{OneAnswer, answerAnd}
 use Rattle.field.proofs.in_prefix.Reads as in-prefix
 use Rattle.field.proofs.right_prefix.Reads as right-prefix
 use Rattle.field.proofs.prefixes_meet.Reads as prefixes-meet
@@ -54,164 +54,171 @@ use Rattle.table.proofs.check.Reads as check
 use Rattle.priority.proofs.number.Reads as number
 use Rattle.compile.proofs.compile.Reads as compile
 
+-- where the contract says that what is seen is d, of the arguments alone
+fixed :
+    {K : Type 0} {A R S : K → Type 0} {X : Type 0} {Post : (κ : K) → A κ → R κ → S κ → Type 0} {seen : (κ : K) → R κ → S κ → X} {d : (κ : K) → A κ → X}
+    → ((κ : K) (a : A κ) (r : R κ) (s : S κ) → Post κ a r s → seen κ r s ≡ d κ a)
+    → OneAnswer (λ (κ : K) (a : A κ). Unit {0}) Post seen
+fixed f = record { asks-nothing = λ κ a. tt; no-second = λ κ a r₁ r₂ s₁ s₂ p q. f κ a r₁ s₁ p ∙ sym (f κ a r₂ s₂ q) }
+
 -- equal answers with equal buffers
 all : {X : Type 0} {r r′ : X} {b b′ c c′ : List ℕ} → r ≡ r′ → b ≡ b′ → c ≡ c′ → answerAnd r b c ≡ answerAnd r′ b′ c′
 all p q e = rw (p, q, e)
 
 -- field
-in-prefix-one : NoSecond in-prefix.Post (λ κ r s. r)
-in-prefix-one κ a r₁ r₂ s₁ s₂ p q = p ∙ sym q
+in-prefix-one : OneAnswer in-prefix.Pre in-prefix.Post (λ κ r s. r)
+in-prefix-one = fixed (λ κ a r s p. p)
 
-right-prefix-one : NoSecond right-prefix.Post (λ κ r s. r)
-right-prefix-one κ a r₁ r₂ s₁ s₂ p q = p ∙ sym q
+right-prefix-one : OneAnswer right-prefix.Pre right-prefix.Post (λ κ r s. r)
+right-prefix-one = fixed (λ κ a r s p. p)
 
-prefixes-meet-one : NoSecond prefixes-meet.Post (λ κ r s. r)
-prefixes-meet-one κ a r₁ r₂ s₁ s₂ p q = p ∙ sym q
+prefixes-meet-one : OneAnswer prefixes-meet.Pre prefixes-meet.Post (λ κ r s. r)
+prefixes-meet-one = fixed (λ κ a r s p. p)
 
-prefix-covers-one : NoSecond prefix-covers.Post (λ κ r s. r)
-prefix-covers-one κ a r₁ r₂ s₁ s₂ p q = p ∙ sym q
+prefix-covers-one : OneAnswer prefix-covers.Pre prefix-covers.Post (λ κ r s. r)
+prefix-covers-one = fixed (λ κ a r s p. p)
 
-longer-address-one : NoSecond longer-address.Post (λ κ r s. r)
-longer-address-one κ a r₁ r₂ s₁ s₂ p q = p ∙ sym q
+longer-address-one : OneAnswer longer-address.Pre longer-address.Post (λ κ r s. r)
+longer-address-one = fixed (λ κ a r s p. p)
 
-longer-length-one : NoSecond longer-length.Post (λ κ r s. r)
-longer-length-one κ a r₁ r₂ s₁ s₂ p q = p ∙ sym q
+longer-length-one : OneAnswer longer-length.Pre longer-length.Post (λ κ r s. r)
+longer-length-one = fixed (λ κ a r s p. p)
 
-meets-value-one : NoSecond meets-value.Post (λ κ r s. r)
-meets-value-one κ a r₁ r₂ s₁ s₂ p q = p ∙ sym q
+meets-value-one : OneAnswer meets-value.Pre meets-value.Post (λ κ r s. r)
+meets-value-one = fixed (λ κ a r s p. p)
 
-values-meet-one : NoSecond values-meet.Post (λ κ r s. r)
-values-meet-one κ a r₁ r₂ s₁ s₂ p q = p ∙ sym q
+values-meet-one : OneAnswer values-meet.Pre values-meet.Post (λ κ r s. r)
+values-meet-one = fixed (λ κ a r s p. p)
 
-common-value-one : NoSecond common-value.Post (λ κ r s. r)
-common-value-one κ a r₁ r₂ s₁ s₂ p q = p ∙ sym q
+common-value-one : OneAnswer common-value.Pre common-value.Post (λ κ r s. r)
+common-value-one = fixed (λ κ a r s p. p)
 
-right-value-one : NoSecond right-value.Post (λ κ r s. r)
-right-value-one κ a r₁ r₂ s₁ s₂ p q = p ∙ sym q
+right-value-one : OneAnswer right-value.Pre right-value.Post (λ κ r s. r)
+right-value-one = fixed (λ κ a r s p. p)
 
 -- words
-word-one : NoSecond word.Post (λ κ r s. r)
-word-one κ a r₁ r₂ s₁ s₂ p q = p ∙ sym q
+word-one : OneAnswer word.Pre word.Post (λ κ r s. r)
+word-one = fixed (λ κ a r s p. p)
 
-copy-one : NoSecond copy.Post (λ κ r s. now (s .0))
-copy-one κ a r₁ r₂ s₁ s₂ p q = p ∙ sym q
+copy-one : OneAnswer copy.Pre copy.Post (λ κ r s. now (s .0))
+copy-one = fixed (λ κ a r s p. p)
 
-clear-from-one : NoSecond clear-from.Post (λ κ r s. now (s .0))
-clear-from-one κ a r₁ r₂ s₁ s₂ p q = p ∙ sym q
+clear-from-one : OneAnswer clear-from.Pre clear-from.Post (λ κ r s. now (s .0))
+clear-from-one = fixed (λ κ a r s p. p)
 
 -- flow
-meets-one : NoSecond meets.Post (λ κ r s. r)
-meets-one κ a r₁ r₂ s₁ s₂ p q = p ∙ sym q
+meets-one : OneAnswer meets.Pre meets.Post (λ κ r s. r)
+meets-one = fixed (λ κ a r s p. p)
 
-overlap-one : NoSecond overlap.Post (λ κ r s. r)
-overlap-one κ a r₁ r₂ s₁ s₂ p q = p ∙ sym q
+overlap-one : OneAnswer overlap.Pre overlap.Post (λ κ r s. r)
+overlap-one = fixed (λ κ a r s p. p)
 
-common-one : NoSecond common.Post (λ κ r s. r)
-common-one κ a r₁ r₂ s₁ s₂ p q = p ∙ sym q
+common-one : OneAnswer common.Pre common.Post (λ κ r s. r)
+common-one = fixed (λ κ a r s p. p)
 
-is-empty-one : NoSecond is-empty.Post (λ κ r s. r)
-is-empty-one κ a r₁ r₂ s₁ s₂ p q = p ∙ sym q
+is-empty-one : OneAnswer is-empty.Pre is-empty.Post (λ κ r s. r)
+is-empty-one = fixed (λ κ a r s p. p)
 
-right-match-one : NoSecond right-match.Post (λ κ r s. r)
-right-match-one κ a r₁ r₂ s₁ s₂ p q = p ∙ sym q
+right-match-one : OneAnswer right-match.Pre right-match.Post (λ κ r s. r)
+right-match-one = fixed (λ κ a r s p. p)
 
-right-packet-one : NoSecond right-packet.Post (λ κ r s. r)
-right-packet-one κ a r₁ r₂ s₁ s₂ p q = p ∙ sym q
+right-packet-one : OneAnswer right-packet.Pre right-packet.Post (λ κ r s. r)
+right-packet-one = fixed (λ κ a r s p. p)
 
-right-packet-words-one : NoSecond right-packet-words.Post (λ κ r s. r)
-right-packet-words-one κ a r₁ r₂ s₁ s₂ p q = p ∙ sym q
+right-packet-words-one : OneAnswer right-packet-words.Pre right-packet-words.Post (λ κ r s. r)
+right-packet-words-one = fixed (λ κ a r s p. p)
 
-read-packet-one : NoSecond read-packet.Post (λ κ r s. r)
-read-packet-one κ a r₁ r₂ s₁ s₂ p q = p ∙ sym q
+read-packet-one : OneAnswer read-packet.Pre read-packet.Post (λ κ r s. r)
+read-packet-one = fixed (λ κ a r s p. p)
 
-read-match-one : NoSecond read-match.Post (λ κ r s. r)
-read-match-one κ a r₁ r₂ s₁ s₂ p q = p ∙ sym q
+read-match-one : OneAnswer read-match.Pre read-match.Post (λ κ r s. r)
+read-match-one = fixed (λ κ a r s p. p)
 
-write-packet-one : NoSecond write-packet.Post (λ κ r s. now (s .0))
-write-packet-one κ a r₁ r₂ s₁ s₂ p q = p ∙ sym q
+write-packet-one : OneAnswer write-packet.Pre write-packet.Post (λ κ r s. now (s .0))
+write-packet-one = fixed (λ κ a r s p. p)
 
-write-match-one : NoSecond write-match.Post (λ κ r s. now (s .0))
-write-match-one κ a r₁ r₂ s₁ s₂ p q = p ∙ sym q
+write-match-one : OneAnswer write-match.Pre write-match.Post (λ κ r s. now (s .0))
+write-match-one = fixed (λ κ a r s p. p)
 
-words-of-packet-one : NoSecond words-of-packet.Post (λ κ r s. r)
-words-of-packet-one κ a r₁ r₂ s₁ s₂ p q = p ∙ sym q
+words-of-packet-one : OneAnswer words-of-packet.Pre words-of-packet.Post (λ κ r s. r)
+words-of-packet-one = fixed (λ κ a r s p. p)
 
-words-of-match-one : NoSecond words-of-match.Post (λ κ r s. r)
-words-of-match-one κ a r₁ r₂ s₁ s₂ p q = p ∙ sym q
+words-of-match-one : OneAnswer words-of-match.Pre words-of-match.Post (λ κ r s. r)
+words-of-match-one = fixed (λ κ a r s p. p)
 
 -- action
-operator-sibling-one : NoSecond operator-sibling.Post (λ κ r s. r)
-operator-sibling-one κ a r₁ r₂ s₁ s₂ p q = ap (λ c. record { cells = c }) (p ∙ sym q)
+operator-sibling-one : OneAnswer operator-sibling.Pre operator-sibling.Post (λ κ r s. r)
+operator-sibling-one = fixed (λ κ a r s p. ap (λ c. record { cells = c }) p)
 
-operator-parent-one : NoSecond operator-parent.Post (λ κ r s. r)
-operator-parent-one κ a r₁ r₂ s₁ s₂ p q = ap (λ c. record { cells = c }) (p ∙ sym q)
+operator-parent-one : OneAnswer operator-parent.Pre operator-parent.Post (λ κ r s. r)
+operator-parent-one = fixed (λ κ a r s p. ap (λ c. record { cells = c }) p)
 
-operator-join-one : NoSecond operator-join.Post (λ κ r s. r)
-operator-join-one κ a r₁ r₂ s₁ s₂ p q = p ∙ sym q
+operator-join-one : OneAnswer operator-join.Pre operator-join.Post (λ κ r s. r)
+operator-join-one = fixed (λ κ a r s p. p)
 
-operator-law-search-one : NoSecond operator-law-search.Post (λ κ r s. r)
-operator-law-search-one κ a r₁ r₂ s₁ s₂ p q = p ∙ sym q
+operator-law-search-one : OneAnswer operator-law-search.Pre operator-law-search.Post (λ κ r s. r)
+operator-law-search-one = fixed (λ κ a r s p. p)
 
-kind-one : NoSecond kind.Post (λ κ r s. r)
-kind-one κ a r₁ r₂ s₁ s₂ p q = p .0 ∙ sym (q .0)
+kind-one : OneAnswer kind.Pre kind.Post (λ κ r s. r)
+kind-one = fixed (λ κ a r s p. p .0)
 
-rate-one : NoSecond rate.Post (λ κ r s. r)
-rate-one κ a r₁ r₂ s₁ s₂ p q = p ∙ sym q
+rate-one : OneAnswer rate.Pre rate.Post (λ κ r s. r)
+rate-one = fixed (λ κ a r s p. p)
 
-action-of-one : NoSecond action-of.Post (λ κ r s. r)
-action-of-one κ a r₁ r₂ s₁ s₂ p q = p ∙ sym q
+action-of-one : OneAnswer action-of.Pre action-of.Post (λ κ r s. r)
+action-of-one = fixed (λ κ a r s p. p)
 
-right-action-one : NoSecond right-action.Post (λ κ r s. r)
-right-action-one κ a r₁ r₂ s₁ s₂ p q = p ∙ sym q
+right-action-one : OneAnswer right-action.Pre right-action.Post (λ κ r s. r)
+right-action-one = fixed (λ κ a r s p. p)
 
-right-cell-one : NoSecond right-cell.Post (λ κ r s. r)
-right-cell-one κ a r₁ r₂ s₁ s₂ p q = p ∙ sym q
+right-cell-one : OneAnswer right-cell.Pre right-cell.Post (λ κ r s. r)
+right-cell-one = fixed (λ κ a r s p. p)
 
 -- row
-row-action-one : NoSecond row-action.Post (λ κ r s. r)
-row-action-one κ a r₁ r₂ s₁ s₂ p q = p ∙ sym q
+row-action-one : OneAnswer row-action.Pre row-action.Post (λ κ r s. r)
+row-action-one = fixed (λ κ a r s p. p)
 
-words-of-row-one : NoSecond words-of-row.Post (λ κ r s. r)
-words-of-row-one κ a r₁ r₂ s₁ s₂ p q = p ∙ sym q
+words-of-row-one : OneAnswer words-of-row.Pre words-of-row.Post (λ κ r s. r)
+words-of-row-one = fixed (λ κ a r s p. p)
 
-right-row-one : NoSecond right-row.Post (λ κ r s. r)
-right-row-one κ a r₁ r₂ s₁ s₂ p q = p ∙ sym q
+right-row-one : OneAnswer right-row.Pre right-row.Post (λ κ r s. r)
+right-row-one = fixed (λ κ a r s p. p)
 
-right-row-match-one : NoSecond right-row-match.Post (λ κ r s. r)
-right-row-match-one κ a r₁ r₂ s₁ s₂ p q = p ∙ sym q
+right-row-match-one : OneAnswer right-row-match.Pre right-row-match.Post (λ κ r s. r)
+right-row-match-one = fixed (λ κ a r s p. p)
 
-right-row-action-one : NoSecond right-row-action.Post (λ κ r s. r)
-right-row-action-one κ a r₁ r₂ s₁ s₂ p q = p ∙ sym q
+right-row-action-one : OneAnswer right-row-action.Pre right-row-action.Post (λ κ r s. r)
+right-row-action-one = fixed (λ κ a r s p. p)
 
 -- policy
-read-one : NoSecond read.Post (λ κ r s. r)
-read-one κ a r₁ r₂ s₁ s₂ p q = p ∙ sym q
+read-one : OneAnswer read.Pre read.Post (λ κ r s. r)
+read-one = fixed (λ κ a r s p. p)
 
 -- nodes
-node-at-one : NoSecond node-at.Post (λ κ r s. r)
-node-at-one κ a r₁ r₂ s₁ s₂ p q = p ∙ sym q
+node-at-one : OneAnswer node-at.Pre node-at.Post (λ κ r s. r)
+node-at-one = fixed (λ κ a r s p. p)
 
-operator-at-one : NoSecond operator-at.Post (λ κ r s. r)
-operator-at-one κ a r₁ r₂ s₁ s₂ p q = ap (λ c. record { cells = c }) (p ∙ sym q)
+operator-at-one : OneAnswer operator-at.Pre operator-at.Post (λ κ r s. r)
+operator-at-one = fixed (λ κ a r s p. ap (λ c. record { cells = c }) p)
 
-atoms-at-one : NoSecond atoms-at.Post (λ κ r s. now r)
-atoms-at-one κ a r₁ r₂ s₁ s₂ p q = p ∙ sym q
+atoms-at-one : OneAnswer atoms-at.Pre atoms-at.Post (λ κ r s. now r)
+atoms-at-one = fixed (λ κ a r s p. p)
 
 -- tree
-tree-action-one : NoSecond tree-action.Post (λ κ r s. r)
-tree-action-one κ a r₁ r₂ s₁ s₂ p q = p ∙ sym q
+tree-action-one : OneAnswer tree-action.Pre tree-action.Post (λ κ r s. r)
+tree-action-one = fixed (λ κ a r s p. p)
 
 -- table
-scan-one : NoSecond scan.Post (λ κ r s. r)
-scan-one κ a r₁ r₂ s₁ s₂ p q = p ∙ sym q
+scan-one : OneAnswer scan.Pre scan.Post (λ κ r s. r)
+scan-one = fixed (λ κ a r s p. p)
 
-check-one : NoSecond check.Post (λ κ r s. r)
-check-one κ a r₁ r₂ s₁ s₂ p q = p ∙ sym q
+check-one : OneAnswer check.Pre check.Post (λ κ r s. r)
+check-one = fixed (λ κ a r s p. p)
 
 -- priority
-number-one : NoSecond number.Post (λ κ r s. answerAnd r (now (s .1 .0)) (now (s .1 .1 .0)))
-number-one κ a r₁ r₂ s₁ s₂ p q = all (p .0 ∙ sym (q .0)) (p .1 ∙ sym (q .1)) (p .2 ∙ sym (q .2))
+number-one : OneAnswer number.Pre number.Post (λ κ r s. answerAnd r (now (s .1 .0)) (now (s .1 .1 .0)))
+number-one = fixed (λ κ a r s p. all (p .0) (p .1) (p .2))
 
 -- compile
-compile-one : NoSecond compile.Post (λ κ r s. answerAnd r (now (s .1 .0)) (now (s .1 .1 .0)))
-compile-one κ a r₁ r₂ s₁ s₂ p q = all (p .answer ∙ sym (q .answer)) (p .table ∙ sym (q .table)) (p .scratch ∙ sym (q .scratch))
+compile-one : OneAnswer compile.Pre compile.Post (λ κ r s. answerAnd r (now (s .1 .0)) (now (s .1 .1 .0)))
+compile-one = fixed (λ κ a r s p. all (p .answer) (p .table) (p .scratch))
