@@ -1,12 +1,12 @@
 -- Demand 1: the answers by cases, each with its number and the words that it leaves.
-use Prim.Native.Nat.{ℕ, _*_, _-_, _≤_, _<_}
+use Prim.Native.Nat.{ℕ, _*_, _-_, _<_}
 use native.Mathlib.Omega.{arith}
-use mathlib.Core.Path.{_≡_, refl, sym, ap, subst, _∙_}
+use mathlib.Core.Path.{_≡_, refl, sym, ap, subst}
 use mathlib.Core.Bool.{Bool, true, false, cond, _&&_}
 use mathlib.Core.List.{List, [], _∷_, _++_}
 use mathlib.Core.Logic.{_⊎_, inl, inr, ⊎-elim}
 use lib.Dec.{eqb, leb, ltb}
-use lib.ListN.{length, drop}
+use lib.ListN.{length}
 use borrow.Author.Tests.{lt-ltb, lt-leb, leb-true, eqb-true, eqb-false}
 use Rattle.logic.proofs.Tests.{by-test, and-left, and-right}
 use Rattle.words.specs.Records.{records}
@@ -23,29 +23,25 @@ use Rattle.policy.specs.declared.Reading.{Reading}
 use Rattle.policy.specs.declared.Reading.the-variants as reading
 use Rattle.policy.specs.declared.Refusal.{Refusal}
 use Rattle.policy.proofs.Refused.{refused-plain}
-use Rattle.tree.specs.Action.{actionOf}
-use Rattle.tree.specs.declared.Evaluated.{Evaluated}
 use Rattle.tree.proofs.Eval.{action-eval, action-refused, action-packet}
 use Rattle.table.specs.Table.{wrongTable, wrongRow, rowCount, rightLength, checkFrom, checkRows, checkOf}
 use Rattle.table.specs.Scan.{scanOf}
 use Rattle.table.specs.Theorems.{RightTable}
 use Rattle.table.specs.declared.Checked.{Checked}
 use Rattle.table.specs.declared.Checked.the-variants as checked
-use Rattle.table.specs.declared.Scanned.{Scanned}
 use Rattle.table.proofs.Tables.{check-exactly}
-use Rattle.table.proofs.Scans.{scan-found, scan-refused}
+use Rattle.table.proofs.Scans.{scan-refused}
 use Rattle.priority.specs.Numbering.{numberOf, answerCount}
 use Rattle.priority.specs.Theorems.{Ready, count}
 use Rattle.priority.specs.declared.Numbered.the-variants as numbered
 use Rattle.priority.specs.declared.Numbered.the-variants.{Priorities}
-use Rattle.priority.specs.declared.Numbered.{Numbered}
 use Rattle.priority.proofs.After.{words-stay, refused-stays}
 use Rattle.compile.specs.Tables.{wordsOf}
-use Rattle.compile.specs.Compile.{noRoom, noScratch, wrongRate, room, compiledRows, fine, zeros, acceptedAnswer, acceptedTable, acceptedScratch, answerOf, tableAfter, scratchAfter}
+use Rattle.compile.specs.Compile.{noRoom, noScratch, wrongRate, room, compiledRows, fine, zeros, answerOf, tableAfter, scratchAfter}
 use Rattle.compile.specs.Compile as compile
 use Rattle.compile.specs.declared.Compiled.{Compiled}
 use Rattle.compile.specs.declared.Compiled.the-variants.{Rows, Refused}
-use Rattle.promises.specs.Told.{Told, readTold, actionTold, compileTold, scanTold, numberTold, between, Fixed}
+use Rattle.promises.specs.Told.{readTold, actionTold, compileTold, between, Fixed}
 use Rattle.promises.specs.Demands.{EveryInput, Order, WordsLeft, Demand1}
 
 -- the numbers of the compile

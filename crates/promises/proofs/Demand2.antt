@@ -1,8 +1,8 @@
 -- Demand 2, from the theorems on reading, the tree's action and the compile.
 use Prim.Native.Nat.{ℕ, suc, _+_, _<_}
 use native.Mathlib.Omega.{arith}
-use mathlib.Core.Path.{_≡_, refl, sym, ap, subst, _∙_}
-use mathlib.Core.Bool.{Bool, true, false, _||_}
+use mathlib.Core.Path.{_≡_, sym, ap, subst, _∙_}
+use mathlib.Core.Bool.{true, _||_}
 use mathlib.Core.List.{List, [], _∷_}
 use mathlib.Core.Logic.{_⊎_, inl, inr, ⊎-elim}
 use lib.Dec.{eqb}
@@ -26,7 +26,7 @@ use Rattle.policy.proofs.Accepted.{accepted-tree, accepted-atoms}
 use Rattle.policy.proofs.Refused.{refused-law, broken-refused}
 use Rattle.tree.proofs.Eval.{action-eval}
 use Rattle.compile.proofs.Scanned.{table-scans, room-exactly}
-use Rattle.promises.specs.Demands.{BreaksCommutativity, BreaksAssociativity, SomeBroken, LawRefused, Demand2}
+use Rattle.promises.specs.Demands.{BreaksCommutativity, BreaksAssociativity, SomeBroken, Demand2}
 
 -- actions of the list that break a law are actions with allowed rates that do
 breaks : (o : List ℕ) (l : Law) (a b c : Action) → Shows o l a b c → BreaksCommutativity o ⊎ BreaksAssociativity o

@@ -1,7 +1,7 @@
 -- Demand 3, from the numbering's theorems.
 use Prim.Native.Nat.{ℕ, suc, _<_}
 use native.Mathlib.Omega.{arith}
-use mathlib.Core.Path.{_≡_, sym, ap, _∙_}
+use mathlib.Core.Path.{ap}
 use mathlib.Core.List.{List}
 use lib.ListN.{length, getD, take}
 use lib.Seq.{getD-take}
@@ -10,10 +10,10 @@ use Rattle.table.specs.Table.{rowCount}
 use Rattle.table.specs.Scan.{scanAction}
 use Rattle.table.proofs.Scans.{scan-unmatched}
 use Rattle.priority.specs.Numbering.{levelsOf, chainAfter}
-use Rattle.priority.specs.Theorems.{Ready, Shared, count, priority, link}
+use Rattle.priority.specs.Theorems.{Ready, count, link}
 use Rattle.priority.proofs.Whole.{levels-many}
 use Rattle.priority.proofs.After.{answer-counts, earlier-higher, priorities-used, fewest-numbers, chain-forces, switch-scans, switch-obeys}
-use Rattle.promises.specs.Demands.{RightNumbering, Demand3}
+use Rattle.promises.specs.Demands.{Demand3}
 
 module _ (ws ps cs : List ℕ) (r : Ready ws ps cs) where
   -- the chain's places are rows

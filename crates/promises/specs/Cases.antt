@@ -9,7 +9,6 @@
 use Prim.Native.Nat.{ℕ, _+_, _*_}
 use mathlib.Core.Path.{_≡_}
 use mathlib.Core.List.{List, [], _∷_, _++_}
-use lib.ListN.{length}
 use Rattle.action.specs.Operator.{join, sibling, parent}
 use Rattle.action.specs.declared.Action.the-variants.{DontCare, Allow, Deny, Gmb}
 use Rattle.action.specs.declared.Law.the-variants.{Commutativity, Associativity}
