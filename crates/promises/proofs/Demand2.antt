@@ -1,13 +1,13 @@
 -- Demand 2, from the theorems on reading, the tree's action and the compile.
 use Prim.Native.Nat.{ℕ, suc, _+_, _<_}
 use native.Mathlib.Omega.{arith}
-use mathlib.Core.Path.{_≡_, sym, ap, subst, _∙_}
+use mathlib.Core.Path.{_≡_, refl, sym, ap, subst, _∙_}
 use mathlib.Core.Bool.{true, _||_}
 use mathlib.Core.List.{List, [], _∷_}
 use mathlib.Core.Logic.{_⊎_, inl, inr, ⊎-elim}
 use lib.Dec.{eqb}
 use lib.ListN.{length, getD, drop}
-use borrow.Author.Tests.{eqb-true}
+use borrow.Author.Tests.{eqb-true, le-ltb}
 use Rattle.logic.proofs.Tests.{or-split}
 use Rattle.words.proofs.Records.{length-records}
 use Rattle.action.specs.Laws.{Shows}
@@ -25,7 +25,9 @@ use Rattle.policy.specs.declared.Refusal.{Refusal}
 use Rattle.policy.proofs.Accepted.{accepted-tree, accepted-atoms}
 use Rattle.policy.proofs.Refused.{refused-law, broken-refused}
 use Rattle.tree.proofs.Eval.{action-eval}
+use Rattle.compile.specs.Compile.{answerOf}
 use Rattle.compile.proofs.Scanned.{table-scans, room-exactly}
+use Rattle.promises.proofs.Rates.{accepted-fine}
 use Rattle.promises.specs.Demands.{BreaksCommutativity, BreaksAssociativity, SomeBroken, Demand2}
 
 -- actions of the list that break a law are actions with allowed rates that do
@@ -95,10 +97,12 @@ not-laws f a b c w k =
     (⊎-elim (λ e. subst (λ i. KeepsLaws (operatorAt os i)) (sym e) (g .0)) (λ e. subst (λ i. KeepsLaws (operatorAt os i)) (sym e) (g .1)) (w .named))
 
 pub demand-2 : Demand2
+unfolding answerOf
 demand-2 = record {
   eval = action-eval;
   atoms = λ f l e. ap allAtoms (accepted-tree f l e .lists) ∙ accepted-atoms f l e;
   scan = table-scans;
+  compiles = λ f t s l e enough fits. rw (e, le-ltb _ _ enough, le-ltb _ _ fits, accepted-fine f l e) refl;
   law = λ f a b c o. (
     λ w. some-broken f a b c o (w .refusal) (w .refused) (w .number),
     λ w. let x = broken-refused f a b c o (not-laws f a b c w) in record { refusal = x .0; refused = x .1; number = x .2 },

@@ -137,6 +137,9 @@ pub record Demand2 : Type 0 where
   -- "and scanning the compiled table gives the same": of the rows that were answered, the scan is no refusal, and its action is the tree's
   pub scan : (f t s p : List ℕ) (n : ℕ) → answerOf f t s ≡ compiled.Rows n → rightPacketWords p ≡ true
       → (scanNumber (scanOf (tableRows n (tableAfter f t s)) p) ≡ 0) × (actionOf f p ≡ evaluated.Gives (scanAction (scanOf (tableRows n (tableAfter f t s)) p)))
+  -- there is such a table wherever scratch and room suffice: the rates of the rows lie in their range, so 14 is never given
+  pub compiles : (f t s : List ℕ) (l : Layout) → readOf f ≡ reading.Accepted l → rowLength * room (length t) ≤ length s → length (compiledRows f l) ≤ room (length t)
+      → answerOf f t s ≡ compiled.Rows (length (compiledRows f l))
   -- "A file otherwise good is refused for an operator exactly when some node's inner or sibling one breaks commutativity or associativity,"
   pub law : (f : List ℕ) (a b c : ℕ) → Otherwise f a b c → LawRefused f ↔ SomeBroken f a b c
   -- "with actions that show it": the place names the operator, and the actions break the law that is named
