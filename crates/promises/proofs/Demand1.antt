@@ -16,6 +16,9 @@ use Rattle.flow.specs.declared.Match.{Match}
 use Rattle.action.specs.declared.Action.{Action}
 use Rattle.action.specs.declared.Action.the-variants.{DontCare}
 use Rattle.row.specs.Row.{rowLength, rightRow}
+use Rattle.action.specs.Laws.{lawSearch}
+use Rattle.action.specs.declared.Lawful.{Lawful}
+use Rattle.action.specs.declared.Lawful.the-variants.{Yes, Broken}
 use Rattle.policy.specs.Numbers.{lawBroken}
 use Rattle.policy.specs.Read.{plain, readOf}
 use Rattle.policy.specs.declared.Layout.{Layout}
@@ -29,7 +32,7 @@ use Rattle.table.specs.Scan.{scanOf}
 use Rattle.table.specs.Theorems.{RightTable}
 use Rattle.table.specs.declared.Checked.{Checked}
 use Rattle.table.specs.declared.Checked.the-variants as checked
-use Rattle.table.proofs.Tables.{check-exactly}
+use Rattle.table.proofs.Tables.{check-exactly, check-first}
 use Rattle.table.proofs.Scans.{scan-refused}
 use Rattle.priority.specs.Numbering.{numberOf, answerCount}
 use Rattle.priority.specs.Theorems.{Ready, count}
@@ -41,7 +44,7 @@ use Rattle.compile.specs.Compile.{noRoom, noScratch, wrongRate, room, compiledR
 use Rattle.compile.specs.Compile as compile
 use Rattle.compile.specs.declared.Compiled.{Compiled}
 use Rattle.compile.specs.declared.Compiled.the-variants.{Rows, Refused}
-use Rattle.promises.specs.Told.{readTold, actionTold, compileTold, between, Fixed}
+use Rattle.promises.specs.Told.{searchTold, readTold, actionTold, compileTold, between, Fixed}
 use Rattle.promises.specs.Demands.{EveryInput, Order, WordsLeft, Demand1}
 
 -- the numbers of the compile
@@ -114,9 +117,14 @@ module _ (P : Compiled → List ℕ → List ℕ → Type 0) where
   unfolding answerOf tableAfter scratchAfter
   of-accepted f t s l e a b c d = rw e (four (ltb (length s) (rowLength * room (length t))) (ltb (room (length t)) (length (compiledRows f l))) (fine (compiledRows f l)) a b c d)
 
+search-fixed : (i : ℕ) (x : Lawful) → Fixed (between 10 10) (searchTold i x)
+search-fixed i Yes = success
+search-fixed i (Broken l a b c) = record { number = inr (omega arith, omega arith); value = λ n. (refl, refl); law = λ n. absurd (n refl) }
+
 every-input : EveryInput
 unfolding scanOf numberOf
 every-input = record {
+  search = λ o i. search-fixed i (lawSearch o);
   read = λ f. by-reading f
       (λ l e. subst (λ x. Fixed (between 1 10) (readTold x)) (sym e) success)
       (λ r e. subst (λ x. Fixed (between 1 10) (readTold x)) (sym e) (file-refused f r e (λ n h. h)));
@@ -132,6 +140,7 @@ every-input = record {
       (refused (inr (omega arith, omega arith)))
       success)
       (λ r e. of-refused (λ x t′ s′. Fixed compileNumbers (compileTold x)) f t s r e (file-refused f r e (λ n h. inl h)));
+  check = λ ws. by-check ws (λ n e. rw e success) (λ n i e h. rw e (refused h));
   scan = λ ws p. by-test (rightPacketWords p)
       (λ t. by-check ws (λ n e. rw (t, e) success) (λ n i e h. rw (t, e) (refused (inr h))))
       (λ t. rw t (refused (inl refl)));
@@ -150,12 +159,14 @@ short n p c (inr h) = rw (lt-leb n c h) (and-false (leb n p))
     and-false false = refl
 
 order : Order
-unfolding answerOf numberOf
+unfolding answerOf numberOf checkOf
 order = record {
   action-file = action-refused;
   action-packet = action-packet;
   compile-file = λ f t s r e. rw e refl;
   compile-scratch = λ f t s l e h. rw (e, lt-ltb _ _ h) refl;
+  table-length = λ ws t. rw t refl;
+  table-row = check-first;
   scan-packet = λ ws p. scan-refused ws p .0;
   scan-table = λ ws p n i t e. scan-refused ws p .1 t n i e;
   number-table = λ ws p c n i e. rw e refl;

@@ -8,22 +8,22 @@
 --   numberOf, prioritiesAfter, chainAfter      priority::number    of a table, a priority buffer and a chain buffer
 use Prim.Native.Nat.{ℕ, suc, _*_, _-_, _≤_, _<_}
 use mathlib.Core.Path.{_≡_}
-use mathlib.Core.Bool.{true, false}
+use mathlib.Core.Bool.{true, false, not}
 use mathlib.Core.List.{List, [], _++_}
 use mathlib.Core.Logic.{_↔_, _⊎_}
 use lib.ListN.{length, getD, take, drop}
 use Rattle.theory.specs.Rows.{matchesAt}
 use Rattle.theory.specs.Nodes.{listTree}
-use Rattle.theory.specs.Number.{distinct}
+use Rattle.theory.specs.Number.{FirstPlace, distinct}
 use Rattle.theory.specs.Theorems.{Obeyed}
 use Rattle.flow.specs.Packet.{packetOf, rightPacketWords, wrongPacket}
 use Rattle.flow.specs.Match.{meets}
 use Rattle.action.specs.Action.{inRange}
 use Rattle.action.specs.Operator.{join}
-use Rattle.action.specs.Laws.{Shows}
+use Rattle.action.specs.Laws.{lawSearch, Shows}
 use Rattle.action.specs.declared.Action.{Action}
 use Rattle.action.specs.declared.Action.the-variants.{DontCare}
-use Rattle.row.specs.Row.{rowLength}
+use Rattle.row.specs.Row.{rowLength, rightRow}
 use Rattle.policy.specs.Numbers.{lawBroken}
 use Rattle.policy.specs.Read.{plain, readOf, innerOf, siblingOf, operatorRecords, nodeRecords}
 use Rattle.policy.specs.File.{operatorAt, atomsOf, treeOf, allAtoms}
@@ -33,9 +33,9 @@ use Rattle.policy.specs.declared.Reading.the-variants as reading
 use Rattle.policy.specs.declared.Refusal.{Refusal}
 use Rattle.tree.specs.Action.{evalTree, actionOf}
 use Rattle.tree.specs.declared.Evaluated.the-variants as evaluated
-use Rattle.table.specs.Table.{rowCount, rowsIn, past, checkOf}
+use Rattle.table.specs.Table.{wrongTable, wrongRow, rowCount, rowsIn, past, rightLength, checkOf}
 use Rattle.table.specs.Scan.{scanOf, scanNumber, scanAction}
-use Rattle.table.specs.Theorems.{RightTable}
+use Rattle.table.specs.Theorems.{rowAt, RightTable}
 use Rattle.table.specs.declared.Checked.the-variants as checked
 use Rattle.table.specs.declared.Scanned.the-variants as scanned
 use Rattle.priority.specs.Numbering.{shortBuffer, numberOf, prioritiesAfter, chainAfter}
@@ -45,16 +45,18 @@ use Rattle.compile.specs.Tables.{wordsOf}
 use Rattle.compile.specs.Compile.{noRoom, noScratch, wrongRate, room, compiledRows, zeros, answerOf, tableAfter, scratchAfter}
 use Rattle.compile.specs.Theorems.{tableRows}
 use Rattle.compile.specs.declared.Compiled.the-variants as compiled
-use Rattle.promises.specs.Told.{readTold, actionTold, compileTold, scanTold, numberTold, between, Fixed}
+use Rattle.promises.specs.Told.{searchTold, readTold, actionTold, compileTold, checkTold, scanTold, numberTold, between, Fixed}
 
 -- DEMAND 1. Every file, packet or table handed in, however broken, gets a result or one numbered refusal. Callers check nothing first. The refusals, their order
 -- and the words left in each lent buffer are fixed.
 
 -- "Every file, packet or table handed in, however broken, gets a result or one numbered refusal": which numbers each function can give.
 pub record EveryInput : Type 0 where
+  pub search : (o : List ℕ) (i : ℕ) → Fixed (between 10 10) (searchTold i (lawSearch o))
   pub read : (f : List ℕ) → Fixed (between 1 10) (readTold (readOf f))
   pub action : (f p : List ℕ) → Fixed (between 1 11) (actionTold (actionOf f p))
   pub compile : (f t s : List ℕ) → Fixed (λ n. between 1 10 n ⊎ between 12 14 n) (compileTold (answerOf f t s))
+  pub check : (ws : List ℕ) → Fixed (between 15 16) (checkTold (checkOf ws))
   pub scan : (ws p : List ℕ) → Fixed (λ n. (n ≡ 11) ⊎ between 15 16 n) (scanTold (scanOf ws p))
   pub number : (ws : List ℕ) (p c : ℕ) → Fixed (between 15 17) (numberTold (numberOf ws p c))
 
@@ -63,9 +65,12 @@ pub record Order : Type 0 where
   -- the tree's action: 1..10, 11
   pub action-file : (f p : List ℕ) (r : Refusal) → readOf f ≡ reading.Refused r → actionOf f p ≡ evaluated.Refused r
   pub action-packet : (f p : List ℕ) (l : Layout) → readOf f ≡ reading.Accepted l → rightPacketWords p ≡ false → actionOf f p ≡ evaluated.Refused (plain wrongPacket 0)
-  -- the compile: 1..10, 13, then 12 as demand 2 has it
+  -- the compile: 1..10, 13, then 12 as demand 2 has it; 14 is never given
   pub compile-file : (f t s : List ℕ) (r : Refusal) → readOf f ≡ reading.Refused r → answerOf f t s ≡ compiled.Refused r
   pub compile-scratch : (f t s : List ℕ) (l : Layout) → readOf f ≡ reading.Accepted l → length s < rowLength * room (length t) → answerOf f t s ≡ compiled.Refused (plain noScratch 0)
+  -- a table: 15, then 16 at the first wrong row
+  pub table-length : (ws : List ℕ) → rightLength ws ≡ false → checkOf ws ≡ checked.Wrong wrongTable 0
+  pub table-row : (ws : List ℕ) (i : ℕ) → rightLength ws ≡ true → FirstPlace (λ j. not (rightRow (rowAt ws j))) (rowCount ws) i → checkOf ws ≡ checked.Wrong wrongRow i
   -- the scan: 11, then the whole table's 15 or 16
   pub scan-packet : (ws p : List ℕ) → rightPacketWords p ≡ false → scanOf ws p ≡ scanned.Refused wrongPacket 0
   pub scan-table : (ws p : List ℕ) (n i : ℕ) → rightPacketWords p ≡ true → checkOf ws ≡ checked.Wrong n i → scanOf ws p ≡ scanned.Refused n i
@@ -184,3 +189,9 @@ pub record RightNumbering (ws ps cs : List ℕ) : Type 0 where
 
 abbrev pub Demand3 : Type 0
 Demand3 = (ws ps cs : List ℕ) → Ready ws ps cs → RightNumbering ws ps cs
+
+-- DEMANDS 2 AND 3 TOGETHER: whatever row of the compiled table a switch obeys, by the priorities that were left, its action is the tree's.
+abbrev pub SwitchObeysTree : Type 0
+SwitchObeysTree = (f t s ps cs p : List ℕ) (n i : ℕ) → answerOf f t s ≡ compiled.Rows n → n ≤ length ps → n ≤ length cs → rightPacketWords p ≡ true
+    → let ws : List ℕ = tableRows n (tableAfter f t s) in
+    Obeyed meets past (rowsIn ws) (priority ws ps cs) (packetOf p) i → actionOf f p ≡ evaluated.Gives (getD (rowsIn ws) i past .action)
