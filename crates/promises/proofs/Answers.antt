@@ -1,4 +1,4 @@
--- For each public function: no second answer fits its contract, as the checker reads it. Where buffers are lent, what is seen of the answer has their words.
+-- For each public function: its contract, as the checker reads it, asks nothing, and no second answer fits it. Where buffers are lent, their words are part of what is seen.
 use Prim.Native.Nat.{ℕ}
 use mathlib.Core.Path.{_≡_, sym, _∙_, ap}
 use mathlib.Core.List.{List}

@@ -22,7 +22,7 @@ use Rattle.policy.specs.WellFormed.{Otherwise, KeepsLaws, LawsKept}
 use Rattle.policy.specs.Theorems.{BrokenLaw}
 use Rattle.policy.specs.declared.Reading.the-variants.{Refused}
 use Rattle.policy.specs.declared.Refusal.{Refusal}
-use Rattle.policy.proofs.Accepted.{accepted-tree, accepted-atoms}
+use Rattle.policy.proofs.Accepted.{accepted-exactly, accepted-tree, accepted-atoms}
 use Rattle.policy.proofs.Refused.{refused-law, broken-refused}
 use Rattle.tree.proofs.Eval.{action-eval}
 use Rattle.compile.specs.Compile.{answerOf}
@@ -99,6 +99,7 @@ not-laws f a b c w k =
 pub demand-2 : Demand2
 unfolding answerOf
 demand-2 = record {
+  accepted = accepted-exactly;
   eval = action-eval;
   atoms = λ f l e. ap allAtoms (accepted-tree f l e .lists) ∙ accepted-atoms f l e;
   scan = table-scans;

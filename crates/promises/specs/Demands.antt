@@ -27,7 +27,7 @@ use Rattle.row.specs.Row.{rowLength, rightRow}
 use Rattle.policy.specs.Numbers.{lawBroken}
 use Rattle.policy.specs.Read.{plain, readOf, innerOf, siblingOf, operatorRecords, nodeRecords}
 use Rattle.policy.specs.File.{operatorAt, atomsOf, treeOf, allAtoms}
-use Rattle.policy.specs.WellFormed.{Otherwise}
+use Rattle.policy.specs.WellFormed.{Otherwise, WellFormed}
 use Rattle.policy.specs.declared.Layout.{Layout}
 use Rattle.policy.specs.declared.Reading.the-variants as reading
 use Rattle.policy.specs.declared.Refusal.{Refusal}
@@ -135,6 +135,8 @@ pub record LawRefused (f : List ℕ) : Type 0 where
   pub number : refusal .number ≡ lawBroken
 
 pub record Demand2 : Type 0 where
+  -- the accepted policies are the well-formed files, whatever order they are read in
+  pub accepted : (f : List ℕ) (l : Layout) → (readOf f ≡ reading.Accepted l) ↔ WellFormed f l
   -- "For every accepted policy and every packet, the tree's action is the one given by eval in the paper,"
   pub eval : (f p : List ℕ) (l : Layout) → readOf f ≡ reading.Accepted l → rightPacketWords p ≡ true → actionOf f p ≡ evaluated.Gives (evalTree (treeOf f l) (packetOf p))
   -- "each matching atom counted": the atoms of the tree are those of the file, in order and each once
