@@ -94,7 +94,7 @@ fn broken(found: Lawful, place: usize) -> Test
 }
 
 // The operator that nine words are; words that are missing count as 0.
-pub fn operator_of(words: &[u32]) -> Operator
+fn operator_of(words: &[u32]) -> Operator
     ensures { λ r. ⌜ r .cells ≡ cellsOf (now (words .entry)) ⌝ }
 {
     Operator {

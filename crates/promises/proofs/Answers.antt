@@ -1,0 +1,224 @@
+-- For each public function: its contract, as the checker reads it, asks nothing, and no second answer fits it. Where buffers are lent, their words are part of what is seen.
+use Prim.Native.Nat.{ℕ}
+use mathlib.Core.Path.{_≡_, sym, _∙_, ap}
+use mathlib.Core.List.{List}
+use denote.Ref.{now}
+use Rattle.promises.specs.Answers.{OneAnswer, answerAnd}
+use Rattle.field.proofs.in_prefix.Reads as in-prefix
+use Rattle.field.proofs.right_prefix.Reads as right-prefix
+use Rattle.field.proofs.prefixes_meet.Reads as prefixes-meet
+use Rattle.field.proofs.prefix_covers.Reads as prefix-covers
+use Rattle.field.proofs.longer_address.Reads as longer-address
+use Rattle.field.proofs.longer_length.Reads as longer-length
+use Rattle.field.proofs.meets_value.Reads as meets-value
+use Rattle.field.proofs.values_meet.Reads as values-meet
+use Rattle.field.proofs.common_value.Reads as common-value
+use Rattle.field.proofs.right_value.Reads as right-value
+use Rattle.words.proofs.word.Reads as word
+use Rattle.words.proofs.copy.Reads as copy
+use Rattle.words.proofs.clear_from.Reads as clear-from
+use Rattle.flow.proofs.meets.Reads as meets
+use Rattle.flow.proofs.overlap.Reads as overlap
+use Rattle.flow.proofs.common.Reads as common
+use Rattle.flow.proofs.is_empty.Reads as is-empty
+use Rattle.flow.proofs.right_match.Reads as right-match
+use Rattle.flow.proofs.right_packet.Reads as right-packet
+use Rattle.flow.proofs.right_packet_words.Reads as right-packet-words
+use Rattle.flow.proofs.read_packet.Reads as read-packet
+use Rattle.flow.proofs.read_match.Reads as read-match
+use Rattle.flow.proofs.write_packet.Reads as write-packet
+use Rattle.flow.proofs.write_match.Reads as write-match
+use Rattle.flow.proofs.words_of_packet.Reads as words-of-packet
+use Rattle.flow.proofs.words_of_match.Reads as words-of-match
+use Rattle.action.proofs.Operator.sibling.Reads as operator-sibling
+use Rattle.action.proofs.Operator.parent.Reads as operator-parent
+use Rattle.action.proofs.Operator.join.Reads as operator-join
+use Rattle.action.proofs.Operator.law_search.Reads as operator-law-search
+use Rattle.action.proofs.kind.Reads as kind
+use Rattle.action.proofs.rate.Reads as rate
+use Rattle.action.proofs.action_of.Reads as action-of
+use Rattle.action.proofs.right_action.Reads as right-action
+use Rattle.action.proofs.right_cell.Reads as right-cell
+use Rattle.row.proofs.row_action.Reads as row-action
+use Rattle.row.proofs.words_of_row.Reads as words-of-row
+use Rattle.row.proofs.right_row.Reads as right-row
+use Rattle.row.proofs.right_row_match.Reads as right-row-match
+use Rattle.row.proofs.right_row_action.Reads as right-row-action
+use Rattle.policy.proofs.read.Reads as read
+use Rattle.nodes.proofs.node_at.Reads as node-at
+use Rattle.nodes.proofs.operator_at.Reads as operator-at
+use Rattle.nodes.proofs.atoms_at.Reads as atoms-at
+use Rattle.tree.proofs.tree_action.Reads as tree-action
+use Rattle.table.proofs.scan.Reads as scan
+use Rattle.table.proofs.check.Reads as check
+use Rattle.priority.proofs.number.Reads as number
+use Rattle.compile.proofs.compile.Reads as compile
+
+-- where the contract says that what is seen is d, of the arguments alone
+fixed :
+    {K : Type 0} {A R S : K → Type 0} {X : Type 0} {Post : (κ : K) → A κ → R κ → S κ → Type 0} {seen : (κ : K) → R κ → S κ → X} {d : (κ : K) → A κ → X}
+    → ((κ : K) (a : A κ) (r : R κ) (s : S κ) → Post κ a r s → seen κ r s ≡ d κ a)
+    → OneAnswer (λ (κ : K) (a : A κ). Unit {0}) Post seen
+fixed f = record { asks-nothing = λ κ a. tt; no-second = λ κ a r₁ r₂ s₁ s₂ p q. f κ a r₁ s₁ p ∙ sym (f κ a r₂ s₂ q) }
+
+-- equal answers with equal buffers
+all : {X : Type 0} {r r′ : X} {b b′ c c′ : List ℕ} → r ≡ r′ → b ≡ b′ → c ≡ c′ → answerAnd r b c ≡ answerAnd r′ b′ c′
+all p q e = rw (p, q, e)
+
+-- field
+in-prefix-one : OneAnswer in-prefix.Pre in-prefix.Post (λ κ r s. r)
+in-prefix-one = fixed (λ κ a r s p. p)
+
+right-prefix-one : OneAnswer right-prefix.Pre right-prefix.Post (λ κ r s. r)
+right-prefix-one = fixed (λ κ a r s p. p)
+
+prefixes-meet-one : OneAnswer prefixes-meet.Pre prefixes-meet.Post (λ κ r s. r)
+prefixes-meet-one = fixed (λ κ a r s p. p)
+
+prefix-covers-one : OneAnswer prefix-covers.Pre prefix-covers.Post (λ κ r s. r)
+prefix-covers-one = fixed (λ κ a r s p. p)
+
+longer-address-one : OneAnswer longer-address.Pre longer-address.Post (λ κ r s. r)
+longer-address-one = fixed (λ κ a r s p. p)
+
+longer-length-one : OneAnswer longer-length.Pre longer-length.Post (λ κ r s. r)
+longer-length-one = fixed (λ κ a r s p. p)
+
+meets-value-one : OneAnswer meets-value.Pre meets-value.Post (λ κ r s. r)
+meets-value-one = fixed (λ κ a r s p. p)
+
+values-meet-one : OneAnswer values-meet.Pre values-meet.Post (λ κ r s. r)
+values-meet-one = fixed (λ κ a r s p. p)
+
+common-value-one : OneAnswer common-value.Pre common-value.Post (λ κ r s. r)
+common-value-one = fixed (λ κ a r s p. p)
+
+right-value-one : OneAnswer right-value.Pre right-value.Post (λ κ r s. r)
+right-value-one = fixed (λ κ a r s p. p)
+
+-- words
+word-one : OneAnswer word.Pre word.Post (λ κ r s. r)
+word-one = fixed (λ κ a r s p. p)
+
+copy-one : OneAnswer copy.Pre copy.Post (λ κ r s. now (s .0))
+copy-one = fixed (λ κ a r s p. p)
+
+clear-from-one : OneAnswer clear-from.Pre clear-from.Post (λ κ r s. now (s .0))
+clear-from-one = fixed (λ κ a r s p. p)
+
+-- flow
+meets-one : OneAnswer meets.Pre meets.Post (λ κ r s. r)
+meets-one = fixed (λ κ a r s p. p)
+
+overlap-one : OneAnswer overlap.Pre overlap.Post (λ κ r s. r)
+overlap-one = fixed (λ κ a r s p. p)
+
+common-one : OneAnswer common.Pre common.Post (λ κ r s. r)
+common-one = fixed (λ κ a r s p. p)
+
+is-empty-one : OneAnswer is-empty.Pre is-empty.Post (λ κ r s. r)
+is-empty-one = fixed (λ κ a r s p. p)
+
+right-match-one : OneAnswer right-match.Pre right-match.Post (λ κ r s. r)
+right-match-one = fixed (λ κ a r s p. p)
+
+right-packet-one : OneAnswer right-packet.Pre right-packet.Post (λ κ r s. r)
+right-packet-one = fixed (λ κ a r s p. p)
+
+right-packet-words-one : OneAnswer right-packet-words.Pre right-packet-words.Post (λ κ r s. r)
+right-packet-words-one = fixed (λ κ a r s p. p)
+
+read-packet-one : OneAnswer read-packet.Pre read-packet.Post (λ κ r s. r)
+read-packet-one = fixed (λ κ a r s p. p)
+
+read-match-one : OneAnswer read-match.Pre read-match.Post (λ κ r s. r)
+read-match-one = fixed (λ κ a r s p. p)
+
+write-packet-one : OneAnswer write-packet.Pre write-packet.Post (λ κ r s. now (s .0))
+write-packet-one = fixed (λ κ a r s p. p)
+
+write-match-one : OneAnswer write-match.Pre write-match.Post (λ κ r s. now (s .0))
+write-match-one = fixed (λ κ a r s p. p)
+
+words-of-packet-one : OneAnswer words-of-packet.Pre words-of-packet.Post (λ κ r s. r)
+words-of-packet-one = fixed (λ κ a r s p. p)
+
+words-of-match-one : OneAnswer words-of-match.Pre words-of-match.Post (λ κ r s. r)
+words-of-match-one = fixed (λ κ a r s p. p)
+
+-- action
+operator-sibling-one : OneAnswer operator-sibling.Pre operator-sibling.Post (λ κ r s. r)
+operator-sibling-one = fixed (λ κ a r s p. ap (λ c. record { cells = c }) p)
+
+operator-parent-one : OneAnswer operator-parent.Pre operator-parent.Post (λ κ r s. r)
+operator-parent-one = fixed (λ κ a r s p. ap (λ c. record { cells = c }) p)
+
+operator-join-one : OneAnswer operator-join.Pre operator-join.Post (λ κ r s. r)
+operator-join-one = fixed (λ κ a r s p. p)
+
+operator-law-search-one : OneAnswer operator-law-search.Pre operator-law-search.Post (λ κ r s. r)
+operator-law-search-one = fixed (λ κ a r s p. p)
+
+kind-one : OneAnswer kind.Pre kind.Post (λ κ r s. r)
+kind-one = fixed (λ κ a r s p. p .0)
+
+rate-one : OneAnswer rate.Pre rate.Post (λ κ r s. r)
+rate-one = fixed (λ κ a r s p. p)
+
+action-of-one : OneAnswer action-of.Pre action-of.Post (λ κ r s. r)
+action-of-one = fixed (λ κ a r s p. p)
+
+right-action-one : OneAnswer right-action.Pre right-action.Post (λ κ r s. r)
+right-action-one = fixed (λ κ a r s p. p)
+
+right-cell-one : OneAnswer right-cell.Pre right-cell.Post (λ κ r s. r)
+right-cell-one = fixed (λ κ a r s p. p)
+
+-- row
+row-action-one : OneAnswer row-action.Pre row-action.Post (λ κ r s. r)
+row-action-one = fixed (λ κ a r s p. p)
+
+words-of-row-one : OneAnswer words-of-row.Pre words-of-row.Post (λ κ r s. r)
+words-of-row-one = fixed (λ κ a r s p. p)
+
+right-row-one : OneAnswer right-row.Pre right-row.Post (λ κ r s. r)
+right-row-one = fixed (λ κ a r s p. p)
+
+right-row-match-one : OneAnswer right-row-match.Pre right-row-match.Post (λ κ r s. r)
+right-row-match-one = fixed (λ κ a r s p. p)
+
+right-row-action-one : OneAnswer right-row-action.Pre right-row-action.Post (λ κ r s. r)
+right-row-action-one = fixed (λ κ a r s p. p)
+
+-- policy
+read-one : OneAnswer read.Pre read.Post (λ κ r s. r)
+read-one = fixed (λ κ a r s p. p)
+
+-- nodes
+node-at-one : OneAnswer node-at.Pre node-at.Post (λ κ r s. r)
+node-at-one = fixed (λ κ a r s p. p)
+
+operator-at-one : OneAnswer operator-at.Pre operator-at.Post (λ κ r s. r)
+operator-at-one = fixed (λ κ a r s p. ap (λ c. record { cells = c }) p)
+
+atoms-at-one : OneAnswer atoms-at.Pre atoms-at.Post (λ κ r s. now r)
+atoms-at-one = fixed (λ κ a r s p. p)
+
+-- tree
+tree-action-one : OneAnswer tree-action.Pre tree-action.Post (λ κ r s. r)
+tree-action-one = fixed (λ κ a r s p. p)
+
+-- table
+scan-one : OneAnswer scan.Pre scan.Post (λ κ r s. r)
+scan-one = fixed (λ κ a r s p. p)
+
+check-one : OneAnswer check.Pre check.Post (λ κ r s. r)
+check-one = fixed (λ κ a r s p. p)
+
+-- priority
+number-one : OneAnswer number.Pre number.Post (λ κ r s. answerAnd r (now (s .1 .0)) (now (s .1 .1 .0)))
+number-one = fixed (λ κ a r s p. all (p .0) (p .1) (p .2))
+
+-- compile
+compile-one : OneAnswer compile.Pre compile.Post (λ κ r s. answerAnd r (now (s .1 .0)) (now (s .1 .1 .0)))
+compile-one = fixed (λ κ a r s p. all (p .answer) (p .table) (p .scratch))

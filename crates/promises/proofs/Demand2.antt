@@ -1,0 +1,113 @@
+-- Demand 2, from the theorems on reading, the tree's action and the compile.
+use Prim.Native.Nat.{ℕ, suc, _+_, _<_}
+use native.Mathlib.Omega.{arith}
+use mathlib.Core.Path.{_≡_, refl, sym, ap, subst, _∙_}
+use mathlib.Core.Bool.{true, _||_}
+use mathlib.Core.List.{List, [], _∷_}
+use mathlib.Core.Logic.{_⊎_, inl, inr, ⊎-elim}
+use lib.Dec.{eqb}
+use lib.ListN.{length, getD, drop}
+use borrow.Author.Tests.{eqb-true, le-ltb}
+use Rattle.logic.proofs.Tests.{or-split}
+use Rattle.words.proofs.Records.{length-records}
+use Rattle.action.specs.Laws.{Shows}
+use Rattle.action.specs.declared.Action.{Action}
+use Rattle.action.specs.declared.Law.{Law}
+use Rattle.action.specs.declared.Law.the-variants.{Unnamed, Commutativity, Associativity}
+use Rattle.action.proofs.Exact.{shown-in-range}
+use Rattle.policy.specs.Numbers.{nodeLength, lawBroken}
+use Rattle.policy.specs.Read.{readOf, innerOf, siblingOf, named, atomsAt, nodesAt, operatorRecords, nodeRecords}
+use Rattle.policy.specs.File.{operatorAt, allAtoms}
+use Rattle.policy.specs.WellFormed.{Otherwise, KeepsLaws, LawsKept}
+use Rattle.policy.specs.Theorems.{BrokenLaw}
+use Rattle.policy.specs.declared.Reading.the-variants.{Refused}
+use Rattle.policy.specs.declared.Refusal.{Refusal}
+use Rattle.policy.proofs.Accepted.{accepted-exactly, accepted-tree, accepted-atoms}
+use Rattle.policy.proofs.Refused.{refused-law, broken-refused}
+use Rattle.tree.proofs.Eval.{action-eval}
+use Rattle.compile.specs.Compile.{answerOf}
+use Rattle.compile.proofs.Scanned.{table-scans, room-exactly}
+use Rattle.promises.proofs.Rates.{accepted-fine}
+use Rattle.promises.specs.Demands.{BreaksCommutativity, BreaksAssociativity, SomeBroken, Demand2}
+
+-- actions of the list that break a law are actions with allowed rates that do
+breaks : (o : List ℕ) (l : Law) (a b c : Action) → Shows o l a b c → BreaksCommutativity o ⊎ BreaksAssociativity o
+breaks o Unnamed a b c s = absurd s
+breaks o Commutativity a b c s = inl (record { left = a; right = b; left-allowed = shown-in-range a (s .0); right-allowed = shown-in-range b (s .1); differ = s .3 })
+breaks o Associativity a b c s = inr (record {
+  left = a;
+  middle = b;
+  right = c;
+  left-allowed = shown-in-range a (s .0);
+  middle-allowed = shown-in-range b (s .1);
+  right-allowed = shown-in-range c (s .2);
+  differ = s .3;
+})
+
+-- an operator that breaks a law does not keep both
+not-kept : (o : List ℕ) → BreaksCommutativity o ⊎ BreaksAssociativity o → ¬ KeepsLaws o
+not-kept o (inl b) k = b .differ (k .0 (b .left) (b .right) (b .left-allowed) (b .right-allowed))
+not-kept o (inr b) k = b .differ (k .1 (b .left) (b .middle) (b .right) (b .left-allowed) (b .middle-allowed) (b .right-allowed))
+
+-- an operator that is named is named by some node
+record Naming (i : ℕ) (ns : List (List ℕ)) : Type 0 where
+  pub node : ℕ
+  pub within : node < length ns
+  pub names : (i ≡ innerOf (getD ns node [])) ⊎ (i ≡ siblingOf (getD ns node []))
+
+naming : (i : ℕ) (ns : List (List ℕ)) → named i ns ≡ true → Naming i ns
+naming i [] e = let z : _≡_ {A = ℕ} 0 1 = cc in absurd (omega arith)
+naming i (r ∷ rs) e = ⊎-elim
+    (λ h. record { node = 0; within = omega arith; names = ⊎-elim (λ g. inl (sym (eqb-true _ _ g))) (λ g. inr (sym (eqb-true _ _ g))) (or-split (eqb (innerOf r) i) (eqb (siblingOf r) i) h) })
+    (λ h. let n : Naming i rs = naming i rs h in record { node = suc (n .node); within = omega (arith, n .within); names = n .names })
+    (or-split (eqb (innerOf r) i || eqb (siblingOf r) i) (named i rs) e)
+
+-- the counts of a file are its own
+same-counts : (f : List ℕ) (a b c a′ b′ c′ : ℕ) → Otherwise f a b c → Otherwise f a′ b′ c′ → (a′ ≡ a) × (b′ ≡ b) × (c′ ≡ c)
+same-counts f a b c a′ b′ c′ o o′ =
+    let p : a′ ≡ a = sym (o′ .operators .count) ∙ o .operators .count in
+    let q : b′ ≡ b = sym (o′ .atoms .count) ∙ ap (λ x. getD f (atomsAt x) 0) p ∙ o .atoms .count in
+    (p, q, sym (o′ .nodes .count) ∙ ap (λ x. getD f (nodesAt x b′) 0) p ∙ ap (λ x. getD f (nodesAt a x) 0) q ∙ o .nodes .count)
+
+-- what a refusal for an operator says, at the counts of the file
+module _ (f : List ℕ) (a b c : ℕ) (o : Otherwise f a b c) (r : Refusal) (e : readOf f ≡ Refused r) (n : r .number ≡ lawBroken) where
+  told : (r .place < a) × (named (r .place) (nodeRecords f a b c) ≡ true) × Shows (operatorAt (operatorRecords f a) (r .place)) (r .law) (r .first) (r .second) (r .third)
+  told =
+      let w : BrokenLaw f r = refused-law f r e n in
+      let s = same-counts f a b c (w .operators) (w .atoms) (w .nodes) o (w .otherwise) in
+      (omega (arith, w .within, s .0), rw (s .0, s .1, s .2) at (w .used), rw (s .0) at (w .shows))
+
+  some-broken : SomeBroken f a b c
+  some-broken =
+      let g : Naming (r .place) (nodeRecords f a b c) = naming (r .place) (nodeRecords f a b c) (told .1) in
+      record {
+        node = g .node;
+        within = omega (arith, g .within, length-records c nodeLength (drop (nodesAt a b + 1) f));
+        operator = r .place;
+        named = g .names;
+        breaks = breaks (operatorAt (operatorRecords f a) (r .place)) (r .law) (r .first) (r .second) (r .third) (told .2);
+      }
+
+-- a node's operator that breaks a law: the laws are not kept
+not-laws : (f : List ℕ) (a b c : ℕ) → SomeBroken f a b c → ¬ LawsKept (operatorRecords f a) (nodeRecords f a b c)
+not-laws f a b c w k =
+    let os : List (List ℕ) = operatorRecords f a in
+    let g = k (w .node) (omega (arith, w .within, length-records c nodeLength (drop (nodesAt a b + 1) f))) in
+    not-kept (operatorAt os (w .operator)) (w .breaks)
+    (⊎-elim (λ e. subst (λ i. KeepsLaws (operatorAt os i)) (sym e) (g .0)) (λ e. subst (λ i. KeepsLaws (operatorAt os i)) (sym e) (g .1)) (w .named))
+
+pub demand-2 : Demand2
+unfolding answerOf
+demand-2 = record {
+  accepted = accepted-exactly;
+  eval = action-eval;
+  atoms = λ f l e. ap allAtoms (accepted-tree f l e .lists) ∙ accepted-atoms f l e;
+  scan = table-scans;
+  compiles = λ f t s l e enough fits. rw (e, le-ltb _ _ enough, le-ltb _ _ fits, accepted-fine f l e) refl;
+  law = λ f a b c o. (
+    λ w. some-broken f a b c o (w .refusal) (w .refused) (w .number),
+    λ w. let x = broken-refused f a b c o (not-laws f a b c w) in record { refusal = x .0; refused = x .1; number = x .2 },
+  );
+  shown = λ f a b c r o e n. let t = told f a b c o r e n in (t .0, t .2);
+  for-room = room-exactly;
+}

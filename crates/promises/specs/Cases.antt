@@ -1,0 +1,95 @@
+-- The scope's worked cases K1 to K12: one list, each with a call and what it gives.
+--
+--   Case, k n call gives   a call's answer and what the scope says of it, under the number n of the case
+--   Hold                   every call of a list gives what is said
+--   to                     a packet to an address, with zeros for the rest
+--   lent                   a buffer of zeros with room for four rows
+--   rowsOf f               the rows that the compile of a file leaves in such a buffer, as many as it answers
+--   cases                  the list
+use Prim.Native.Nat.{ℕ, _+_, _*_}
+use mathlib.Core.Path.{_≡_}
+use mathlib.Core.List.{List, [], _∷_, _++_}
+use Rattle.action.specs.Operator.{join, sibling, parent}
+use Rattle.action.specs.declared.Action.the-variants.{DontCare, Allow, Deny, Gmb}
+use Rattle.action.specs.declared.Law.the-variants.{Commutativity, Associativity}
+use Rattle.row.specs.Row.{rowLength}
+use Rattle.policy.specs.Numbers.{short, lawBroken}
+use Rattle.policy.specs.Read.{plain, readOf}
+use Rattle.policy.specs.Examples.{tenant, tenantWith, lone, lopsided}
+use Rattle.policy.specs.declared.Reading.the-variants as reading
+use Rattle.tree.specs.Action.{actionOf}
+use Rattle.tree.specs.declared.Evaluated.the-variants.{Gives}
+use Rattle.table.specs.Scan.{scanOf}
+use Rattle.table.specs.declared.Scanned.the-variants.{Found}
+use Rattle.priority.specs.Numbering.{numberOf, prioritiesAfter, chainAfter}
+use Rattle.priority.specs.declared.Numbered.the-variants.{Priorities}
+use Rattle.compile.specs.Compile.{zeros, answerOf, tableAfter, scratchAfter, rowCount}
+use Rattle.compile.specs.Theorems.{tableRows}
+use Rattle.compile.specs.declared.Compiled.the-variants.{Rows}
+
+-- a case: its number in the scope, a call, and what it gives
+pub record Case : Type 1 where
+  pub number : ℕ
+  pub Answer : Type 0
+  pub call : Answer
+  pub gives : Answer
+
+abbrev pub k : {X : Type 0} → ℕ → X → X → Case
+k {X} n call gives = record { number = n; Answer = X; call = call; gives = gives }
+
+-- every case of a list gives what it says
+abbrev pub Hold : List Case → Type 0
+Hold [] = Unit {0}
+Hold (c ∷ cs) = (c .call ≡ c .gives) × Hold cs
+
+-- an address by its four bytes
+abbrev pub address : ℕ → ℕ → ℕ → ℕ → ℕ
+address a b c d = ((a * 256 + b) * 256 + c) * 256 + d
+
+-- a packet to an address
+abbrev pub to : ℕ → List ℕ
+to destination = 0 ∷ 0 ∷ destination ∷ 0 ∷ 0 ∷ 0 ∷ []
+
+-- a buffer with room for four rows
+abbrev pub lent : List ℕ
+lent = zeros (4 * rowLength)
+
+-- the rows that the compile of a file leaves in such a buffer
+abbrev pub rowsOf : List ℕ → List ℕ
+rowsOf f = tableRows (rowCount (answerOf f lent lent)) (tableAfter f lent lent)
+
+-- a row that only asks for a destination prefix
+abbrev pub row : ℕ → ℕ → ℕ → ℕ → List ℕ
+row destination len kind rate = 0 ∷ 0 ∷ destination ∷ 0 ∷ 0 ∷ 0 ∷ 0 ∷ len ∷ 0 ∷ kind ∷ rate ∷ []
+
+abbrev pub cases : List Case
+cases =
+    k 1 (join sibling (Gmb 10) Allow) (Gmb 10)
+    ∷ k 2 (join sibling (Gmb 30) (Gmb 10)) (Gmb 30)
+    ∷ k 3 (join parent Deny Allow) Allow
+    ∷ k 4 (join parent (join parent (Gmb 5) Deny) Allow) Allow
+    ∷ k 4 (join parent (Gmb 5) (join parent Deny Allow)) (Gmb 5)
+    ∷ k 5 (answerOf (lone sibling) lent lent) (Rows 0)
+    ∷ k 5 (numberOf (rowsOf (lone sibling)) 0 0) (Priorities 0)
+    ∷ k 5 (actionOf (lone sibling) (to (address 10 7 3 9))) (Gives DontCare)
+    ∷ k 5 (scanOf (rowsOf (lone sibling)) (to (address 10 7 3 9))) (Found DontCare 0)
+    ∷ k 6 (actionOf tenant (to (address 10 7 3 9))) (Gives (Gmb 40000))
+    ∷ k 6 (scanOf (rowsOf tenant) (to (address 10 7 3 9))) (Found (Gmb 40000) 1)
+    ∷ k 7 (actionOf tenant (to (address 10 7 3 10))) (Gives Deny)
+    ∷ k 7 (scanOf (rowsOf tenant) (to (address 10 7 3 10))) (Found Deny 2)
+    ∷ k 8 (actionOf tenant (to (address 10 8 0 1))) (Gives DontCare)
+    ∷ k 8 (scanOf (rowsOf tenant) (to (address 10 8 0 1))) (Found DontCare 3)
+    ∷ k 9 (answerOf tenant lent lent) (Rows 3)
+    ∷ k 9 (tableAfter tenant lent lent) (row (address 10 7 3 9) 32 3 40000 ++ row (address 10 7 0 0) 16 2 0 ++ row (address 10 7 3 9) 32 3 40000 ++ zeros rowLength)
+    ∷ k 9 (scratchAfter tenant lent lent) lent
+    ∷ k 9 (numberOf (rowsOf tenant) 3 3) (Priorities 3)
+    ∷ k 9 (prioritiesAfter (rowsOf tenant) (zeros 3) (zeros 3)) (3 ∷ 2 ∷ 1 ∷ [])
+    ∷ k 9 (chainAfter (rowsOf tenant) (zeros 3) (zeros 3)) (0 ∷ 1 ∷ 2 ∷ [])
+    ∷ k 10 (readOf (tenantWith 1)) (reading.Refused (record { number = lawBroken; place = 1; law = Commutativity; first = Allow; second = Deny; third = DontCare }))
+    ∷ k 11 (readOf (lone lopsided)) (reading.Refused (record { number = lawBroken; place = 0; law = Associativity; first = Allow; second = Deny; third = Gmb 1 }))
+    ∷ k 12 (readOf []) (reading.Refused (plain short 0))
+    ∷ []
+
+-- K1 TO K12: every case of the list gives what it says
+abbrev pub WorkedCases : Type 0
+WorkedCases = Hold cases
