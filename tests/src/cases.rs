@@ -46,7 +46,7 @@ impl Maker<'_> {
         let tiny = World::tiny(&mut self.random);
         let big = Size::big(&mut self.random);
         let middling = Size::middling(&mut self.random);
-        match kind % 12 {
+        match kind % 13 {
             0 => self.limit_read(&wide),
             1 => self.action(&wide, big),
             2 => self.action(&tiny, big),
@@ -67,6 +67,7 @@ impl Maker<'_> {
             }
             9 => self.listing(&wide, big),
             10 => self.listing(&tiny, middling),
+            11 => self.listing_to_the_edge(),
             _ => self.long_listing(&wide),
         }
     }
@@ -150,21 +151,49 @@ impl Maker<'_> {
         self.compile_with(file, table, scratch)
     }
 
-    /// Open atoms of one node make 2^k - 1 rows: a room just large enough, or
-    /// one row too small.
+    /// A large room that is used to the last row, or one row too small.
     fn compile_to_the_edge(&mut self) -> Call {
+        let rows = self.random.pick(&[255, 1_024, 4_094, 4_095, 4_096, 4_097]);
+        let file = self.draft_of_rows(rows).words();
+        let table = 11 * (rows - self.random.below(2)) + self.random.below(11);
+        let scratch = 11 * (table / 11).min(MOST_ROWS);
+        self.compile_with(file, table, scratch)
+    }
+
+    /// A listing around its room of 1,024 rows.
+    fn listing_to_the_edge(&mut self) -> Call {
+        let rows = self.random.pick(&[1_023, 1_024, 1_025]);
+        let bytes = to_bytes(&self.draft_of_rows(rows).words());
+        Call::Listing { bytes }
+    }
+
+    /// A policy of exactly so many rows: k atoms of one in-port make 2^k - 1
+    /// rows in whatever tree, and those of different in-ports have nothing in common.
+    fn draft_of_rows(&mut self, rows: usize) -> Draft {
         let world = World::open(&mut self.random);
+        let mut in_ports = Vec::new();
+        let mut left = rows;
+        for in_port in 0.. {
+            let atoms = (left + 1).ilog2();
+            if atoms == 0 {
+                break;
+            }
+            in_ports.extend(vec![in_port; atoms as usize]);
+            left -= (1 << atoms) - 1;
+        }
         let size = Size {
-            operators: 1,
-            atoms: self.random.within(8, 13),
+            operators: 2,
+            atoms: in_ports.len(),
             nodes: self.random.pick(&[1, 2, 9]),
             deepest: 16,
         };
-        let file = self.draft(&world, size).words();
-        let rows = ((1 << size.atoms) - self.random.within(1, 2)).min(4_100);
-        let table = 11 * rows;
-        let scratch = table.min(11 * MOST_ROWS);
-        self.compile_with(file, table, scratch)
+        let mut draft = self.draft(&world, size);
+        for (atom, in_port) in draft.atoms.iter_mut().zip(in_ports) {
+            *atom = world.row(&mut self.random);
+            atom[0] = in_port;
+            atom[8] = 1;
+        }
+        draft
     }
 
     /// Words of a table with this many rows, right three times in four.

@@ -49,6 +49,8 @@ pub fn known() -> Vec<Known> {
     cases.extend(laws());
     cases.extend(empty_file());
     cases.extend(doubling());
+    cases.extend(full_rooms());
+    cases.extend(large_sums());
     cases
 }
 
@@ -220,12 +222,24 @@ fn empty_file() -> Vec<Known> {
     ]
 }
 
-/// One node of open atoms doubles its rows with each atom.
+/// A Deny atom for one in-port; atoms of different in-ports do not overlap.
+fn at_port(in_port: u32) -> [u32; 11] {
+    [in_port, 0, 0, 0, 0, 0, 0, 0, 1, 2, 0]
+}
+
+const OPEN: [u32; 11] = [0, 0, 0, 0, 0, 0, 0, 0, 0, 2, 0];
+
+fn one_node(atoms: &[[u32; 11]]) -> Vec<u32> {
+    let count = atoms.len() as u32;
+    let nodes = [1, 0, 0, 0, count, 0];
+    [&[1][..], &SIBLING, &[count], &atoms.concat(), &nodes].concat()
+}
+
+/// One node of k atoms that all overlap has 2^k - 1 rows, all overlapping.
 fn doubling() -> Vec<Known> {
-    let file = |atoms: usize| chain_of_nodes(PARENT, &[&vec![DENY; atoms]]);
-    let open_row = [0, 0, 0, 0, 0, 0, 0, 0, 0, 2, 0];
+    let open = |atoms: usize| one_node(&vec![OPEN; atoms]);
     let compile = |atoms: usize| Call::Compile {
-        file: file(atoms),
+        file: open(atoms),
         table: vec![3; 45_056],
         scratch: vec![4; 45_056],
     };
@@ -233,21 +247,59 @@ fn doubling() -> Vec<Known> {
     for priority in (1..=1_023).rev() {
         text += &format!("{priority} * 0.0.0.0/0 0.0.0.0/0 * * * deny\n");
     }
-    let twelve = [
-        &[4_095][..],
-        &open_row.repeat(4_095),
-        &[0; 11],
-        &[0; 45_056],
-    ]
-    .concat();
+    let twelve = [&[4_095][..], &OPEN.repeat(4_095), &[0; 11], &[0; 45_056]].concat();
     vec![
-        listing("10 open atoms listed", &to_bytes(&file(10)), &text),
+        listing("10 open atoms listed", &to_bytes(&open(10)), &text),
         listing(
             "11 open atoms listed",
-            &to_bytes(&file(11)),
+            &to_bytes(&open(11)),
             "refused 12 0\n",
         ),
         case("12 open atoms", compile(12), success(&twelve)),
         case("13 open atoms", compile(13), refused(12, 0, 1 + 90_112)),
+    ]
+}
+
+/// Rooms that are used to the last row, and one row too few of them.
+fn full_rooms() -> Vec<Known> {
+    let file =
+        |atoms: usize, others: &[[u32; 11]]| one_node(&[&vec![at_port(1); atoms], others].concat());
+    let compile = |others: &[[u32; 11]]| Call::Compile {
+        file: file(12, others),
+        table: vec![3; 45_100],
+        scratch: vec![4; 45_056],
+    };
+    let mut text = "rows 1024 priorities 1023\n".to_string();
+    for priority in (1..=1_023).rev() {
+        text += &format!("{priority} 1 0.0.0.0/0 0.0.0.0/0 * * * deny\n");
+    }
+    text += "1023 2 0.0.0.0/0 0.0.0.0/0 * * * deny\n";
+    let rows = [at_port(1).repeat(4_095), at_port(2).to_vec()].concat();
+    let full = [&[4_096][..], &rows, &[0; 44], &[0; 45_056]].concat();
+    let two = [at_port(2)];
+    let three = [at_port(2), at_port(3)];
+    vec![
+        listing("1024 rows listed", &to_bytes(&file(10, &two)), &text),
+        listing(
+            "1025 rows listed",
+            &to_bytes(&file(10, &three)),
+            "refused 12 0\n",
+        ),
+        case("4096 rows", compile(&two), success(&full)),
+        case("4097 rows", compile(&three), refused(12, 0, 1 + 90_156)),
+    ]
+}
+
+/// Own-atom counts whose sum is a round number in binary, and no atoms.
+fn large_sums() -> Vec<Known> {
+    let read = |nodes: u32| {
+        let root = [0, 0, 0, 1_024, nodes - 1];
+        let leaves = [0, 0, 0, 1_024, 0].repeat(nodes as usize - 1);
+        let file = [&[1][..], &SIBLING, &[0, nodes], &root, &leaves].concat();
+        Call::Read { file }
+    };
+    vec![
+        case("own atoms sum to 65536", read(64), refused(9, 0, 3)),
+        case("own atoms sum to 262144", read(256), refused(9, 0, 3)),
     ]
 }

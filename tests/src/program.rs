@@ -5,7 +5,7 @@ use std::path::{Path, PathBuf};
 use std::process::{Command, Stdio};
 use std::thread;
 
-use crate::calls::{to_bytes, to_words, Call};
+use crate::calls::{text_of_answer, to_bytes, to_words, Call};
 use crate::model::answers::answer;
 
 /// What answers the calls: a program of its own, or the model itself.
@@ -82,8 +82,12 @@ impl Program {
                 }
             }
         }
-        let answered = got.len();
-        let report = format!("{trouble}; {answered} of {} calls answered", calls.len());
+        let report = format!(
+            "{}: {trouble}; {} of {} calls answered",
+            calls[0].name(),
+            got.len(),
+            calls.len()
+        );
         Difference {
             calls: calls.to_vec(),
             report,
@@ -108,38 +112,32 @@ fn run_binary(path: &Path, calls: &[Call]) -> std::io::Result<Answers> {
     output.read_to_end(&mut bytes)?;
     let status = child.wait()?;
     writer.join().expect("the writer does not panic");
-    let answers = split(calls, &bytes);
-    Ok(match answers {
-        Ok(answers) if status.success() => Answers {
-            answers,
-            trouble: None,
-        },
-        Ok(answers) => Answers {
-            answers,
-            trouble: Some(format!("the program ended with {status}")),
-        },
-        Err((answers, trouble)) => Answers {
-            answers,
-            trouble: Some(format!("{trouble}; the program ended with {status}")),
-        },
-    })
+    let mut answers = split(calls, &bytes);
+    if !status.success() {
+        let trouble = answers.trouble.unwrap_or("all is answered".to_string());
+        answers.trouble = Some(format!("{trouble}; the program ended with {status}"));
+    }
+    Ok(answers)
 }
 
 /// The output parted into answers; the whole of it must be used up.
-fn split(calls: &[Call], bytes: &[u8]) -> Result<Vec<Vec<u32>>, (Vec<Vec<u32>>, &'static str)> {
+fn split(calls: &[Call], bytes: &[u8]) -> Answers {
     let words = to_words(bytes);
     let mut rest = &words[..];
     let mut answers = Vec::new();
+    let mut trouble = None;
     for call in calls {
         match call.take_answer(&mut rest) {
             Some(answer) => answers.push(answer),
-            None => return Err((answers, "an answer is missing")),
+            None => break,
         }
     }
-    if !rest.is_empty() || bytes.len() % 4 != 0 {
-        return Err((answers, "there is output after the last answer"));
+    if answers.len() < calls.len() {
+        trouble = Some("an answer is missing".to_string());
+    } else if !rest.is_empty() || !bytes.len().is_multiple_of(4) {
+        trouble = Some("there is output after the last answer".to_string());
     }
-    Ok(answers)
+    Answers { answers, trouble }
 }
 
 fn difference(call: &Call, expected: &[u32], got: &[u32]) -> Difference {
@@ -169,7 +167,10 @@ pub fn compare(call: &Call, expected: &[u32], got: &[u32]) -> String {
 /// An answer's first words, and some around the one that matters.
 fn show(call: &Call, answer: &[u32], around: usize) -> String {
     if let Call::Listing { .. } = call {
-        return format!("{:?}", crate::calls::text_of_answer(answer));
+        let text = text_of_answer(answer);
+        let from = (4 * around).saturating_sub(60);
+        let near: String = text.chars().skip(from).take(200).collect();
+        return format!("{} bytes, from byte {from}: {near:?}", text.len());
     }
     let head = &answer[..answer.len().min(12)];
     if around < 12 {

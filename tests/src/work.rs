@@ -16,7 +16,7 @@ use crate::tally::Tally;
 const THREADS: usize = 2;
 /// Small cases in a part, so that a run of the program gets several thousand.
 const SMALL: usize = 3_000;
-const BIG: usize = 12;
+const BIG: usize = 13;
 /// Big parts for each seed.
 const BIG_PARTS: usize = 14;
 /// Compiled tables, and drawn tables, in a part of properties.

@@ -17,7 +17,7 @@ pub fn listing(bytes: &[u8]) -> String {
 }
 
 fn rows(bytes: &[u8]) -> Result<Vec<Row>, Refusal> {
-    if bytes.len() % 4 != 0 || bytes.len() > MOST_BYTES {
+    if !bytes.len().is_multiple_of(4) || bytes.len() > MOST_BYTES {
         return Err(refusal(18, 0));
     }
     let word = |four: &[u8]| u32::from_le_bytes(four.try_into().expect("four bytes"));

@@ -68,7 +68,7 @@ pub fn compile(tree: &Tree, room: usize) -> Result<Vec<Row>, Full> {
 
 /// A lent table: refusals 15 and 16.
 pub fn read_table(words: &[u32]) -> Result<Vec<Row>, Refusal> {
-    if words.len() % 11 != 0 || words.len() / 11 > MOST_ROWS {
+    if !words.len().is_multiple_of(11) || words.len() / 11 > MOST_ROWS {
         return Err(refusal(15, 0));
     }
     let mut rows = Vec::new();
