@@ -9,9 +9,11 @@ use crate::random::Random;
 use crate::stock::Stock;
 use crate::world::{Row, World};
 
-/// The longest file and listing input that the program under test takes.
+/// The longest file and listing input that the program under test takes at all.
 const MOST_FILE_WORDS: usize = 13_000;
-const MOST_LISTING_BYTES: usize = 51_340;
+const MOST_INPUT_BYTES: usize = 52_000;
+/// The longest file in bytes, which is also what the listing reads at most.
+const LONGEST_FILE_BYTES: usize = 51_340;
 
 pub struct Maker<'a> {
     pub random: Random,
@@ -80,10 +82,11 @@ impl Maker<'_> {
     fn file(&mut self, world: &World, size: Size, right: usize) -> Vec<u32> {
         let draft = self.draft(world, size);
         if self.random.percent(right) {
-            draft.words()
-        } else {
-            damaged(&mut self.random, self.stock, world, &draft)
+            return draft.words();
         }
+        let mut words = damaged(&mut self.random, self.stock, world, &draft);
+        words.truncate(MOST_FILE_WORDS);
+        words
     }
 
     fn packet(&mut self, world: &World, right: usize) -> Vec<u32> {
@@ -266,17 +269,18 @@ impl Maker<'_> {
             3 if self.random.percent(20) => bytes.clear(),
             _ => {}
         }
+        bytes.truncate(MOST_INPUT_BYTES);
         Call::Listing { bytes }
     }
 
     /// The longest file with nothing, a little, or more than the most behind it.
     fn long_listing(&mut self, world: &World) -> Call {
         let mut bytes = to_bytes(&self.draft(world, Size::LARGEST).words());
-        assert_eq!(bytes.len(), MOST_LISTING_BYTES);
-        let length = MOST_LISTING_BYTES + self.random.pick(&[0, 0, 1, 4, 8, 660]);
+        assert_eq!(bytes.len(), LONGEST_FILE_BYTES);
+        let length = LONGEST_FILE_BYTES + self.random.pick(&[0, 0, 1, 4, 8, 660]);
         bytes.resize(length, 0);
         if self.random.percent(20) {
-            bytes.truncate(MOST_LISTING_BYTES - self.random.within(1, 5));
+            bytes.truncate(LONGEST_FILE_BYTES - self.random.within(1, 5));
         }
         Call::Listing { bytes }
     }

@@ -13,9 +13,9 @@ const UNREACHABLE: usize = 14;
 pub struct Tally {
     /// By call code less 1, then by refusal number; 0 is a success.
     numbers: [[usize; NUMBERS + 1]; 6],
-    /// Successes that made, scanned, numbered or listed some row, by call.
-    with_rows: [usize; 6],
-    most_rows: [usize; 6],
+    /// Successes with a size over 0, and the largest size, by call.
+    sized: [usize; 6],
+    largest: [usize; 6],
     /// Different places of each refusal.
     places: [HashSet<u32>; NUMBERS + 1],
     /// Refusals 10 by law.
@@ -35,9 +35,9 @@ impl Tally {
             self.laws[answer[2] as usize % 3] += 1;
         }
         if number == 0 {
-            let rows = rows(call, answer);
-            self.with_rows[function] += usize::from(rows > 0);
-            self.most_rows[function] = self.most_rows[function].max(rows);
+            let size = size(call, answer);
+            self.sized[function] += usize::from(size > 0);
+            self.largest[function] = self.largest[function].max(size);
             if let Call::Number { .. } = call {
                 self.most_priorities = self.most_priorities.max(answer[2]);
             }
@@ -49,8 +49,8 @@ impl Tally {
             for number in 0..=NUMBERS {
                 self.numbers[function][number] += other.numbers[function][number];
             }
-            self.with_rows[function] += other.with_rows[function];
-            self.most_rows[function] = self.most_rows[function].max(other.most_rows[function]);
+            self.sized[function] += other.sized[function];
+            self.largest[function] = self.largest[function].max(other.largest[function]);
         }
         for (places, more) in self.places.iter_mut().zip(other.places) {
             places.extend(more);
@@ -79,17 +79,18 @@ impl Tally {
 
     pub fn report(&self) -> String {
         let mut text = format!("{} calls compared word for word\n", self.cases());
-        text += "function      calls  successes  with rows  most rows\n";
+        text += "function      calls  successes  size over 0    largest\n";
         for (function, name) in NAMES.iter().enumerate() {
             let numbers = &self.numbers[function];
             text += &format!(
-                "{name:<9} {:>9} {:>10} {:>10} {:>10}\n",
+                "{name:<9} {:>9} {:>10} {:>12} {:>10}\n",
                 numbers.iter().sum::<usize>(),
                 numbers[0],
-                self.with_rows[function],
-                self.most_rows[function]
+                self.sized[function],
+                self.largest[function]
             );
         }
+        text += "(size: rows made, tried, numbered or listed; atoms read; an action that cares)\n";
         text += "refusal    times  different places\n";
         for number in 1..=NUMBERS {
             let places = self.places[number].len();
@@ -119,9 +120,9 @@ fn number_and_place(call: &Call, answer: &[u32]) -> (u32, u32) {
     (number(), number())
 }
 
-/// The rows behind a success: made, matched, numbered or listed. For the
-/// tree's action 1 or 0, whether it is anything but don't care.
-fn rows(call: &Call, answer: &[u32]) -> usize {
+/// The size of a success: rows made, tried, numbered or listed, atoms read. For
+/// the tree's action 1 or 0, whether it is anything but don't care.
+fn size(call: &Call, answer: &[u32]) -> usize {
     match call {
         Call::Read { .. } => answer[10] as usize,
         Call::Action { .. } => usize::from(answer[9] != 0),
