@@ -1,0 +1,31 @@
+//! The scope once more, as plain Rust. Nothing here is taken from the product:
+//! words become ordinary values first (a match is a struct of options, a policy
+//! is a real tree), so that a mistake is unlikely to be made twice.
+
+pub mod answers;
+pub mod fields;
+pub mod file;
+pub mod listing;
+pub mod operator;
+pub mod priorities;
+pub mod rows;
+pub mod tree;
+
+use operator::Failure;
+
+/// A refusal: its number, its place, and the broken law where there is one.
+#[derive(Clone, Copy, PartialEq, Eq, Debug)]
+pub struct Refusal {
+    pub number: u32,
+    pub place: u32,
+    pub failure: Option<Failure>,
+}
+
+/// A refusal that names no law.
+pub fn refusal(number: u32, place: usize) -> Refusal {
+    Refusal {
+        number,
+        place: place as u32,
+        failure: None,
+    }
+}

@@ -1,0 +1,54 @@
+//! A policy as a real tree, and the tree's action.
+
+use super::fields::{Action, Packet};
+use super::file::{Atom, Policy};
+use super::operator::Operator;
+
+#[derive(Debug)]
+pub struct Tree {
+    pub inner: Operator,
+    pub parent: Operator,
+    pub sibling: Operator,
+    pub atoms: Vec<Atom>,
+    pub children: Vec<Tree>,
+}
+
+impl Tree {
+    pub fn build(policy: &Policy) -> Tree {
+        let (mut next_node, mut next_atom) = (0, 0);
+        build(policy, &mut next_node, &mut next_atom)
+    }
+
+    pub fn action(&self, packet: &Packet) -> Action {
+        let mut own = Action::DontCare;
+        for atom in self.atoms.iter().rev() {
+            if atom.matching.is_some_and(|m| m.meets(packet)) {
+                own = self.inner.join(atom.action, own);
+            }
+        }
+        let mut below = Action::DontCare;
+        for child in self.children.iter().rev() {
+            below = self.sibling.join(child.action(packet), below);
+        }
+        self.parent.join(own, below)
+    }
+}
+
+/// The subtree whose root is the next node in the list.
+fn build(policy: &Policy, next_node: &mut usize, next_atom: &mut usize) -> Tree {
+    let node = policy.nodes[*next_node];
+    *next_node += 1;
+    let atoms = policy.atoms[*next_atom..*next_atom + node.atoms].to_vec();
+    *next_atom += node.atoms;
+    let mut children = Vec::new();
+    for _ in 0..node.children {
+        children.push(build(policy, next_node, next_atom));
+    }
+    Tree {
+        inner: policy.operators[node.inner],
+        parent: policy.operators[node.parent],
+        sibling: policy.operators[node.sibling],
+        atoms,
+        children,
+    }
+}
