@@ -2,11 +2,13 @@
 use Prim.Native.Nat.{ℕ, suc, _≤_, _<_}
 use native.Mathlib.Omega.{arith}
 use mathlib.Core.Path.{_≡_, refl, sym, ap, _∙_}
-use mathlib.Core.Bool.{Bool, true}
+use mathlib.Core.Bool.{Bool, true, _&&_, and-eq-true-iff}
 use mathlib.Core.Logic.{_↔_}
 use mathlib.Core.List.{List}
 use lib.ListN.{length, getD, take, drop}
-use borrow.Author.Tests.{le-leb}
+use lib.Dec.{leb}
+use borrow.Author.Tests.{le-leb, leb-true}
+use Rattle.logic.proofs.Tests.{by-test}
 use Rattle.words.specs.Words.{laid}
 use Rattle.words.proofs.Laid.{length-laid, take-laid, drop-laid, getD-laid}
 use Rattle.theory.specs.Rows.{matchesAt}
@@ -20,14 +22,16 @@ use Rattle.flow.specs.Packet.{packetOf}
 use Rattle.flow.specs.Match.{meets, overlap}
 use Rattle.flow.proofs.Matches.{overlap-exactly, meets-overlap}
 use Rattle.action.specs.declared.Action.the-variants.{DontCare}
-use Rattle.table.specs.Table.{rowCount, rowsIn, past}
+use Rattle.table.specs.Table.{rowCount, rowsIn, past, checkOf}
+use Rattle.table.specs.declared.Checked.{Checked}
+use Rattle.table.specs.declared.Checked.the-variants.{Rows, Wrong}
 use Rattle.table.specs.Scan.{scanAction}
 use Rattle.table.specs.Theorems.{RightTable}
 use Rattle.table.proofs.Tables.{length-rows, right-row-at, check-exactly}
 use Rattle.table.proofs.Scans.{scan-found}
-use Rattle.priority.specs.Numbering.{over, levelsOf, prioritiesOf, chainOf, numberOf, prioritiesAfter, chainAfter}
+use Rattle.priority.specs.Numbering.{shortBuffer, over, levelsOf, prioritiesOf, chainOf, numbered, numberOf, prioritiesAfter, chainAfter}
 use Rattle.priority.specs.Theorems.{Ready, Shared, count, priority, link, AnswerCounts, EarlierHigher, PrioritiesUsed, FewestNumbers, ChainForces, SwitchScans, SwitchObeys, WordsStay, RefusedStays}
-use Rattle.priority.specs.declared.Numbered.the-variants.{Priorities}
+use Rattle.priority.specs.declared.Numbered.the-variants.{Priorities, Refused}
 use Rattle.priority.proofs.Whole.{levels-many, levels-few, priorities-many}
 
 -- rows of a right table overlap exactly where some packet in range matches both
@@ -54,7 +58,7 @@ module _ (ws ps cs : List ℕ) (r : Ready ws ps cs) where
   counted : count ws ps cs ≡ levelCount (levelsOf ws)
   counted = rw answered
 
-  priorities-left : prioritiesAfter ws ps cs ≡ laid 0 (prioritiesOf ws) ps
+  pub priorities-left : prioritiesAfter ws ps cs ≡ laid 0 (prioritiesOf ws) ps
   unfolding prioritiesAfter
   priorities-left = rw answered
 
@@ -86,6 +90,23 @@ module _ (ws ps cs : List ℕ) (r : Ready ws ps cs) where
       let n : length (rowsIn ws) ≡ rowCount ws = length-rows ws in
       let l : i < rowCount ws = omega arith in
       rw (priority-is i l, priority-is j (omega arith)) (numbers-right ws j i h l o)
+
+-- where the answer is a count, the table is right and the buffers are long enough
+pub number-ready : (ws ps cs : List ℕ) (l : ℕ) → numberOf ws (length ps) (length cs) ≡ Priorities l → Ready ws ps cs
+unfolding numberOf
+number-ready ws ps cs l = from (checkOf ws) refl
+  where
+    from : (x : Checked) → checkOf ws ≡ x → numbered x (length ps) (length cs) (levelCount (levelsOf ws)) ≡ Priorities l → Ready ws ps cs
+    from (Rows n) e =
+        let t : RightTable ws × (n ≡ rowCount ws) = check-exactly ws n .0 e in
+        by-test (leb n (length ps) && leb n (length cs))
+        (λ b q.
+        let h = simp and-eq-true-iff at b in
+        record { right = t .0; priorities = omega (arith, t .1, leb-true n (length ps) (h .0)); chain = omega (arith, t .1, leb-true n (length cs) (h .1)) })
+        (λ b q.
+        let q′ : Refused shortBuffer 0 ≡ Priorities l = rw b at q in
+        let z : _≡_ {A = ℕ} 0 1 = cc in absurd (omega arith))
+    from (Wrong n i) e = λ q. let z : _≡_ {A = ℕ} 0 1 = cc in absurd (omega arith)
 
 pub answer-counts : AnswerCounts
 answer-counts ws ps cs r = answered ws ps cs r ∙ ap Priorities (sym (counted ws ps cs r))

@@ -1,0 +1,3 @@
+pub mod Putting
+pub mod Turns
+pub mod Listed

@@ -1,0 +1,134 @@
+-- What the parts of the listing put is the listing's text, answer by answer. Assumes nothing.
+use Prim.Native.Nat.{ℕ, _*_, _/_, _≤_}
+use native.Mathlib.Omega.{arith}
+use mathlib.Core.Path.{_≡_, sym, ap, ap₂, subst, _∙_}
+use mathlib.Core.Bool.{true, false, and-eq-true-iff}
+use mathlib.Core.List.{List}
+use lib.ListN.{length, take}
+use lib.Seq.{take-all}
+use borrow.Author.Tests.{leb-true}
+use Rattle.logic.proofs.Tests.{by-le}
+use Rattle.words.specs.Words.{laid, copied}
+use Rattle.words.specs.Bytes.{wordBytes, wordsIn}
+use Rattle.words.proofs.Laid.{copied-fits, length-copied, length-laid, take-laid}
+use Rattle.words.proofs.Bytes.{length-words}
+use Rattle.action.specs.declared.Action.{Action}
+use Rattle.flow.specs.Match.{matchOf}
+use Rattle.flow.specs.declared.Match.{Match}
+use Rattle.row.specs.Row.{rowLength, rowOf, rowAction}
+use Rattle.table.specs.Table.{mostRows, rowCount, rowsIn}
+use Rattle.table.proofs.Tables.{check-exactly}
+use Rattle.policy.specs.Numbers.{longestFile}
+use Rattle.policy.specs.declared.Refusal.{Refusal}
+use Rattle.compile.specs.Compile.{answerOf, tableAfter, Compiles}
+use Rattle.compile.specs.Compile as compile
+use Rattle.compile.specs.Theorems.{tableRows}
+use Rattle.compile.specs.declared.Compiled.{Compiled}
+use Rattle.compile.specs.declared.Compiled.the-variants.{Rows}
+use Rattle.compile.specs.declared.Compiled.the-variants as compiled
+use Rattle.compile.proofs.Scanned.{answers-rows, table-right}
+use Rattle.priority.specs.Numbering.{prioritiesOf, numberOf, Answered}
+use Rattle.priority.specs.Theorems.{Ready}
+use Rattle.priority.specs.declared.Numbered.{Numbered}
+use Rattle.priority.specs.declared.Numbered.the-variants as numbered
+use Rattle.priority.proofs.After.{number-ready, priorities-left}
+use Rattle.priority.proofs.Whole.{priorities-many}
+use Rattle.text.specs.Text.{number, matchText, actionText, line, lines, head, refusal}
+use Rattle.text.specs.Puts.{Puts}
+use Rattle.text.specs.Listing.{wrongInput, room, rightInput, blank, tableText, fileText, listingOf}
+use Rattle.text.proofs.Putting.{_then_}
+
+-- a row's line
+pub line-put : (ws : List ℕ) (p : ℕ) {l l₁ l₂ l₃ : List ℕ} {a b c d : ℕ} (m : Match) (x : Action) → m ≡ matchOf ws → x ≡ rowAction ws
+    → Puts (number p 32) l a l₁ b → Puts (matchText m) l₁ b l₂ c → Puts (actionText x) l₂ c l₃ d → Puts (line p (rowOf ws)) l a l₃ d
+unfolding line
+line-put ws k {l₁ = l₁} {l₂} {l₃} {b = b} {c} {d} m x e f p q r = p then subst (λ y. Puts (matchText y) l₁ b l₂ c) e q then subst (λ y. Puts (actionText y) l₂ c l₃ d) f r
+
+-- the words of an input, where it is right
+module _ (b : List ℕ) (right : rightInput b ≡ true) where
+  pub input-fits : length b / wordBytes ≤ longestFile
+  unfolding rightInput
+  input-fits =
+      let h = simp and-eq-true-iff at right in
+      omega (arith, leb-true (length b) (wordBytes * longestFile) (h .1))
+
+  pub input-words : (l l′ : List ℕ) → length l ≡ longestFile → l′ ≡ copied 0 (wordsIn b) l → take (length b / wordBytes) l′ ≡ wordsIn b
+  input-words l l′ n e =
+      let k : length (wordsIn b) ≡ length b / wordBytes = length-words b in
+      let f : length b / wordBytes ≤ length l = omega (arith, input-fits) in
+      ap (take (length b / wordBytes)) (e ∙ copied-fits 0 (wordsIn b) l (omega arith)) ∙ take-laid (wordsIn b) l (length b / wordBytes) k f
+
+  pub input-within : (l l′ : List ℕ) → length l ≡ longestFile → l′ ≡ copied 0 (wordsIn b) l → length b / wordBytes ≤ length l′
+  input-within l l′ n e =
+      let k : length l′ ≡ length l = ap length e ∙ length-copied 0 (wordsIn b) l in
+      omega (arith, input-fits)
+
+  pub input-listed : (f : List ℕ) {l m : List ℕ} {r : ℕ} → f ≡ wordsIn b → Puts (fileText f) l 0 m r → Puts (listingOf b) l 0 m r
+  unfolding listingOf
+  input-listed f {l} {m} {r} e p = rw right (subst (λ x. Puts (fileText x) l 0 m r) e p)
+
+pub input-refused : (b : List ℕ) {l m : List ℕ} {r : ℕ} → rightInput b ≡ false → Puts (refusal wrongInput 0) l 0 m r → Puts (listingOf b) l 0 m r
+unfolding listingOf
+input-refused b e p = rw e p
+
+-- the table of a file, where the compile answers rows
+module _ {f t s t′ s′ : List ℕ} {r : Compiled} (c : Compiles f t s t′ s′ r) where
+  pub file-few : {n : ℕ} → r ≡ Rows n → n ≤ mostRows
+  file-few {n} e = omega (arith, answers-rows f t s n (sym (c .answer) ∙ e) .fits)
+
+  pub file-fits : {n : ℕ} → r ≡ Rows n → n * rowLength ≤ length t′
+  file-fits {n} e =
+      let q : n ≡ rowCount (take (n * rowLength) (tableAfter f t s)) = check-exactly (tableRows n (tableAfter f t s)) n .0 (table-right f t s n (sym (c .answer) ∙ e)) .1 in
+      let k : n ≡ rowCount (take (n * rowLength) t′) = q ∙ ap (λ x. rowCount (take (n * rowLength) x)) (sym (c .table)) in
+      by-le (n * rowLength) (length t′) (λ h. h) (λ h.
+      let z : n ≡ rowCount t′ = k ∙ ap rowCount (take-all (n * rowLength) t′ (omega arith)) in
+      absurd (omega arith))
+
+  module _ (bt : t ≡ blank) (bs : s ≡ blank) where
+    answer-blank : r ≡ answerOf f blank blank
+    answer-blank = c .answer ∙ ap₂ (answerOf f) bt bs
+
+    table-blank : t′ ≡ tableAfter f blank blank
+    table-blank = c .table ∙ ap₂ (tableAfter f) bt bs
+
+    pub file-listed : {n : ℕ} {l m : List ℕ} {i : ℕ} → r ≡ Rows n → Puts (tableText (take (n * rowLength) t′)) l 0 m i → Puts (fileText f) l 0 m i
+    unfolding fileText
+    file-listed {n} {l} {m} {i} e p =
+        let q : answerOf f blank blank ≡ Rows n = sym answer-blank ∙ e in
+        rw q (subst (λ x. Puts (tableText (take (n * rowLength) x)) l 0 m i) table-blank p)
+
+    pub file-refused : {x : Refusal} {l m : List ℕ} {i : ℕ} → r ≡ compiled.Refused x → Puts (refusal (x .number) (x .place)) l 0 m i → Puts (fileText f) l 0 m i
+    unfolding fileText
+    file-refused {x} e p = let q : answerOf f blank blank ≡ compiled.Refused x = sym answer-blank ∙ e in rw q p
+
+-- the rows of a table, where the numbering answers a count
+module _ (t ps cs : List ℕ) {ps′ cs′ : List ℕ} {r : Numbered} (c : Answered t ps cs r ps′ cs′) where
+  module _ {l : ℕ} (e : r ≡ numbered.Priorities l) where
+    ready : Ready t ps cs
+    ready = number-ready t ps cs l (sym (c .0) ∙ e)
+
+    stored : ps′ ≡ laid 0 (prioritiesOf t) ps
+    stored = c .1 ∙ priorities-left t ps cs ready
+
+    pub table-within : rowCount t ≤ length ps′
+    table-within =
+        let k : length ps′ ≡ length ps = ap length stored ∙ length-laid 0 (prioritiesOf t) ps in
+        omega (arith, ready .priorities)
+
+    table-numbers : take (rowCount t) ps′ ≡ prioritiesOf t
+    table-numbers = ap (take (rowCount t)) stored ∙ take-laid (prioritiesOf t) ps (rowCount t) (priorities-many t) (ready .priorities)
+
+  module _ (np : length ps ≡ room) (nc : length cs ≡ room) where
+    answer-room : r ≡ numberOf t room room
+    answer-room = c .0 ∙ ap₂ (numberOf t) np nc
+
+    pub table-listed : {l : ℕ} {o o₁ o₂ : List ℕ} {a b : ℕ} → r ≡ numbered.Priorities l → Puts (head (rowCount t) l) o 0 o₁ a → Puts (lines (take (rowCount t) ps′) (rowsIn t)) o₁ a o₂ b
+        → Puts (tableText t) o 0 o₂ b
+    unfolding tableText
+    table-listed {l} {o} {o₁} {o₂} {a} {b} e p q =
+        let k : numberOf t room room ≡ numbered.Priorities l = sym answer-room ∙ e in
+        rw k (p then subst (λ x. Puts (lines x (rowsIn t)) o₁ a o₂ b) (table-numbers e) q)
+
+    pub table-refused : {n i : ℕ} {o o₁ : List ℕ} {a : ℕ} → r ≡ numbered.Refused n i → Puts (refusal n i) o 0 o₁ a → Puts (tableText t) o 0 o₁ a
+    unfolding tableText
+    table-refused {n} {i} e p = let k : numberOf t room room ≡ numbered.Refused n i = sym answer-room ∙ e in rw k p

@@ -1,0 +1,63 @@
+-- The listing: for every input, however broken, the one text that answers it. See docs/FORMAT.md, "The listing".
+--
+--   wrongInput          the number of an input that is no file
+--   room                the rows that the listing has room for
+--   rightInput b        whole words, and not more than the longest file has
+--   tableText t         the listing of a table
+--   fileText f          the listing of a policy file
+--   listingOf b         the listing of an input
+use Prim.Native.Nat.{ℕ, _*_, _%_}
+use mathlib.Core.Bool.{Bool, cond, _&&_}
+use mathlib.Core.List.{List, _++_}
+use lib.Dec.{eqb, leb}
+use lib.ListN.{length, replicate}
+use Rattle.words.specs.Bytes.{wordBytes, wordsIn}
+use Rattle.row.specs.Row.{rowLength}
+use Rattle.table.specs.Table.{rowCount, rowsIn}
+use Rattle.policy.specs.Numbers.{longestFile}
+use Rattle.compile.specs.Compile.{answerOf, tableAfter}
+use Rattle.compile.specs.Theorems.{tableRows}
+use Rattle.compile.specs.declared.Compiled.{Compiled}
+use Rattle.compile.specs.declared.Compiled.the-variants as compiled
+use Rattle.priority.specs.Numbering.{numberOf, prioritiesOf}
+use Rattle.priority.specs.declared.Numbered.{Numbered}
+use Rattle.priority.specs.declared.Numbered.the-variants as numbered
+use Rattle.text.specs.Text.{head, lines, refusal}
+
+-- the number of an input that is not whole words, or too long
+abbrev pub wrongInput : ℕ
+wrongInput = 18
+
+-- the rows that the listing has room for
+abbrev pub room : ℕ
+room = 1024
+
+-- whole words, and not more than the longest file has
+unfoldable pub rightInput : List ℕ → Bool
+rightInput b = eqb (length b % wordBytes) 0 && leb (length b) (wordBytes * longestFile)
+
+-- the table, and the scratch, before the compile
+abbrev pub blank : List ℕ
+blank = replicate (rowLength * room) 0
+
+-- what is shown of a table, by what the numbering answers
+abbrev pub numberedText : List ℕ → Numbered → List ℕ
+numberedText t (numbered.Priorities l) = head (rowCount t) l ++ lines (prioritiesOf t) (rowsIn t)
+numberedText t (numbered.Refused n i) = refusal n i
+
+-- the listing of a table
+unfoldable pub tableText : List ℕ → List ℕ
+tableText t = numberedText t (numberOf t room room)
+
+-- what is shown of a file, by what the compile answers and the table that it leaves
+abbrev pub compiledText : List ℕ → Compiled → List ℕ
+compiledText t (compiled.Rows n) = tableText (tableRows n t)
+compiledText t (compiled.Refused r) = refusal (r .number) (r .place)
+
+-- the listing of a policy file
+unfoldable pub fileText : List ℕ → List ℕ
+fileText f = compiledText (tableAfter f blank blank) (answerOf f blank blank)
+
+-- THE LISTING, for every input
+unfoldable pub listingOf : List ℕ → List ℕ
+listingOf b = cond (rightInput b) (fileText (wordsIn b)) (refusal wrongInput 0)
