@@ -1,6 +1,5 @@
 -- `listing::main` is safe: the text ends within its buffer.
 -- Assumes nothing.
-use native.Mathlib.Omega.{arith}
 use mathlib.Core.Path.{sym}
 use lib.Seq.{length-take-le}
 use borrow.Author.Needs.{needs}
