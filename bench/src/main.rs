@@ -189,7 +189,11 @@ fn number(size: &str, table: &[u32]) {
 }
 
 /// Runs the two in turn, each time so many calls, with the buffers cleared before and outside the timing, and prints the medians for one call.
+/// Words given to the program must stand in the line's name.
 fn line(name: &str, calls: u32, clear: impl Fn(), mut rattle: impl FnMut(), mut rust: impl FnMut()) {
+    if std::env::args().skip(1).any(|word| !name.contains(&word)) {
+        return;
+    }
     let mut times = (vec![], vec![]);
     let started = Instant::now();
     while times.0.len() < FEWEST || (times.0.len() < MOST && started.elapsed() < BUDGET) {

@@ -32,6 +32,15 @@ unfolding inPrefix
 in-moves w p m q n x h e =
     ap (λ (k : ℕ). eqb (leading w n q) k) (sym (leading-fewer w n m p x h (eqb-true (leading w m p) (leading w m x) e)))
 
+eqb-swap : (a b : ℕ) → eqb a b ≡ eqb b a
+eqb-swap a b = same-test (eqb a b) (eqb b a) (λ e. eq-eqb b a (sym (eqb-true a b e))) (λ e. eq-eqb a b (sym (eqb-true b a e)))
+
+-- at one length, which of two prefixes is held against the other's address does not matter
+pub one-test : (w p m q n : ℕ) (t : Bool) → inPrefix w p (cond t m n) q ≡ cond t (inPrefix w p m q) (inPrefix w q n p)
+unfolding inPrefix
+one-test w p m q n true = refl
+one-test w p m q n false = eqb-swap (leading w n p) (leading w n q)
+
 -- AN ADDRESS LIES IN BOTH exactly when the prefixes meet and it lies in the longer
 pub in-both : InBoth
 unfolding prefixesMeet

@@ -27,7 +27,7 @@ pub fn right_prefix(p: u32, n: u32) -> bool
 pub fn prefixes_meet(p: u32, m: u32, q: u32, n: u32) -> bool
     ensures { λ r. ⌜ r ≡ prefixesMeet addressBits p m q n ⌝ }
 {
-    pick_test(m <= n, in_prefix(p, m, q), in_prefix(q, n, p))
+    in_prefix(p, pick(m <= n, m, n), q)
 }
 
 // Whether every address of the prefix q of n bits lies in p of m bits.
@@ -99,12 +99,6 @@ fn zero_beyond(p: u32, n: u32) -> bool
 }
 
 fn pick(t: bool, a: u32, b: u32) -> u32
-    ensures { λ r. ⌜ r ≡ cond t a b ⌝ }
-{
-    if t { a } else { b }
-}
-
-fn pick_test(t: bool, a: bool, b: bool) -> bool
     ensures { λ r. ⌜ r ≡ cond t a b ⌝ }
 {
     if t { a } else { b }

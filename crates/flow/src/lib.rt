@@ -79,10 +79,16 @@ impl Match {
     };
 }
 
-// Whether a packet meets a match.
+// Whether a packet meets a match. The addresses are tested first, as in overlap.
 pub fn meets(m: Match, p: Packet) -> bool
     ensures { λ r. ⌜ r ≡ meets m p ⌝ }
 {
+    if !in_prefix(m.destination, m.destinationlength, p.destination) {
+        return false;
+    }
+    if !in_prefix(m.source, m.sourcelength, p.source) {
+        return false;
+    }
     let f = m.flags;
     !is_empty(m)
         & meets_value(f / IN_PORT % 2 == 1, m.inport, p.inport)
@@ -93,14 +99,23 @@ pub fn meets(m: Match, p: Packet) -> bool
             m.destinationport,
             p.destinationport,
         )
-        & in_prefix(m.source, m.sourcelength, p.source)
-        & in_prefix(m.destination, m.destinationlength, p.destination)
 }
 
-// Whether some packet meets both matches.
+// Whether some packet meets both matches. The addresses are tested first: most matches that do not overlap differ there.
 pub fn overlap(a: Match, b: Match) -> bool
     ensures { λ r. ⌜ r ≡ overlap a b ⌝ }
 {
+    if !prefixes_meet(
+        a.destination,
+        a.destinationlength,
+        b.destination,
+        b.destinationlength,
+    ) {
+        return false;
+    }
+    if !prefixes_meet(a.source, a.sourcelength, b.source, b.sourcelength) {
+        return false;
+    }
     let f = a.flags;
     let g = b.flags;
     !is_empty(a)
@@ -129,13 +144,6 @@ pub fn overlap(a: Match, b: Match) -> bool
             g / DESTINATION_PORT % 2 == 1,
             b.destinationport,
         )
-        & prefixes_meet(a.source, a.sourcelength, b.source, b.sourcelength)
-        & prefixes_meet(
-            a.destination,
-            a.destinationlength,
-            b.destination,
-            b.destinationlength,
-        )
 }
 
 // The match that exactly the packets meet that meet both: empty where there are none.
@@ -160,7 +168,10 @@ pub fn is_empty(m: Match) -> bool
 pub fn right_match(m: Match) -> bool
     ensures { λ r. ⌜ r ≡ rightMatch m ⌝ }
 {
-    is_none(m) | is_plain(m)
+    if is_plain(m) {
+        return true;
+    }
+    is_none(m)
 }
 
 // Whether the values of a packet are in their ranges.
