@@ -5,6 +5,7 @@ ghost use lib.ListN.{getD};
 ghost use Rattle.action.specs.Action.{kindOf, rateOf, actionOf, rightAction};
 ghost use Rattle.action.specs.Operator.{kinds, coded, join, sibling, parent, rightCell};
 ghost use Rattle.action.specs.Laws.{same, shown, firstPair, firstTriple, lawSearch};
+use words::word;
 
 // The largest rate, in kbit/s.
 pub const LARGEST_RATE: u32 = 100_000_000;
@@ -35,15 +36,6 @@ const LARGEST_RATE_CODE: u32 = 6;
 
 // How many actions the search takes.
 const SHOWN: usize = 5;
-
-// The showing actions, in list order.
-const SHOWING: [Action; SHOWN] = [
-    Action::Allow,
-    Action::Deny,
-    Action::Gmb(1),
-    Action::Gmb(2),
-    Action::Gmb(3),
-];
 
 // How many pairs and triples they make.
 const PAIRS: usize = SHOWN * SHOWN;
@@ -115,9 +107,8 @@ impl Operator {
         if l == DONT_CARE {
             return left;
         }
-        let cells = self.cells;
         let cell = (k - 1) * KINDS + (l - 1);
-        coded(cells[cell as usize], left, right)
+        coded(word(&self.cells, cell as usize), left, right)
     }
 
     // The first pair that breaks commutativity, or else the first triple that breaks associativity.
@@ -245,13 +236,17 @@ fn first_triple(op: Operator) -> Lawful
     Lawful::Yes
 }
 
+// The showing actions, in list order. A match keeps them out of memory, where an array would be laid down anew for each use.
 fn showing(i: usize) -> Action
     ensures { λ r. ⌜ r ≡ getD shown i Action.DontCare ⌝ }
 {
-    if i < SHOWN {
-        SHOWING[i]
-    } else {
-        Action::DONT_CARE
+    match i {
+        0 => Action::Allow,
+        1 => Action::Deny,
+        2 => Action::Gmb(1),
+        3 => Action::Gmb(2),
+        4 => Action::Gmb(3),
+        _ => Action::DONT_CARE,
     }
 }
 
