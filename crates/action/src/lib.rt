@@ -4,7 +4,7 @@ ghost use Prim.Native.Nat.{_≤_, max, min};
 ghost use lib.ListN.{getD};
 ghost use Rattle.action.specs.Action.{kindOf, rateOf, actionOf, rightAction};
 ghost use Rattle.action.specs.Operator.{kinds, coded, join, sibling, parent, rightCell};
-ghost use Rattle.action.specs.Laws.{same, shown, firstPair, firstTriple, lawSearch};
+ghost use Rattle.action.specs.Laws.{same, shown, firstPair, firstTriple, withThird, lawSearch};
 use words::word;
 
 // The largest rate, in kbit/s.
@@ -37,10 +37,8 @@ const LARGEST_RATE_CODE: u32 = 6;
 // How many actions the search takes.
 const SHOWN: usize = 5;
 
-// How many pairs and triples they make.
+// How many pairs they make.
 const PAIRS: usize = SHOWN * SHOWN;
-
-const TRIPLES: usize = SHOWN * PAIRS;
 
 pub enum Action {
     DontCare,
@@ -218,17 +216,30 @@ fn first_pair(op: Operator) -> Lawful
     Lawful::Yes
 }
 
-// The triples in order: each showing action with all pairs.
+// The triples in order: each pair with all showing actions.
 fn first_triple(op: Operator) -> Lawful
     ensures { λ r. ⌜ r ≡ firstTriple (op .cells) ⌝ }
 {
     let mut k = 0;
-    while k < TRIPLES {
-        let pair = k % PAIRS;
-        let a = showing(k / PAIRS);
-        let b = showing(pair / SHOWN);
-        let c = showing(pair % SHOWN);
-        if !same(op.join(op.join(a, b), c), op.join(a, op.join(b, c))) {
+    while k < PAIRS {
+        let found = with_third(op, showing(k / SHOWN), showing(k % SHOWN));
+        if let Lawful::Broken(_, _, _, _) = found {
+            return found;
+        }
+        k += 1;
+    }
+    Lawful::Yes
+}
+
+// The first triple of two actions and some third.
+fn with_third(op: Operator, a: Action, b: Action) -> Lawful
+    ensures { λ r. ⌜ r ≡ withThird (op .cells) a b ⌝ }
+{
+    let ab = op.join(a, b);
+    let mut k = 0;
+    while k < SHOWN {
+        let c = showing(k);
+        if !same(op.join(ab, c), op.join(a, op.join(b, c))) {
             return Lawful::Broken(Law::Associativity, a, b, c);
         }
         k += 1;

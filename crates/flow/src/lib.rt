@@ -174,6 +174,20 @@ pub fn right_match(m: Match) -> bool
     is_none(m)
 }
 
+// Whether a match is right and is not the empty match.
+pub fn is_plain(m: Match) -> bool
+    ensures { λ r. ⌜ r ≡ isPlain m ⌝ }
+{
+    let f = m.flags;
+    (f < EMPTY)
+        & right_value(f / IN_PORT % 2 == 1, PORT_LIMIT, m.inport)
+        & right_value(f / PROTOCOL % 2 == 1, PROTOCOL_LIMIT, m.protocol)
+        & right_value(f / SOURCE_PORT % 2 == 1, PORT_LIMIT, m.sourceport)
+        & right_value(f / DESTINATION_PORT % 2 == 1, PORT_LIMIT, m.destinationport)
+        & right_prefix(m.source, m.sourcelength)
+        & right_prefix(m.destination, m.destinationlength)
+}
+
 // Whether the values of a packet are in their ranges.
 pub fn right_packet(p: Packet) -> bool
     ensures { λ r. ⌜ r ≡ rightPacket p ⌝ }
@@ -310,18 +324,4 @@ fn is_none(m: Match) -> bool
         & (m.destinationport == 0)
         & (m.sourcelength == 0)
         & (m.destinationlength == 0)
-}
-
-// Whether a match other than that is right.
-fn is_plain(m: Match) -> bool
-    ensures { λ r. ⌜ r ≡ isPlain m ⌝ }
-{
-    let f = m.flags;
-    (f < EMPTY)
-        & right_value(f / IN_PORT % 2 == 1, PORT_LIMIT, m.inport)
-        & right_value(f / PROTOCOL % 2 == 1, PROTOCOL_LIMIT, m.protocol)
-        & right_value(f / SOURCE_PORT % 2 == 1, PORT_LIMIT, m.sourceport)
-        & right_value(f / DESTINATION_PORT % 2 == 1, PORT_LIMIT, m.destinationport)
-        & right_prefix(m.source, m.sourcelength)
-        & right_prefix(m.destination, m.destinationlength)
 }
