@@ -2,15 +2,15 @@
 use Prim.Native.Nat.{ℕ, suc, _+_, _≤_, _<_}
 use native.Mathlib.Numerals.{add-one}
 use native.Mathlib.Omega.{arith}
-use mathlib.Core.Path.{_≡_, refl, sym, _∙_}
+use mathlib.Core.Path.{_≡_, refl, sym, ap, ap₂, _∙_}
 use mathlib.Core.Logic.{⊎-elim}
 use mathlib.Core.Bool.{Bool, true, false, not, cond, _&&_}
-use mathlib.Core.List.{List, [], _∷_, foldr, List·Memᴰ·head, List·Memᴰ·tail, List·Memᴰ·not-nil, List·Memᴰ·cases-cons}
+use mathlib.Core.List.{List, [], _∷_, _++_, map, foldr, List·Memᴰ·head, List·Memᴰ·tail, List·Memᴰ·not-nil, List·Memᴰ·cases-cons}
 use lib.ListN.{getD, length, drop, drop-of-length-le}
 use lib.Seq.{drop-cons}
 use borrow.Author.Tests.{not-true, not-false}
 use Rattle.logic.proofs.Tests.{and-left, and-right}
-use Rattle.action.specs.Laws.{_else_, _among_, along}
+use Rattle.action.specs.Laws.{_else_, _among_, along, product}
 use Rattle.action.specs.declared.Action.{Action}
 use Rattle.action.specs.declared.Law.{Law}
 use Rattle.action.specs.declared.Lawful.{Lawful}
@@ -41,6 +41,35 @@ module _ {X : Type 0} (t : X → Lawful) (xs : List X) (d : X) (k : ℕ) (h : k 
   -- and else the search goes on
   pub miss : not kept ≡ false → along t (drop (k + 1) xs) ≡ w
   miss f = rw add-one (sym (rw (not-false kept f) at next))
+
+-- a turn at an entry that is itself a search
+pub turn : {X : Type 0} (t : X → Lawful) (xs : List X) (d : X) (k : ℕ) {w x : Lawful} → k < length xs → along t (drop k xs) ≡ w → x ≡ t (getD xs k d)
+    → w ≡ _else_ x (along t (drop (k + 1) xs))
+turn t xs d k h inv e = sym inv ∙ rw (drop-cons xs k d h, e, add-one)
+
+-- searches along a joined list, along a list's images, and along equal tests
+else-assoc : (x y z : Lawful) → _else_ x (_else_ y z) ≡ _else_ (_else_ x y) z
+else-assoc Yes y z = refl
+else-assoc (Broken l a b c) y z = refl
+
+along-append : {X : Type 0} (t : X → Lawful) (xs ys : List X) → along t (xs ++ ys) ≡ _else_ (along t xs) (along t ys)
+along-append t [] ys = refl
+along-append t (x ∷ xs) ys = ap (λ z. _else_ (t x) z) (along-append t xs ys) ∙ else-assoc (t x) (along t xs) (along t ys)
+
+along-map : {X Y : Type 0} (t : Y → Lawful) (f : X → Y) (xs : List X) → along t (map f xs) ≡ along (λ x. t (f x)) xs
+along-map t f [] = refl
+along-map t f (x ∷ xs) = ap (λ z. _else_ (t (f x)) z) (along-map t f xs)
+
+pub along-same : {X : Type 0} (t u : X → Lawful) → ((x : X) → t x ≡ u x) → (xs : List X) → along t xs ≡ along u xs
+along-same t u e [] = refl
+along-same t u e (x ∷ xs) = ap₂ (λ (y z : Lawful). _else_ y z) (e x) (along-same t u e xs)
+
+-- a search along all pairs is one along the first list, of searches along the second
+pub along-product : {X Y : Type 0} (t : X × Y → Lawful) (xs : List X) (ys : List Y) → along t (product xs ys) ≡ along (λ x. along (λ y. t (x, y)) ys) xs
+along-product t [] ys = refl
+along-product t (x ∷ xs) ys =
+    along-append t (map (λ y. (x, y)) ys) (product xs ys)
+    ∙ ap₂ (λ (y z : Lawful). _else_ y z) (along-map t (λ y. (x, y)) ys) (along-product t xs ys)
 
 -- at the list's end nothing was found
 pub none-left : {X : Type 0} (t : X → Lawful) (xs : List X) (k : ℕ) (w : Lawful) → length xs ≤ k → along t (drop k xs) ≡ w → Yes ≡ w

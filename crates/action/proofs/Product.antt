@@ -2,18 +2,19 @@
 use Prim.Native.Nat.{ℕ, zero, suc, _+_, _*_, _/_, _%_, _<_}
 use native.Mathlib.Nat.{div-add-mod', div-lt-iff-lt-mul, mod-lt}
 use native.Mathlib.Omega.{arith}
-use mathlib.Core.Path.{_≡_, refl, ap, ap₂}
+use mathlib.Core.Path.{_≡_, refl, sym, ap, ap₂, _∙_}
 use mathlib.Core.Logic.{⊎-elim}
 use mathlib.Core.Bool.{Bool}
 use mathlib.Core.List.{List, [], _∷_, _++_, map, List·Memᴰ·head, List·Memᴰ·tail, List·Memᴰ·not-nil, List·Memᴰ·cases-cons, List·Memᴰ·append-cases, Memᴰ·append-left, Memᴰ·append-right}
 use lib.ListN.{getD, length, length-map}
 use lib.Seq.{getD-append-add}
 use Rattle.action.specs.Operator.{join}
-use Rattle.action.specs.Laws.{_among_, same, product, shown, pairs, triples, commutes, associates}
+use Rattle.action.specs.Laws.{_among_, same, along, product, shown, pairs, triples, commutes, associates, firstTriple, withThird}
 use Rattle.action.specs.declared.Action.{Action}
 use Rattle.action.specs.declared.Action.the-variants.{DontCare}
 use Rattle.action.specs.declared.Law.the-variants.{Commutativity, Associativity}
-use Rattle.action.proofs.Along.{Finds}
+use Rattle.action.specs.declared.Lawful.{Lawful}
+use Rattle.action.proofs.Along.{Finds, along-same, along-product}
 
 -- the pairs of one entry stand first, by the second list's indexes, and the pairs of the later entries behind them
 row-at : {X Y : Type 0} (x : X) (ys : List Y) (rest : List (X × Y)) (d : X) (e : Y) (j : ℕ) → j < length ys
@@ -43,7 +44,11 @@ product-entry xs ys d e k pos h =
     rw (div-add-mod' k (length ys)) at
     (product-at xs ys d e (k / length ys) (k % length ys) (div-lt-iff-lt-mul pos .1 h) (mod-lt k pos))
 
--- what the loop over pairs finds in turn k is what entry k shows, and so for the loop over triples
+-- what a pair shows with some third
+abbrev pub byPair : List ℕ → Action × Action → Lawful
+byPair o p = withThird o (p .0) (p .1)
+
+-- what the loop over pairs finds in turn k is what entry k shows, and so for the loop over thirds
 pub pair-tried : (o : List ℕ) (k : ℕ) (a b x y : Action) (kept : Bool) → k < length pairs
     → a ≡ getD shown (k / length shown) DontCare → b ≡ getD shown (k % length shown) DontCare
     → x ≡ join o a b → y ≡ join o b a → kept ≡ same x y
@@ -52,28 +57,31 @@ unfolding shown pairs commutes
 pair-tried o k a b x y kept h p q r s e =
     record { is = rw (product-entry shown shown DontCare DontCare k (omega arith) h, ← p, ← q, ← r, ← s, e) }
 
-pub triple-tried : (o : List ℕ) (k : ℕ) (a b c u x v y : Action) (kept : Bool) → k < length triples
-    → a ≡ getD shown (k / length pairs) DontCare
-    → b ≡ getD shown (k % length pairs / length shown) DontCare
-    → c ≡ getD shown (k % length pairs % length shown) DontCare
+pub third-tried : (o : List ℕ) (k : ℕ) (a b c u x v y : Action) (kept : Bool)
+    → c ≡ getD shown k DontCare
     → u ≡ join o a b → x ≡ join o u c → v ≡ join o b c → y ≡ join o a v → kept ≡ same x y
-    → Finds kept Associativity a b c (associates o (getD triples k (DontCare, (DontCare, DontCare))))
-unfolding shown pairs triples associates
-triple-tried o k a b c u x v y kept h p q r f g m n e = record {
-  is =
-      rw (
-        product-entry shown pairs DontCare (DontCare, DontCare) k (omega arith) h,
-        product-entry shown shown DontCare DontCare (k % length pairs) (omega arith) (mod-lt k (omega arith)),
-        ← p,
-        ← q,
-        ← r,
-        ← f,
-        ← g,
-        ← m,
-        ← n,
-        e,
-      );
-}
+    → Finds kept Associativity a b c (associates o (a, (b, getD shown k DontCare)))
+unfolding associates
+third-tried o k a b c u x v y kept r f g m n e = record { is = rw (← r, ← f, ← g, ← m, ← n, e) }
+
+-- what the search along the triples finds in turn k is what pair k shows with some third
+pub pair-thirds : (o : List ℕ) (k : ℕ) (a b : Action) (x : Lawful) → k < length pairs
+    → a ≡ getD shown (k / length shown) DontCare → b ≡ getD shown (k % length shown) DontCare
+    → x ≡ withThird o a b → x ≡ byPair o (getD pairs k (DontCare, DontCare))
+unfolding shown pairs
+pair-thirds o k a b x h p q e = e ∙ rw (product-entry shown shown DontCare DontCare k (omega arith) h, ← p, ← q)
+
+-- the search along the triples is one along the pairs
+pub triples-by-pair : (o : List ℕ) → along (byPair o) pairs ≡ firstTriple o
+unfolding firstTriple triples pairs withThird
+triples-by-pair o =
+    along-product (byPair o) shown shown
+    ∙ sym (
+    along-product (associates o) shown (product shown shown)
+    ∙ along-same (λ a. along (λ p. associates o (a, p)) (product shown shown)) (λ a. along (λ b. withThird o a b) shown)
+    (λ a. along-product (λ p. associates o (a, p)) shown shown)
+    shown
+    )
 
 -- a pair is among the pairs exactly where its parts are among the two lists
 row-among : {X Y : Type 0} (x : X) (p : X × Y) (ys : List Y) → p .0 ≡ x → p .1 among ys → p among map (λ z. (x, z)) ys

@@ -7,6 +7,7 @@
 --   product xs ys                    each entry of xs with each of ys, those of xs slowest
 --   x else y, along t xs             the first failure of two answers, and along a list
 --   firstPair o, firstTriple o       the first pair, and the first triple, that shows a failure
+--   withThird o a b                  the first triple of a, b and some third
 --   lawSearch o                      the search: pairs, then triples
 --   x among xs                       an entry of a list
 --   Shows o l a b c                  actions of the list that break the law l
@@ -83,6 +84,10 @@ firstPair o = along (commutes o) pairs
 -- the first triple that breaks associativity
 unfoldable pub firstTriple : List ℕ → Lawful
 firstTriple o = along (associates o) triples
+
+-- the first triple of two actions and some third that breaks it
+unfoldable pub withThird : List ℕ → Action → Action → Lawful
+withThird o a b = along (λ c. associates o (a, (b, c))) shown
 
 -- the search
 unfoldable pub lawSearch : List ℕ → Lawful

@@ -4,7 +4,8 @@ ghost use Prim.Native.Nat.{_≤_, max, min};
 ghost use lib.ListN.{getD};
 ghost use Rattle.action.specs.Action.{kindOf, rateOf, actionOf, rightAction};
 ghost use Rattle.action.specs.Operator.{kinds, coded, join, sibling, parent, rightCell};
-ghost use Rattle.action.specs.Laws.{same, shown, firstPair, firstTriple, lawSearch};
+ghost use Rattle.action.specs.Laws.{same, shown, firstPair, firstTriple, withThird, lawSearch};
+use words::word;
 
 // The largest rate, in kbit/s.
 pub const LARGEST_RATE: u32 = 100_000_000;
@@ -36,19 +37,8 @@ const LARGEST_RATE_CODE: u32 = 6;
 // How many actions the search takes.
 const SHOWN: usize = 5;
 
-// The showing actions, in list order.
-const SHOWING: [Action; SHOWN] = [
-    Action::Allow,
-    Action::Deny,
-    Action::Gmb(1),
-    Action::Gmb(2),
-    Action::Gmb(3),
-];
-
-// How many pairs and triples they make.
+// How many pairs they make.
 const PAIRS: usize = SHOWN * SHOWN;
-
-const TRIPLES: usize = SHOWN * PAIRS;
 
 pub enum Action {
     DontCare,
@@ -115,9 +105,8 @@ impl Operator {
         if l == DONT_CARE {
             return left;
         }
-        let cells = self.cells;
         let cell = (k - 1) * KINDS + (l - 1);
-        coded(cells[cell as usize], left, right)
+        coded(word(&self.cells, cell as usize), left, right)
     }
 
     // The first pair that breaks commutativity, or else the first triple that breaks associativity.
@@ -227,17 +216,30 @@ fn first_pair(op: Operator) -> Lawful
     Lawful::Yes
 }
 
-// The triples in order: each showing action with all pairs.
+// The triples in order: each pair with all showing actions.
 fn first_triple(op: Operator) -> Lawful
     ensures { λ r. ⌜ r ≡ firstTriple (op .cells) ⌝ }
 {
     let mut k = 0;
-    while k < TRIPLES {
-        let pair = k % PAIRS;
-        let a = showing(k / PAIRS);
-        let b = showing(pair / SHOWN);
-        let c = showing(pair % SHOWN);
-        if !same(op.join(op.join(a, b), c), op.join(a, op.join(b, c))) {
+    while k < PAIRS {
+        let found = with_third(op, showing(k / SHOWN), showing(k % SHOWN));
+        if let Lawful::Broken(_, _, _, _) = found {
+            return found;
+        }
+        k += 1;
+    }
+    Lawful::Yes
+}
+
+// The first triple of two actions and some third.
+fn with_third(op: Operator, a: Action, b: Action) -> Lawful
+    ensures { λ r. ⌜ r ≡ withThird (op .cells) a b ⌝ }
+{
+    let ab = op.join(a, b);
+    let mut k = 0;
+    while k < SHOWN {
+        let c = showing(k);
+        if !same(op.join(ab, c), op.join(a, op.join(b, c))) {
             return Lawful::Broken(Law::Associativity, a, b, c);
         }
         k += 1;
@@ -245,13 +247,17 @@ fn first_triple(op: Operator) -> Lawful
     Lawful::Yes
 }
 
+// The showing actions, in list order. A match keeps them out of memory, where an array would be laid down anew for each use.
 fn showing(i: usize) -> Action
     ensures { λ r. ⌜ r ≡ getD shown i Action.DontCare ⌝ }
 {
-    if i < SHOWN {
-        SHOWING[i]
-    } else {
-        Action::DONT_CARE
+    match i {
+        0 => Action::Allow,
+        1 => Action::Deny,
+        2 => Action::Gmb(1),
+        3 => Action::Gmb(2),
+        4 => Action::Gmb(3),
+        _ => Action::DONT_CARE,
     }
 }
 

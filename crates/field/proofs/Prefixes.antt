@@ -3,10 +3,11 @@ use mathlib.Core.Path.{_≡_, refl, sym, ap, _∙_, subst}
 use mathlib.Core.Bool.{Bool, true, false, cond, _&&_, and-comm}
 use Prim.Native.Nat.{ℕ, _+_, _-_, _*_, _/_, _%_, _^_, _≤_, _<_}
 use native.Mathlib.Omega.{arith}
-use native.Mathlib.Nat.{le-of-lt, add-mul-div-right, div-add-mod', mod-eq-of-lt}
+use native.Mathlib.Nat.{le-of-lt, add-zero, add-mul-div-right, mul-div-cancel, mul-mod-left, zero-div}
 use lib.Dec.{eqb, leb}
-use lib.Pow.{shr-shr, shr-lt, high, pow-add, pow-pos, pow-lt}
+use lib.Pow.{shr-shr, shr-lt, high, pow-add, pow-pos, pow-lt, mod-pow-add, mod-mod-pow}
 use lib.Arith.{digits-lt}
+use lib.Bits.{bitXor, xor-shr, xor-self, xor-add-and, and-le-l, and-le-r}
 use borrow.Author.Tests.{eqb-true, eq-eqb, leb-true, leb-false}
 use Rattle.field.specs.Prefix.{leading, inPrefix, rightPrefix, prefixesMeet, covers, longerAddress, longerLength}
 use Rattle.field.specs.Theorems.{InBoth, SharedAddress, MeetExactly, Contains, CoversExactly}
@@ -31,6 +32,26 @@ in-moves : (w p m q n x : ℕ) → n ≤ m → inPrefix w p m x ≡ true → inP
 unfolding inPrefix
 in-moves w p m q n x h e =
     ap (λ (k : ℕ). eqb (leading w n q) k) (sym (leading-fewer w n m p x h (eqb-true (leading w m p) (leading w m x) e)))
+
+-- the bits in which two numbers differ are 0 from a place on exactly where the numbers agree from there on
+xor-zero : (a b : ℕ) → bitXor a b ≡ 0 → a ≡ b
+xor-zero a b e = omega (arith, e, xor-add-and a b, and-le-l a b, and-le-r a b)
+
+pub xor-test : (a b s : ℕ) → eqb (bitXor a b / 2 ^ s) 0 ≡ eqb (a / 2 ^ s) (b / 2 ^ s)
+xor-test a b s =
+    rw (xor-shr a b s)
+    (same-test (eqb (bitXor (a / 2 ^ s) (b / 2 ^ s)) 0) (eqb (a / 2 ^ s) (b / 2 ^ s))
+    (λ e. eq-eqb (a / 2 ^ s) (b / 2 ^ s) (xor-zero (a / 2 ^ s) (b / 2 ^ s) (eqb-true (bitXor (a / 2 ^ s) (b / 2 ^ s)) 0 e)))
+    (λ e. eq-eqb (bitXor (a / 2 ^ s) (b / 2 ^ s)) 0 (rw (eqb-true (a / 2 ^ s) (b / 2 ^ s) e) (xor-self (b / 2 ^ s)))))
+
+eqb-swap : (a b : ℕ) → eqb a b ≡ eqb b a
+eqb-swap a b = same-test (eqb a b) (eqb b a) (λ e. eq-eqb b a (sym (eqb-true a b e))) (λ e. eq-eqb a b (sym (eqb-true b a e)))
+
+-- at one length, which of two prefixes is held against the other's address does not matter
+pub one-test : (w p m q n : ℕ) (t : Bool) → inPrefix w p (cond t m n) q ≡ cond t (inPrefix w p m q) (inPrefix w q n p)
+unfolding inPrefix
+one-test w p m q n true = refl
+one-test w p m q n false = eqb-swap (leading w n p) (leading w n q)
 
 -- AN ADDRESS LIES IN BOTH exactly when the prefixes meet and it lies in the longer
 pub in-both : InBoth
@@ -121,12 +142,17 @@ covers-exactly w p m q n hm hq = (contains, covered)
             ap (λ (k : ℕ). k / 2 ^ (w - m)) one ∙ add-mul-div-right (base + 0) 1 (pow-pos (w - m)) in
             absurd (omega (arith, next, at-block l 0 (pow-pos (w - n)), at-block l (2 ^ (w - m)) less))
 
--- the bits beyond are 0 exactly when shifting them out and in again, in a word of w bits, changes nothing
-pub zero-test : (w p s : ℕ) → p < 2 ^ w → eqb ((p / 2 ^ s * 2 ^ s) % 2 ^ w) p ≡ eqb (p % 2 ^ s) 0
-zero-test w p s h =
-    let split : p / 2 ^ s * 2 ^ s + p % 2 ^ s ≡ p = div-add-mod' p (2 ^ s) in
-    let low : (p / 2 ^ s * 2 ^ s) % 2 ^ w ≡ p / 2 ^ s * 2 ^ s = mod-eq-of-lt (omega arith) in
-    rw low
-    (same-test (eqb (p / 2 ^ s * 2 ^ s) p) (eqb (p % 2 ^ s) 0)
-    (λ e. eq-eqb (p % 2 ^ s) 0 (omega (arith, eqb-true (p / 2 ^ s * 2 ^ s) p e)))
-    (λ e. eq-eqb (p / 2 ^ s * 2 ^ s) p (omega (arith, eqb-true (p % 2 ^ s) 0 e))))
+-- the bits beyond are 0 exactly when nothing is left of the number, in w bits, once the others are shifted out
+pub zero-test : (w p n : ℕ) → n ≤ w → eqb ((p * 2 ^ n) % 2 ^ (w + w) % 2 ^ w) 0 ≡ eqb (p % 2 ^ (w - n)) 0
+zero-test w p n h =
+    let back : (x : ℕ) → x * 2 ^ n / 2 ^ n ≡ x = λ x. mul-div-cancel x (pow-pos n) in
+    let whole : (w - n) + n ≡ w = omega arith in
+    let left : (p * 2 ^ n) % 2 ^ w ≡ p % 2 ^ (w - n) * 2 ^ n =
+    ap (λ (k : ℕ). (p * 2 ^ n) % 2 ^ k) (sym whole)
+    ∙ mod-pow-add (p * 2 ^ n) (w - n) n
+    ∙ rw (back p, mul-mod-left p (2 ^ n), add-zero (p % 2 ^ (w - n) * 2 ^ n)) in
+    rw (mod-mod-pow (p * 2 ^ n) w w, left)
+    (same-test (eqb (p % 2 ^ (w - n) * 2 ^ n) 0) (eqb (p % 2 ^ (w - n)) 0)
+    (λ e. eq-eqb (p % 2 ^ (w - n)) 0
+    (sym (back (p % 2 ^ (w - n))) ∙ ap (λ (k : ℕ). k / 2 ^ n) (eqb-true (p % 2 ^ (w - n) * 2 ^ n) 0 e) ∙ zero-div (2 ^ n)))
+    (λ e. eq-eqb (p % 2 ^ (w - n) * 2 ^ n) 0 (rw (eqb-true (p % 2 ^ (w - n)) 0 e) (omega arith))))

@@ -1,33 +1,38 @@
 // One field of a match: a prefix of an address, or a value that may be constrained.
 ghost use mathlib.Core.Path.{_≡_};
 ghost use mathlib.Core.Bool.{cond};
-ghost use Prim.Native.Nat.{_-_};
+ghost use Prim.Native.Nat.{_-_, _≤_};
 ghost use Rattle.field.specs.Prefix.{addressBits, inPrefix, zeroBeyond, rightPrefix, prefixesMeet, covers, longerAddress, longerLength};
 ghost use Rattle.field.specs.Value.{meetsValue, valuesMeet, commonValue, rightValue};
 
 // How many bits an address has.
 pub const ADDRESS_BITS: u32 = 32;
 
+// How many addresses there are.
+const ADDRESSES: u64 = 1 << 32;
+
 // Whether the address x lies in the prefix p of n bits. A length beyond 32 counts as 32.
 pub fn in_prefix(p: u32, n: u32, x: u32) -> bool
     ensures { λ r. ⌜ r ≡ inPrefix addressBits p n x ⌝ }
 {
-    let beyond = bits_beyond(n);
-    (p as u64) >> beyond == (x as u64) >> beyond
+    ((p ^ x) as u64) >> bits_beyond(n) == 0
 }
 
 // Whether a prefix is right: a length of at most 32, and 0 in the bits beyond it.
 pub fn right_prefix(p: u32, n: u32) -> bool
     ensures { λ r. ⌜ r ≡ rightPrefix addressBits p n ⌝ }
 {
-    (n <= ADDRESS_BITS) & zero_beyond(p, n)
+    if ADDRESS_BITS < n {
+        return false;
+    }
+    zero_beyond(p, n)
 }
 
 // Whether the prefixes p of m bits and q of n bits have an address in common.
 pub fn prefixes_meet(p: u32, m: u32, q: u32, n: u32) -> bool
     ensures { λ r. ⌜ r ≡ prefixesMeet addressBits p m q n ⌝ }
 {
-    pick_test(m <= n, in_prefix(p, m, q), in_prefix(q, n, p))
+    in_prefix(p, pick(m <= n, m, n), q)
 }
 
 // Whether every address of the prefix q of n bits lies in p of m bits.
@@ -90,21 +95,15 @@ fn bits_beyond(n: u32) -> u32
     }
 }
 
-// Whether the bits of p beyond the length are 0.
+// Whether the bits of p beyond the length are 0: those that are left of it in 32 bits, when the length is shifted out.
 fn zero_beyond(p: u32, n: u32) -> bool
+    requires { ⌜ n ≤ addressBits ⌝ }
     ensures { λ r. ⌜ r ≡ zeroBeyond addressBits p n ⌝ }
 {
-    let beyond = bits_beyond(n);
-    ((p as u64) >> beyond) << beyond == p as u64
+    ((p as u64) << n) % ADDRESSES == 0
 }
 
 fn pick(t: bool, a: u32, b: u32) -> u32
-    ensures { λ r. ⌜ r ≡ cond t a b ⌝ }
-{
-    if t { a } else { b }
-}
-
-fn pick_test(t: bool, a: bool, b: bool) -> bool
     ensures { λ r. ⌜ r ≡ cond t a b ⌝ }
 {
     if t { a } else { b }

@@ -4,7 +4,7 @@ use mathlib.Core.Bool.{Bool, true, false, cond, not, _&&_, _||_, and-eq-true-iff
 use mathlib.Core.Logic.{⊎-elim}
 use Prim.Native.Nat.{_/_, _%_, _^_, _<_}
 use native.Mathlib.Omega.{arith}
-use borrow.Author.Tests.{ltb-true, eqb-true, eqb-false, lt-ltb, not-true}
+use borrow.Author.Tests.{ltb-true, eqb-true, eqb-false, ne-eqb, lt-ltb, not-true}
 use Rattle.field.specs.Prefix.{addressBits, rightPrefix}
 use Rattle.field.specs.Value.{rightValue}
 use Rattle.field.proofs.Prefixes.{prefix-joins, in-own, longer-right, longer-within}
@@ -16,7 +16,7 @@ use Rattle.flow.specs.declared.Match.{Match}
 use Rattle.flow.specs.declared.Packet.{Packet}
 use Rattle.flow.proofs.Flags.{flag-or, unset-joins, flagged-joins, flagged-right, flags-right}
 use Rattle.logic.specs.Tests.{Joins, Keeps}
-use Rattle.logic.proofs.Tests.{and-left, and-right, and-both, or-split, joins-and, keeps-and}
+use Rattle.logic.proofs.Tests.{and-left, and-right, and-both, or-split, same-test, joins-and, keeps-and}
 
 -- a packet meets both matches exactly where they overlap and it meets both together
 meets-both : (a b : Match) (p : Packet) → Joins (meets a p) (meets b p) (overlap a b) (meets (both a b) p)
@@ -145,6 +145,20 @@ plain m e l =
     (λ n. absurd (let h = simp and-eq-true-iff at n in eqb-false (m .flags / emptyFlag % 2) 1 l (omega (arith, eqb-true))))
     (λ n. n)
     (or-split (isNone m) (isPlain m) e)
+
+plain-lives : (m : Match) → isPlain m ≡ true → isEmpty m ≡ false
+unfolding isPlain isEmpty
+plain-lives m e =
+    let h = simp and-eq-true-iff at e in
+    ne-eqb (m .flags / emptyFlag % 2) 1 (λ z. omega (arith, ltb-true))
+
+-- the plain matches are the right ones that are not empty
+pub plain-exactly : (m : Match) → isPlain m ≡ (rightMatch m && not (isEmpty m))
+unfolding rightMatch
+plain-exactly m =
+    same-test (isPlain m) (rightMatch m && not (isEmpty m))
+    (λ e. and-both (ap (λ (t : Bool). isNone m || t) e ∙ or-true (isNone m)) (ap not (plain-lives m e)))
+    (λ e. plain m (and-left (rightMatch m) (not (isEmpty m)) e) (not-true (isEmpty m) (and-right (rightMatch m) (not (isEmpty m)) e)))
 
 both-plain : (a b : Match) → Keeps (isPlain a) (isPlain b) (isPlain (both a b))
 unfolding both isPlain

@@ -79,10 +79,16 @@ impl Match {
     };
 }
 
-// Whether a packet meets a match.
+// Whether a packet meets a match. The addresses are tested first, as in overlap.
 pub fn meets(m: Match, p: Packet) -> bool
     ensures { λ r. ⌜ r ≡ meets m p ⌝ }
 {
+    if !in_prefix(m.destination, m.destinationlength, p.destination) {
+        return false;
+    }
+    if !in_prefix(m.source, m.sourcelength, p.source) {
+        return false;
+    }
     let f = m.flags;
     !is_empty(m)
         & meets_value(f / IN_PORT % 2 == 1, m.inport, p.inport)
@@ -93,14 +99,23 @@ pub fn meets(m: Match, p: Packet) -> bool
             m.destinationport,
             p.destinationport,
         )
-        & in_prefix(m.source, m.sourcelength, p.source)
-        & in_prefix(m.destination, m.destinationlength, p.destination)
 }
 
-// Whether some packet meets both matches.
+// Whether some packet meets both matches. The addresses are tested first: most matches that do not overlap differ there.
 pub fn overlap(a: Match, b: Match) -> bool
     ensures { λ r. ⌜ r ≡ overlap a b ⌝ }
 {
+    if !prefixes_meet(
+        a.destination,
+        a.destinationlength,
+        b.destination,
+        b.destinationlength,
+    ) {
+        return false;
+    }
+    if !prefixes_meet(a.source, a.sourcelength, b.source, b.sourcelength) {
+        return false;
+    }
     let f = a.flags;
     let g = b.flags;
     !is_empty(a)
@@ -129,13 +144,6 @@ pub fn overlap(a: Match, b: Match) -> bool
             g / DESTINATION_PORT % 2 == 1,
             b.destinationport,
         )
-        & prefixes_meet(a.source, a.sourcelength, b.source, b.sourcelength)
-        & prefixes_meet(
-            a.destination,
-            a.destinationlength,
-            b.destination,
-            b.destinationlength,
-        )
 }
 
 // The match that exactly the packets meet that meet both: empty where there are none.
@@ -160,7 +168,24 @@ pub fn is_empty(m: Match) -> bool
 pub fn right_match(m: Match) -> bool
     ensures { λ r. ⌜ r ≡ rightMatch m ⌝ }
 {
-    is_none(m) | is_plain(m)
+    if is_plain(m) {
+        return true;
+    }
+    is_none(m)
+}
+
+// Whether a match is right and is not the empty match.
+pub fn is_plain(m: Match) -> bool
+    ensures { λ r. ⌜ r ≡ isPlain m ⌝ }
+{
+    let f = m.flags;
+    (f < EMPTY)
+        & right_value(f / IN_PORT % 2 == 1, PORT_LIMIT, m.inport)
+        & right_value(f / PROTOCOL % 2 == 1, PROTOCOL_LIMIT, m.protocol)
+        & right_value(f / SOURCE_PORT % 2 == 1, PORT_LIMIT, m.sourceport)
+        & right_value(f / DESTINATION_PORT % 2 == 1, PORT_LIMIT, m.destinationport)
+        & right_prefix(m.source, m.sourcelength)
+        & right_prefix(m.destination, m.destinationlength)
 }
 
 // Whether the values of a packet are in their ranges.
@@ -299,18 +324,4 @@ fn is_none(m: Match) -> bool
         & (m.destinationport == 0)
         & (m.sourcelength == 0)
         & (m.destinationlength == 0)
-}
-
-// Whether a match other than that is right.
-fn is_plain(m: Match) -> bool
-    ensures { λ r. ⌜ r ≡ isPlain m ⌝ }
-{
-    let f = m.flags;
-    (f < EMPTY)
-        & right_value(f / IN_PORT % 2 == 1, PORT_LIMIT, m.inport)
-        & right_value(f / PROTOCOL % 2 == 1, PROTOCOL_LIMIT, m.protocol)
-        & right_value(f / SOURCE_PORT % 2 == 1, PORT_LIMIT, m.sourceport)
-        & right_value(f / DESTINATION_PORT % 2 == 1, PORT_LIMIT, m.destinationport)
-        & right_prefix(m.source, m.sourcelength)
-        & right_prefix(m.destination, m.destinationlength)
 }

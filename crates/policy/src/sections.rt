@@ -122,10 +122,10 @@ fn cells_fault(operator: &[u32], at: usize) -> Test
 fn atom_fault(atom: &[u32], at: usize) -> Test
     ensures { λ r. ⌜ r ≡ atomFault at (now (atom .entry)) ⌝ }
 {
-    otherwise(
-        unless(right_row_match(atom), WRONG_MATCH, at),
-        unless(right_row_action(atom), WRONG_ACTION, at),
-    )
+    if !right_row_match(atom) {
+        return unless(false, WRONG_MATCH, at);
+    }
+    unless(right_row_action(atom), WRONG_ACTION, at)
 }
 
 // An operator index that is too large, or a count.

@@ -37,7 +37,8 @@ pub(crate) fn shape_fault(file: &[u32], at: usize, count: usize) -> Test
         if DEEPEST < d {
             return unless(false, NO_TREE, i);
         }
-        waiting = entered(waiting, d, file[from + CHILDREN]);
+        waiting[d - 1] -= 1;
+        waiting[d] = file[from + CHILDREN];
         height = d + 1;
         from += NODE_WORDS;
         left -= 1;
@@ -61,19 +62,6 @@ fn settled(waiting: [u32; 17], height: usize) -> usize
         d = top;
     }
     d
-}
-
-// Takes a child of the innermost node that waits for one, with children of its own.
-fn entered(waiting: [u32; 17], height: usize, children: u32) -> [u32; 17]
-    requires { ⌜ (0 < height) × (height ≤ deepest) × (0 < getD waiting (height - 1) 0) ⌝ }
-    ensures { λ r. ⌜ r ≡ set (set waiting (height - 1) (getD waiting (height - 1) 0 - 1)) height children ⌝ }
-{
-    let mut w = waiting;
-    let top = height - 1;
-    let n = w[top];
-    w[top] = n - 1;
-    w[height] = children;
-    w
 }
 
 // Whether the own-atom counts add up to the atoms.

@@ -1,25 +1,24 @@
--- `first_triple` is the search along the triples: what is left of it at turn k has the whole search's answer, and turn k tries entry k.
+-- `first_triple` is the search along the pairs, each with all thirds: what is left of it at turn k has the whole search's answer, and turn k tries pair k.
 use Prim.Native.Nat.{_-_, _<_}
 use native.Mathlib.Omega.{arith}
-use mathlib.Core.Path.{_≡_, refl}
+use mathlib.Core.Path.{_≡_}
 use lib.ListN.{length, drop}
 use borrow.Author.Needs.{needs}
-use Rattle.action.specs.Laws.{along, shown, pairs, triples, associates, firstTriple}
+use Rattle.action.specs.Laws.{along, shown, pairs, firstTriple}
 use Rattle.action.specs.declared.Action.the-variants.{DontCare}
-use Rattle.action.proofs.Along.{hit, miss, none-left}
-use Rattle.action.proofs.Product.{triple-tried}
+use Rattle.action.proofs.Along.{else-hit, else-miss, turn, none-left}
+use Rattle.action.proofs.Product.{byPair, pair-thirds, triples-by-pair}
 use Rattle.action.proofs.first_triple.Statement.{statement}
 use Rattle.action.proofs.first_triple.Tie as tie
 
 abbrev Inv-loop : tie.InvT-loop
-Inv-loop op k₀ k = along (associates (op .cells)) (drop k triples) ≡ firstTriple (op .cells)
+Inv-loop op k₀ k = along (byPair (op .cells)) (drop k pairs) ≡ firstTriple (op .cells)
 
 abbrev μ-loop : tie.MeasureT-loop
-μ-loop op k₀ k = length triples - k
+μ-loop op k₀ k = length pairs - k
 
 loop-holds : tie.Need-loop-holds Inv-loop μ-loop
-unfolding firstTriple
-loop-holds c = refl
+loop-holds c = triples-by-pair (c .args .op .cells)
 
 showing-requires : tie.Need-showing-requires Inv-loop μ-loop
 showing-requires c κs = search needs
@@ -27,71 +26,54 @@ showing-requires c κs = search needs
 showing-requires-2 : tie.Need-showing-requires-2 Inv-loop μ-loop
 showing-requires-2 c κs = search needs
 
-showing-requires-3 : tie.Need-showing-requires-3 Inv-loop μ-loop
-showing-requires-3 c κs = search needs
+with-third-requires : tie.Need-with-third-requires Inv-loop μ-loop
+with-third-requires c κs = search needs
 
-join-requires : tie.Need-join-requires Inv-loop μ-loop
-join-requires c κs = search needs
-
-join-requires-2 : tie.Need-join-requires-2 Inv-loop μ-loop
-join-requires-2 c κs = search needs
-
-join-requires-3 : tie.Need-join-requires-3 Inv-loop μ-loop
-join-requires-3 c κs = search needs
-
-join-requires-4 : tie.Need-join-requires-4 Inv-loop μ-loop
-join-requires-4 c κs = search needs
-
-same-requires : tie.Need-same-requires Inv-loop μ-loop
-same-requires c κs = search needs
+enum-told : tie.Need-enum-told Inv-loop μ-loop
+enum-told c = search needs
 
 returns : tie.Need-returns Inv-loop μ-loop
-unfolding triples pairs shown
+unfolding pairs shown
 returns c =
-    let l = c .before .before .before .before .before .before .before .before .before .before .loop in
-    let o = c .before .before .before .before .before .before .before .before .before .before .before .args .op .cells in
-    let h : l .k < length triples = omega arith in
-    hit (associates o) triples (DontCare, (DontCare, DontCare)) (l .k) h (l .inv)
-    (triple-tried o (l .k) _ _ _ _ _ _ _ _ h
-    (c .before .before .before .before .before .before .before .before .showing .ensures)
-    (c .before .before .before .before .before .before .before .showing2 .ensures)
-    (c .before .before .before .before .before .before .showing3 .ensures)
-    (c .before .before .before .before .before .join .ensures)
-    (c .before .before .before .before .join2 .ensures)
-    (c .before .before .before .join3 .ensures)
-    (c .before .before .join4 .ensures)
-    (c .before .same .ensures))
-    (c .if1 .taken)
+    let l = c .before .before .before .before .before .before .loop in
+    let o = c .before .before .before .before .before .before .before .args .op .cells in
+    let h : l .k < length pairs = omega arith in
+    else-hit _ _ _
+    (turn (byPair o) pairs (DontCare, DontCare) (l .k) h (l .inv)
+    (pair-thirds o (l .k) _ _ _ h
+    (c .before .before .before .before .showing .ensures)
+    (c .before .before .before .showing2 .ensures)
+    (c .before .before .with-third .ensures)))
+    _ _ _ _ (c .enum-told .given .1)
+
+enum-told-2 : tie.Need-enum-told-2 Inv-loop μ-loop
+enum-told-2 c = search needs
 
 add-k : tie.Need-add-k Inv-loop μ-loop
-unfolding triples pairs shown
+unfolding pairs shown
 add-k c = omega arith
 
 loop-less : tie.Need-loop-less Inv-loop μ-loop
-unfolding triples pairs shown
+unfolding pairs shown
 loop-less c = omega arith
 
 loop-again : tie.Need-loop-again Inv-loop μ-loop
-unfolding triples pairs shown
+unfolding pairs shown
 loop-again c =
-    let l = c .before .before .before .before .before .before .before .before .before .before .loop in
-    let o = c .before .before .before .before .before .before .before .before .before .before .before .args .op .cells in
-    let h : l .k < length triples = omega arith in
-    miss (associates o) triples (DontCare, (DontCare, DontCare)) (l .k) h (l .inv)
-    (triple-tried o (l .k) _ _ _ _ _ _ _ _ h
-    (c .before .before .before .before .before .before .before .before .showing .ensures)
-    (c .before .before .before .before .before .before .before .showing2 .ensures)
-    (c .before .before .before .before .before .before .showing3 .ensures)
-    (c .before .before .before .before .before .join .ensures)
-    (c .before .before .before .before .join2 .ensures)
-    (c .before .before .before .join3 .ensures)
-    (c .before .before .join4 .ensures)
-    (c .before .same .ensures))
-    (c .if1 .left)
+    let l = c .before .before .before .before .before .before .loop in
+    let o = c .before .before .before .before .before .before .before .args .op .cells in
+    let h : l .k < length pairs = omega arith in
+    else-miss _ _ _
+    (turn (byPair o) pairs (DontCare, DontCare) (l .k) h (l .inv)
+    (pair-thirds o (l .k) _ _ _ h
+    (c .before .before .before .before .showing .ensures)
+    (c .before .before .before .showing2 .ensures)
+    (c .before .before .with-third .ensures)))
+    (c .enum-told2 .given .1)
 
 returns-2 : tie.Need-returns-2 Inv-loop μ-loop
-unfolding triples pairs shown
-returns-2 c = none-left _ triples (c .before .loop .k) _ (omega arith) (c .before .loop .inv)
+unfolding pairs shown
+returns-2 c = none-left _ pairs (c .before .loop .k) _ (omega arith) (c .before .loop .inv)
 
 pub first-triple-spec : {M : Type 1} → statement M
 first-triple-spec =
@@ -102,13 +84,10 @@ first-triple-spec =
     loop-holds
     showing-requires
     showing-requires-2
-    showing-requires-3
-    join-requires
-    join-requires-2
-    join-requires-3
-    join-requires-4
-    same-requires
+    with-third-requires
+    enum-told
     returns
+    enum-told-2
     add-k
     loop-less
     loop-again

@@ -1,19 +1,24 @@
--- `flow::right_match` meets its contract: the body is the definition, with the callees' results rewritten.
+-- `flow::right_match` meets its contract: of the definition's two tests, the one that mostly passes is made first.
 -- Assumes nothing.
+use mathlib.Core.Bool.{or-true, or-false}
 use borrow.Author.Needs.{needs}
 use Rattle.flow.specs.Match.{rightMatch}
 use Rattle.flow.proofs.right_match.Statement.{statement}
 use Rattle.flow.proofs.right_match.Tie as tie
-
-is-none-requires : tie.Need-is-none-requires
-is-none-requires c κs = search needs
 
 is-plain-requires : tie.Need-is-plain-requires
 is-plain-requires c κs = search needs
 
 returns : tie.Need-returns
 unfolding rightMatch
-returns c = rw (c .is-plain .ensures, c .before .is-none .ensures)
+returns c = rw (← c .before .is-plain .ensures, c .if1 .taken, or-true)
+
+is-none-requires : tie.Need-is-none-requires
+is-none-requires c κs = search needs
+
+returns-2 : tie.Need-returns-2
+unfolding rightMatch
+returns-2 c = rw (c .is-none .ensures, ← c .before .before .is-plain .ensures, c .before .if1 .left, or-false)
 
 pub right-match-spec : {M : Type 1} → statement M
-right-match-spec = tie.close (tie.spec is-none-requires is-plain-requires returns)
+right-match-spec = tie.close (tie.spec is-plain-requires returns is-none-requires returns-2)

@@ -1,5 +1,7 @@
 -- `join` goes the definition's way: past a don't care on the left, past one on the right, or to the cell.
+use mathlib.Core.Path.{_∙_, ap}
 use borrow.Author.Needs.{needs}
+use Rattle.action.specs.Operator.{coded}
 use Rattle.action.proofs.Joined.{join-left-none, join-right-none, join-coded}
 use Rattle.action.proofs.Operator.join.Statement.{statement}
 use Rattle.action.proofs.Operator.join.Tie as tie
@@ -13,7 +15,7 @@ kind-requires-2 c κs = search needs
 returns : tie.Need-returns
 returns c =
     let g = c .before .before .before .args in
-    join-left-none (g .self .cells) (g .left) (g .right) _ _
+    join-left-none (g .t1 .cells) (g .left) (g .right) _ _
     (c .before .before .kind .ensures .0)
     (c .before .kind2 .ensures .0)
     (c .if1 .taken)
@@ -21,7 +23,7 @@ returns c =
 returns-2 : tie.Need-returns-2
 returns-2 c =
     let g = c .before .before .before .before .args in
-    join-right-none (g .self .cells) (g .left) (g .right) _ _
+    join-right-none (g .t1 .cells) (g .left) (g .right) _ _
     (c .before .before .before .kind .ensures .0)
     (c .before .before .kind2 .ensures .0)
     (c .before .if1 .left)
@@ -39,25 +41,22 @@ sub-cell-2 c = search needs
 add-cell : tie.Need-add-cell
 add-cell c = search needs
 
-cast-coded : tie.Need-cast-coded
-cast-coded c = search needs
+cast-word : tie.Need-cast-word
+cast-word c = search needs
 
-mul-coded : tie.Need-mul-coded
-mul-coded c = search needs
-
-array-read-coded : tie.Need-array-read-coded
-array-read-coded c = search needs
+word-requires : tie.Need-word-requires
+word-requires c κs = search needs
 
 coded-requires : tie.Need-coded-requires
 coded-requires c κs = search needs
 
 returns-3 : tie.Need-returns-3
 returns-3 c =
-    let g = c .before .before .before .before .before .before .args in
-    join-coded (g .self .cells) (g .left) (g .right) _ _
-    (c .before .before .before .before .before .kind .ensures .0)
-    (c .before .before .before .before .kind2 .ensures .0)
-    _ (search needs) (search needs) (c .coded .ensures)
+    let g = c .before .before .before .before .before .before .before .before .before .args in
+    join-coded (g .t1 .cells) (g .left) (g .right) _ _
+    (c .before .before .before .before .before .before .before .before .kind .ensures .0)
+    (c .before .before .before .before .before .before .before .kind2 .ensures .0)
+    _ (search needs) (search needs) (c .coded .ensures ∙ ap (λ n. coded n (g .left) (g .right)) (c .before .word .ensures))
 
 pub join-spec : {M : Type 1} → statement M
 join-spec =
@@ -71,8 +70,7 @@ join-spec =
     mul-cell
     sub-cell-2
     add-cell
-    cast-coded
-    mul-coded
-    array-read-coded
+    cast-word
+    word-requires
     coded-requires
     returns-3)

@@ -51,17 +51,35 @@ returns-2 c =
     c .unless2 .ensures
     ∙ too-deep (now (g .file)) (l .from) (l .left) (l .i) (l .waiting) (l .height) _ _ (l .inv .1) (c .before .before .before .settled .ensures .0) (c .before .before .before .before .loop-test .taken) (c .before .if2 .taken)
 
-add-entered : tie.Need-add-entered Inv-loop μ-loop
-add-entered c = omega arith
+sub-waiting : tie.Need-sub-waiting Inv-loop μ-loop
+sub-waiting c = omega arith
 
-mul-entered : tie.Need-mul-entered Inv-loop μ-loop
-mul-entered c = omega arith
+mul-waiting : tie.Need-mul-waiting Inv-loop μ-loop
+mul-waiting c = omega arith
 
-shared-slice-read-entered : tie.Need-shared-slice-read-entered Inv-loop μ-loop
-shared-slice-read-entered c = omega arith
+array-read-waiting : tie.Need-array-read-waiting Inv-loop μ-loop
+array-read-waiting c = omega arith
 
-entered-requires : tie.Need-entered-requires Inv-loop μ-loop
-entered-requires c κs = (omega arith, omega arith, c .before .before .before .settled .ensures .2 (omega arith))
+sub-waiting-2 : tie.Need-sub-waiting-2 Inv-loop μ-loop
+sub-waiting-2 c = c .before .before .settled .ensures .2 (omega arith)
+
+array-write-waiting-2 : tie.Need-array-write-waiting-2 Inv-loop μ-loop
+array-write-waiting-2 c = omega arith
+
+add-waiting : tie.Need-add-waiting Inv-loop μ-loop
+add-waiting c = omega arith
+
+mul-waiting-2 : tie.Need-mul-waiting-2 Inv-loop μ-loop
+mul-waiting-2 c = omega arith
+
+shared-slice-read-waiting : tie.Need-shared-slice-read-waiting Inv-loop μ-loop
+shared-slice-read-waiting c = omega arith
+
+mul-waiting-3 : tie.Need-mul-waiting-3 Inv-loop μ-loop
+mul-waiting-3 c = omega arith
+
+array-write-waiting-3 : tie.Need-array-write-waiting-3 Inv-loop μ-loop
+array-write-waiting-3 c = omega arith
 
 add-height : tie.Need-add-height Inv-loop μ-loop
 add-height c = omega arith
@@ -80,10 +98,16 @@ loop-less c = omega arith
 
 loop-again : tie.Need-loop-again Inv-loop μ-loop
 loop-again c =
-    let l = c .before .before .before .before .before .before .loop in
-    let g = c .before .before .before .before .before .before .before .before .args in
-    let n : length (c .entered .result) ≡ suc deepest = rw (c .entered .ensures) (simp length-set (omega arith)) in
-    (omega arith, rw (c .entered .ensures) (on (now (g .file)) (l .from) (l .left) (l .i) (l .waiting) (l .height) _ _ (l .inv .1) (c .before .before .before .before .settled .ensures .0) (c .before .before .before .before .before .loop-test .taken) (omega arith) (c .before .before .if2 .left) (omega arith)))
+    let l = c .before .before .before .before .before .loop in
+    let g = c .before .before .before .before .before .before .before .args in (
+      simp length-set (omega arith),
+      on (now (g .file)) (l .from) (l .left) (l .i) (l .waiting) (l .height) _ _ (l .inv .1)
+          (c .before .before .before .settled .ensures .0)
+          (c .before .before .before .before .loop-test .taken)
+          (omega arith)
+          (c .before .if2 .left)
+          (omega arith),
+    )
 
 settled-requires-2 : tie.Need-settled-requires-2 Inv-loop μ-loop
 settled-requires-2 c κs = omega arith
@@ -111,10 +135,16 @@ shape-fault-spec =
     returns
     unless-requires-2
     returns-2
-    add-entered
-    mul-entered
-    shared-slice-read-entered
-    entered-requires
+    sub-waiting
+    mul-waiting
+    array-read-waiting
+    sub-waiting-2
+    array-write-waiting-2
+    add-waiting
+    mul-waiting-2
+    shared-slice-read-waiting
+    mul-waiting-3
+    array-write-waiting-3
     add-height
     add-from
     sub-left

@@ -1,0 +1,220 @@
+//! Times the proved functions against hand-written ones, on the same inputs, in the same run.
+
+mod action;
+mod compile;
+mod flow;
+mod inputs;
+mod number;
+mod policy;
+mod rattle;
+mod table;
+mod tree;
+
+use flow::ROW_WORDS;
+use std::hint::black_box;
+use std::time::{Duration, Instant};
+
+/// How long the runs of one line may take, and how many there are at least and at most.
+const BUDGET: Duration = Duration::from_millis(1200);
+const FEWEST: usize = 7;
+const MOST: usize = 301;
+
+fn main() {
+    println!(
+        "{:<34} {:>12} {:>12} {:>6}",
+        "function and input", "Rattle ns", "Rust ns", "ratio"
+    );
+    let shapes = [(16, 1), (64, 16), (256, 64), (1024, 256), (1024, 1), (1024, 16)];
+    for (atoms, nodes) in shapes {
+        let file = inputs::file(&inputs::mixed(atoms), nodes);
+        let size = format!("{atoms} atoms, {nodes} nodes");
+        read(&size, &file);
+        tree(&size, &file);
+    }
+    for (atoms, nodes) in shapes {
+        let file = inputs::file(&inputs::disjoint(atoms), nodes);
+        compile(&format!("{atoms} disjoint, {nodes} nodes"), &file);
+    }
+    for atoms in 8..=12 {
+        compile(
+            &format!("{atoms} unconstrained, 1 node"),
+            &inputs::file(&inputs::overlapping(atoms), 1),
+        );
+    }
+    compile("12 unconstrained, 2 nodes", &inputs::file(&inputs::overlapping(12), 2));
+    for (atoms, nodes) in [(16, 1), (64, 16)] {
+        compile(
+            &format!("{atoms} mixed, {nodes} nodes"),
+            &inputs::file(&inputs::mixed(atoms), nodes),
+        );
+    }
+    for rows in [64, 256, 1024, 4096] {
+        let tables = [
+            ("disjoint", inputs::disjoint(rows)),
+            ("overlapping", inputs::overlapping(rows)),
+            ("mixed", inputs::mixed(rows)),
+        ];
+        for (kind, table) in tables {
+            let table = table.as_flattened();
+            let size = format!("{rows} {kind}");
+            scan(&size, table);
+            number(&size, table);
+        }
+    }
+}
+
+fn read(size: &str, file: &[u32]) {
+    assert_eq!(rattle::read(file), 0);
+    if let Err(r) = policy::read(file) {
+        panic!("refused {} {} {:?}", r.number, r.place, r.law);
+    }
+    line(
+        &format!("read {size}"),
+        8,
+        || {},
+        || {
+            rattle::read(black_box(file));
+        },
+        || {
+            let _ = black_box(policy::read(black_box(file)));
+        },
+    );
+}
+
+fn tree(size: &str, file: &[u32]) {
+    let (mut ours, mut theirs) = ([7; 2], [7; 2]);
+    let mut by_rattle = || rattle::tree(black_box(file), black_box(&inputs::PACKET), &mut ours);
+    let mut by_rust = || match tree::tree_action(black_box(file), black_box(&inputs::PACKET)) {
+        Ok(a) => {
+            theirs = action::words(a);
+            0
+        }
+        Err(refusal) => refusal.number,
+    };
+    assert_eq!(by_rattle(), by_rust());
+    line(&format!("tree {size}"), 8, || {}, || _ = by_rattle(), || _ = by_rust());
+    assert_eq!(ours, theirs);
+}
+
+fn compile(size: &str, file: &[u32]) {
+    const ROOM: usize = ROW_WORDS * 4096;
+    let mut ours = vec![vec![7; ROOM]; 2];
+    let mut theirs = ours.clone();
+    let (rows, wanted) = {
+        let [table, scratch] = &mut ours[..] else {
+            unreachable!()
+        };
+        let [other, more] = &mut theirs[..] else { unreachable!() };
+        (
+            rattle::compile(file, table, scratch),
+            compile::compile(file, other, more).unwrap_or(0),
+        )
+    };
+    assert!(rows > 0, "{size} has no room");
+    assert_eq!(rows, wanted);
+    assert!(ours == theirs);
+    let buffers = std::cell::RefCell::new(ours);
+    line(
+        &format!("compile {size}"),
+        1,
+        || buffers.borrow_mut().iter_mut().for_each(|b| b.fill(0)),
+        || {
+            let [table, scratch] = &mut buffers.borrow_mut()[..] else {
+                unreachable!()
+            };
+            black_box(rattle::compile(black_box(file), table, scratch));
+        },
+        || {
+            let [table, scratch] = &mut buffers.borrow_mut()[..] else {
+                unreachable!()
+            };
+            let _ = black_box(compile::compile(black_box(file), table, scratch));
+        },
+    );
+}
+
+fn scan(size: &str, table: &[u32]) {
+    let (mut ours, mut theirs) = ([7; 2], [7; 2]);
+    let mut by_rattle = || rattle::scan(black_box(table), black_box(&inputs::PACKET), &mut ours);
+    let mut by_rust = || match table::scan(black_box(table), black_box(&inputs::PACKET)) {
+        Ok((a, tried)) => {
+            theirs = action::words(a);
+            tried
+        }
+        Err(_) => 0,
+    };
+    assert_eq!(by_rattle(), by_rust());
+    line(&format!("scan {size}"), 8, || {}, || _ = by_rattle(), || _ = by_rust());
+    assert_eq!(ours, theirs);
+}
+
+fn number(size: &str, table: &[u32]) {
+    for (name, by_rust) in [
+        ("number", number::all_pairs as fn(&[u32], &mut [u32], &mut [u32]) -> _),
+        ("number pruned", number::pruned),
+    ] {
+        let rows = table.len() / ROW_WORDS;
+        let mut ours = vec![vec![7; rows + 1]; 2];
+        let mut theirs = ours.clone();
+        {
+            let [priorities, chain] = &mut ours[..] else {
+                unreachable!()
+            };
+            let [other, more] = &mut theirs[..] else { unreachable!() };
+            assert_eq!(
+                Ok(rattle::number(table, priorities, chain)),
+                by_rust(table, other, more)
+            );
+        }
+        assert!(ours == theirs);
+        let buffers = std::cell::RefCell::new(ours);
+        line(
+            &format!("{name} {size}"),
+            1,
+            || buffers.borrow_mut().iter_mut().for_each(|b| b.fill(0)),
+            || {
+                let [priorities, chain] = &mut buffers.borrow_mut()[..] else {
+                    unreachable!()
+                };
+                black_box(rattle::number(black_box(table), priorities, chain));
+            },
+            || {
+                let [priorities, chain] = &mut buffers.borrow_mut()[..] else {
+                    unreachable!()
+                };
+                let _ = black_box(by_rust(black_box(table), priorities, chain));
+            },
+        );
+    }
+}
+
+/// Runs the two in turn, each time so many calls, with the buffers cleared before and outside the timing, and prints the medians for one call.
+/// Words given to the program must stand in the line's name.
+fn line(name: &str, calls: u32, clear: impl Fn(), mut rattle: impl FnMut(), mut rust: impl FnMut()) {
+    if std::env::args().skip(1).any(|word| !name.contains(&word)) {
+        return;
+    }
+    let mut times = (vec![], vec![]);
+    let started = Instant::now();
+    while times.0.len() < FEWEST || (times.0.len() < MOST && started.elapsed() < BUDGET) {
+        clear();
+        times.0.push(timed(calls, &mut rattle));
+        clear();
+        times.1.push(timed(calls, &mut rust));
+    }
+    let (a, b) = (median(times.0) / calls as f64, median(times.1) / calls as f64);
+    println!("{name:<34} {a:>12.0} {b:>12.0} {:>6.2}", a / b);
+}
+
+fn timed(calls: u32, f: &mut impl FnMut()) -> f64 {
+    let start = Instant::now();
+    for _ in 0..calls {
+        f();
+    }
+    start.elapsed().as_nanos() as f64
+}
+
+fn median(mut times: Vec<f64>) -> f64 {
+    times.sort_by(f64::total_cmp);
+    times[times.len() / 2]
+}

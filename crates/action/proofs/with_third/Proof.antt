@@ -1,0 +1,103 @@
+-- `with_third` is the search along the showing actions as third: what is left of it at turn k has the whole search's answer, and turn k tries entry k.
+use Prim.Native.Nat.{_-_, _<_}
+use native.Mathlib.Omega.{arith}
+use mathlib.Core.Path.{_≡_, refl}
+use lib.ListN.{length, drop}
+use borrow.Author.Needs.{needs}
+use Rattle.action.specs.Laws.{along, shown, associates, withThird}
+use Rattle.action.specs.declared.Action.the-variants.{DontCare}
+use Rattle.action.proofs.Along.{hit, miss, none-left}
+use Rattle.action.proofs.Product.{third-tried}
+use Rattle.action.proofs.with_third.Statement.{statement}
+use Rattle.action.proofs.with_third.Tie as tie
+
+abbrev Inv-loop : tie.InvT-loop
+Inv-loop op a b ab k₀ k = along (λ c. associates (op .cells) (a, (b, c))) (drop k shown) ≡ withThird (op .cells) a b
+
+abbrev μ-loop : tie.MeasureT-loop
+μ-loop op a b ab k₀ k = length shown - k
+
+join-requires : tie.Need-join-requires Inv-loop μ-loop
+join-requires c κs = search needs
+
+loop-holds : tie.Need-loop-holds Inv-loop μ-loop
+unfolding withThird
+loop-holds c = refl
+
+showing-requires : tie.Need-showing-requires Inv-loop μ-loop
+showing-requires c κs = search needs
+
+join-requires-2 : tie.Need-join-requires-2 Inv-loop μ-loop
+join-requires-2 c κs = search needs
+
+join-requires-3 : tie.Need-join-requires-3 Inv-loop μ-loop
+join-requires-3 c κs = search needs
+
+join-requires-4 : tie.Need-join-requires-4 Inv-loop μ-loop
+join-requires-4 c κs = search needs
+
+same-requires : tie.Need-same-requires Inv-loop μ-loop
+same-requires c κs = search needs
+
+returns : tie.Need-returns Inv-loop μ-loop
+unfolding shown
+returns c =
+    let l = c .before .before .before .before .before .before .before .loop in
+    let g = c .before .before .before .before .before .before .before .before .before .args in
+    let h : l .k < length shown = omega arith in
+    hit (λ x. associates (g .op .cells) (g .a, (g .b, x))) shown DontCare (l .k) h (l .inv)
+    (third-tried (g .op .cells) (l .k) (g .a) (g .b) _ _ _ _ _ _
+    (c .before .before .before .before .before .showing .ensures)
+    (c .before .before .before .before .before .before .before .before .join .ensures)
+    (c .before .before .before .before .join2 .ensures)
+    (c .before .before .before .join3 .ensures)
+    (c .before .before .join4 .ensures)
+    (c .before .same .ensures))
+    (c .if1 .taken)
+
+add-k : tie.Need-add-k Inv-loop μ-loop
+unfolding shown
+add-k c = omega arith
+
+loop-less : tie.Need-loop-less Inv-loop μ-loop
+unfolding shown
+loop-less c = omega arith
+
+loop-again : tie.Need-loop-again Inv-loop μ-loop
+unfolding shown
+loop-again c =
+    let l = c .before .before .before .before .before .before .before .loop in
+    let g = c .before .before .before .before .before .before .before .before .before .args in
+    let h : l .k < length shown = omega arith in
+    miss (λ x. associates (g .op .cells) (g .a, (g .b, x))) shown DontCare (l .k) h (l .inv)
+    (third-tried (g .op .cells) (l .k) (g .a) (g .b) _ _ _ _ _ _
+    (c .before .before .before .before .before .showing .ensures)
+    (c .before .before .before .before .before .before .before .before .join .ensures)
+    (c .before .before .before .before .join2 .ensures)
+    (c .before .before .before .join3 .ensures)
+    (c .before .before .join4 .ensures)
+    (c .before .same .ensures))
+    (c .if1 .left)
+
+returns-2 : tie.Need-returns-2 Inv-loop μ-loop
+unfolding shown
+returns-2 c = none-left _ shown (c .before .loop .k) _ (omega arith) (c .before .loop .inv)
+
+pub with-third-spec : {M : Type 1} → statement M
+with-third-spec =
+    tie.close
+    (tie.spec
+    Inv-loop
+    μ-loop
+    join-requires
+    loop-holds
+    showing-requires
+    join-requires-2
+    join-requires-3
+    join-requires-4
+    same-requires
+    returns
+    add-k
+    loop-less
+    loop-again
+    returns-2)
