@@ -29,12 +29,8 @@ const NUMBER: u32 = 5;
 
 const LIST: u32 = 6;
 
-// The longest slices taken, in words.
-const MOST_FILE: usize = 13000;
-
-const MOST_TABLE: usize = 45100;
-
-const MOST_PACKET: usize = 16;
+// The longest slice taken, in words, and the longest input of a listing, in bytes.
+const MOST_WORDS: usize = 45100;
 
 const MOST_BYTES: usize = 52000;
 
@@ -47,48 +43,57 @@ struct Taken {
     count: usize,
 }
 
-// A proved loop has to end, and nothing says that the input does: the turns are counted down, from a number that no run uses up.
+// Whether a word was read, and which.
+struct Word {
+    whole: bool,
+    word: u32,
+}
+
 fn main() {
+    let mut a = [0u32; MOST_WORDS];
+    let mut b = [0u32; MOST_WORDS];
+    let mut c = [0u32; MOST_WORDS];
+    let mut input = [0u8; MOST_BYTES];
+    let mut out = [0u8; LONGEST_LISTING];
+    answer_all(&mut a, &mut b, &mut c, &mut input, &mut out);
+}
+
+// A proved loop has to end, and nothing says that the input does: the turns are counted down, from a number that no run uses up.
+fn answer_all(a: &mut [u32], b: &mut [u32], c: &mut [u32], input: &mut [u8], out: &mut [u8]) {
     let mut turns = u64::MAX;
-    while turns > 0 && answer() {
+    while turns > 0 && answer(a, b, c, input, out) {
         turns -= 1;
     }
 }
 
-// Answers one call. False where the input has ended or is no call.
-fn answer() -> bool {
-    let mut call = [0u32; 1];
-    if !take(&mut call) {
+// Answers one call, whose slices are read into the buffers. False where the input has ended or is no call.
+fn answer(a: &mut [u32], b: &mut [u32], c: &mut [u32], input: &mut [u8], out: &mut [u8]) -> bool {
+    let call = take_word();
+    if !call.whole {
         return false;
     }
-    let c = call[0];
-    if c == READ {
-        return answer_read();
+    if call.word == READ {
+        return answer_read(a);
     }
-    if c == TREE_ACTION {
-        return answer_action();
+    if call.word == TREE_ACTION {
+        return answer_action(a, b);
     }
-    if c == COMPILE {
-        return answer_compile();
+    if call.word == COMPILE {
+        return answer_compile(a, b, c);
     }
-    if c == SCAN {
-        return answer_scan();
+    if call.word == SCAN {
+        return answer_scan(a, b);
     }
-    if c == NUMBER {
-        return answer_number();
+    if call.word == NUMBER {
+        return answer_number(a, b, c);
     }
-    if c == LIST {
-        return answer_list();
+    if call.word == LIST {
+        return answer_list(a, input, out);
     }
     false
 }
 
-fn answer_read() -> bool {
-    let mut file = [0u32; MOST_FILE];
-    read_slice(&mut file)
-}
-
-fn read_slice(file: &mut [u32]) -> bool {
+fn answer_read(file: &mut [u32]) -> bool {
     let f = take_slice(file);
     if !f.whole {
         return false;
@@ -105,13 +110,7 @@ fn read_slice(file: &mut [u32]) -> bool {
     }
 }
 
-fn answer_action() -> bool {
-    let mut file = [0u32; MOST_FILE];
-    let mut packet = [0u32; MOST_PACKET];
-    action_slices(&mut file, &mut packet)
-}
-
-fn action_slices(file: &mut [u32], packet: &mut [u32]) -> bool {
+fn answer_action(file: &mut [u32], packet: &mut [u32]) -> bool {
     let f = take_slice(file);
     let p = take_slice(packet);
     if !(f.whole & p.whole) {
@@ -124,14 +123,7 @@ fn action_slices(file: &mut [u32], packet: &mut [u32]) -> bool {
     }
 }
 
-fn answer_compile() -> bool {
-    let mut file = [0u32; MOST_FILE];
-    let mut table = [0u32; MOST_TABLE];
-    let mut scratch = [0u32; MOST_TABLE];
-    compile_slices(&mut file, &mut table, &mut scratch)
-}
-
-fn compile_slices(file: &mut [u32], table: &mut [u32], scratch: &mut [u32]) -> bool {
+fn answer_compile(file: &mut [u32], table: &mut [u32], scratch: &mut [u32]) -> bool {
     let f = take_slice(file);
     let t = take_slice(table);
     let s = take_slice(scratch);
@@ -150,13 +142,7 @@ fn compile_within(file: &[u32], table: &mut [u32], scratch: &mut [u32]) -> bool 
     give_compiled(compiled) & give(table) & give(scratch)
 }
 
-fn answer_scan() -> bool {
-    let mut table = [0u32; MOST_TABLE];
-    let mut packet = [0u32; MOST_PACKET];
-    scan_slices(&mut table, &mut packet)
-}
-
-fn scan_slices(table: &mut [u32], packet: &mut [u32]) -> bool {
+fn answer_scan(table: &mut [u32], packet: &mut [u32]) -> bool {
     let t = take_slice(table);
     let p = take_slice(packet);
     if !(t.whole & p.whole) {
@@ -172,14 +158,7 @@ fn scan_slices(table: &mut [u32], packet: &mut [u32]) -> bool {
     }
 }
 
-fn answer_number() -> bool {
-    let mut table = [0u32; MOST_TABLE];
-    let mut priorities = [0u32; MOST_TABLE];
-    let mut chain = [0u32; MOST_TABLE];
-    number_slices(&mut table, &mut priorities, &mut chain)
-}
-
-fn number_slices(table: &mut [u32], priorities: &mut [u32], chain: &mut [u32]) -> bool {
+fn answer_number(table: &mut [u32], priorities: &mut [u32], chain: &mut [u32]) -> bool {
     let t = take_slice(table);
     let p = take_slice(priorities);
     let c = take_slice(chain);
@@ -198,24 +177,14 @@ fn number_within(table: &[u32], priorities: &mut [u32], chain: &mut [u32]) -> bo
     give_numbered(numbered) & give(priorities) & give(chain)
 }
 
-fn answer_list() -> bool {
-    let mut words = [0u32; MOST_BYTES / WORD_BYTES];
-    let mut input = [0u8; MOST_BYTES];
-    let mut out = [0u8; LONGEST_LISTING];
-    list_bytes(&mut words, &mut input, &mut out)
-}
-
-fn list_bytes(words: &mut [u32], input: &mut [u8], out: &mut [u8]) -> bool {
-    let mut length = [0u32; 1];
-    if !take(&mut length) {
-        return false;
-    }
-    let n = wide(length[0]);
+fn answer_list(words: &mut [u32], input: &mut [u8], out: &mut [u8]) -> bool {
+    let length = take_word();
+    let n = wide(length.word);
     let w = take_first(words, whole_words(n));
-    if !w.whole {
+    if !(length.whole & w.whole) {
         return false;
     }
-    words::to_bytes(words, input);
+    words::to_bytes(&words[..w.count], input);
     let most = first(n, input);
     let list = text::list(&input[..most], out);
     let end = first(list, out);
@@ -226,11 +195,9 @@ fn list_bytes(words: &mut [u32], input: &mut [u8], out: &mut [u8]) -> bool {
 fn take_slice(out: &mut [u32]) -> Taken
     ensures { λ r. ⌜ Counts (r .count) (now (out .exit)) ⌝ }
 {
-    let mut length = [0u32; 1];
-    let is_there = take(&mut length);
-    let n = wide(length[0]);
-    let got = take_first(out, n);
-    let whole = got.whole & is_there;
+    let length = take_word();
+    let got = take_first(out, wide(length.word));
+    let whole = length.whole & got.whole;
     let count = got.count;
     Taken { whole, count }
 }
@@ -243,6 +210,14 @@ fn take_first(out: &mut [u32], n: usize) -> Taken
     let is_there = take(&mut out[..count]);
     let whole = is_there & (count == n);
     Taken { whole, count }
+}
+
+// Reads one word.
+fn take_word() -> Word {
+    let mut buffer = [0u32; 1];
+    let whole = take(&mut buffer);
+    let word = buffer[0];
+    Word { whole, word }
 }
 
 // Reads words until a buffer is full. False where the input ends before.
