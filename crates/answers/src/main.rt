@@ -53,42 +53,53 @@ fn main() {
     let mut a = [0u32; MOST_WORDS];
     let mut b = [0u32; MOST_WORDS];
     let mut c = [0u32; MOST_WORDS];
-    let mut input = [0u8; MOST_BYTES];
-    let mut out = [0u8; LONGEST_LISTING];
-    answer_all(&mut a, &mut b, &mut c, &mut input, &mut out);
+    answer_all(&mut a, &mut b, &mut c);
 }
 
 // A proved loop has to end, and nothing says that the input does: the turns are counted down, from a number that no run uses up.
-fn answer_all(a: &mut [u32], b: &mut [u32], c: &mut [u32], input: &mut [u8], out: &mut [u8]) {
+fn answer_all(a: &mut [u32], b: &mut [u32], c: &mut [u32]) {
     let mut turns = u64::MAX;
-    while turns > 0 && answer(a, b, c, input, out) {
+    while turns > 0 && answer(a, b, c) {
         turns -= 1;
     }
 }
 
 // Answers one call, whose slices are read into the buffers. False where the input has ended or is no call.
-fn answer(a: &mut [u32], b: &mut [u32], c: &mut [u32], input: &mut [u8], out: &mut [u8]) -> bool {
+fn answer(a: &mut [u32], b: &mut [u32], c: &mut [u32]) -> bool {
     let call = take_word();
     if !call.whole {
         return false;
     }
-    if call.word == READ {
+    if call.word <= COMPILE {
+        return answer_file(call.word, a, b, c);
+    }
+    answer_other(call.word, a, b, c)
+}
+
+// The calls with a policy file.
+fn answer_file(call: u32, a: &mut [u32], b: &mut [u32], c: &mut [u32]) -> bool {
+    if call == READ {
         return answer_read(a);
     }
-    if call.word == TREE_ACTION {
+    if call == TREE_ACTION {
         return answer_action(a, b);
     }
-    if call.word == COMPILE {
+    if call == COMPILE {
         return answer_compile(a, b, c);
     }
-    if call.word == SCAN {
+    false
+}
+
+// The calls with a table or with bytes.
+fn answer_other(call: u32, a: &mut [u32], b: &mut [u32], c: &mut [u32]) -> bool {
+    if call == SCAN {
         return answer_scan(a, b);
     }
-    if call.word == NUMBER {
+    if call == NUMBER {
         return answer_number(a, b, c);
     }
-    if call.word == LIST {
-        return answer_list(a, input, out);
+    if call == LIST {
+        return answer_list(a);
     }
     false
 }
@@ -177,7 +188,13 @@ fn number_within(table: &[u32], priorities: &mut [u32], chain: &mut [u32]) -> bo
     give_numbered(numbered) & give(priorities) & give(chain)
 }
 
-fn answer_list(words: &mut [u32], input: &mut [u8], out: &mut [u8]) -> bool {
+fn answer_list(words: &mut [u32]) -> bool {
+    let mut input = [0u8; MOST_BYTES];
+    let mut out = [0u8; LONGEST_LISTING];
+    list_bytes(words, &mut input, &mut out)
+}
+
+fn list_bytes(words: &mut [u32], input: &mut [u8], out: &mut [u8]) -> bool {
     let length = take_word();
     let n = wide(length.word);
     let w = take_first(words, whole_words(n));

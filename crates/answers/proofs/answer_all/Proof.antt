@@ -8,13 +8,13 @@ use Rattle.answers.proofs.answer_all.Statement.{statement}
 use Rattle.answers.proofs.answer_all.Tie as tie
 
 abbrev Inv-loop : tie.InvT-loop
-Inv-loop a₀ b₀ c₀ input₀ out₀ turns₀ a b c input out turns = (length a ≡ length a₀) × (length b ≡ length b₀) × (length c ≡ length c₀) × (length input ≡ length input₀) × (length out ≡ length out₀)
+Inv-loop a₀ b₀ c₀ turns₀ a b c turns = (length a ≡ length a₀) × (length b ≡ length b₀) × (length c ≡ length c₀)
 
 abbrev μ-loop : tie.MeasureT-loop
-μ-loop a₀ b₀ c₀ input₀ out₀ turns₀ a b c input out turns = turns
+μ-loop a₀ b₀ c₀ turns₀ a b c turns = turns
 
 loop-holds : tie.Need-loop-holds Inv-loop μ-loop
-loop-holds c = (refl, refl, refl, refl, refl)
+loop-holds c = (refl, refl, refl)
 
 answer-requires : tie.Need-answer-requires Inv-loop μ-loop
 answer-requires c κs = tt
@@ -37,29 +37,17 @@ same-length-2 c = search needs
 same-length-3 : tie.Need-same-length-3 Inv-loop μ-loop
 same-length-3 c = search needs
 
+returns : tie.Need-returns Inv-loop μ-loop
+returns c = tt
+
 same-length-4 : tie.Need-same-length-4 Inv-loop μ-loop
 same-length-4 c = search needs
 
 same-length-5 : tie.Need-same-length-5 Inv-loop μ-loop
 same-length-5 c = search needs
 
-returns : tie.Need-returns Inv-loop μ-loop
-returns c = tt
-
 same-length-6 : tie.Need-same-length-6 Inv-loop μ-loop
 same-length-6 c = search needs
-
-same-length-7 : tie.Need-same-length-7 Inv-loop μ-loop
-same-length-7 c = search needs
-
-same-length-8 : tie.Need-same-length-8 Inv-loop μ-loop
-same-length-8 c = search needs
-
-same-length-9 : tie.Need-same-length-9 Inv-loop μ-loop
-same-length-9 c = search needs
-
-same-length-10 : tie.Need-same-length-10 Inv-loop μ-loop
-same-length-10 c = search needs
 
 returns-2 : tie.Need-returns-2 Inv-loop μ-loop
 returns-2 c = tt
@@ -78,12 +66,8 @@ answer-all-spec =
     same-length
     same-length-2
     same-length-3
+    returns
     same-length-4
     same-length-5
-    returns
     same-length-6
-    same-length-7
-    same-length-8
-    same-length-9
-    same-length-10
     returns-2)
