@@ -3,7 +3,7 @@ use Prim.Native.Nat.{ℕ}
 use mathlib.Core.Path.{_≡_, sym, _∙_, ap}
 use mathlib.Core.List.{List}
 use denote.Ref.{now}
-use Rattle.promises.specs.Answers.{OneAnswer, answerAnd}
+use Rattle.promises.specs.Answers.{OneAnswer, answerWith, answerAnd}
 use Rattle.field.proofs.in_prefix.Reads as in-prefix
 use Rattle.field.proofs.right_prefix.Reads as right-prefix
 use Rattle.field.proofs.prefixes_meet.Reads as prefixes-meet
@@ -17,6 +17,8 @@ use Rattle.field.proofs.right_value.Reads as right-value
 use Rattle.words.proofs.word.Reads as word
 use Rattle.words.proofs.copy.Reads as copy
 use Rattle.words.proofs.clear_from.Reads as clear-from
+use Rattle.words.proofs.from_bytes.Reads as from-bytes
+use Rattle.words.proofs.to_bytes.Reads as to-bytes
 use Rattle.flow.proofs.meets.Reads as meets
 use Rattle.flow.proofs.overlap.Reads as overlap
 use Rattle.flow.proofs.common.Reads as common
@@ -53,6 +55,8 @@ use Rattle.table.proofs.scan.Reads as scan
 use Rattle.table.proofs.check.Reads as check
 use Rattle.priority.proofs.number.Reads as number
 use Rattle.compile.proofs.compile.Reads as compile
+use Rattle.text.proofs.list.Reads as list
+use Rattle.text.proofs.put_line.Reads as put-line
 
 -- where the contract says that what is seen is d, of the arguments alone
 fixed :
@@ -62,6 +66,9 @@ fixed :
 fixed f = record { asks-nothing = λ κ a. tt; no-second = λ κ a r₁ r₂ s₁ s₂ p q. f κ a r₁ s₁ p ∙ sym (f κ a r₂ s₂ q) }
 
 -- equal answers with equal buffers
+both : {X : Type 0} {r r′ : X} {b b′ : List ℕ} → r ≡ r′ → b ≡ b′ → answerWith r b ≡ answerWith r′ b′
+both p q = rw (p, q)
+
 all : {X : Type 0} {r r′ : X} {b b′ c c′ : List ℕ} → r ≡ r′ → b ≡ b′ → c ≡ c′ → answerAnd r b c ≡ answerAnd r′ b′ c′
 all p q e = rw (p, q, e)
 
@@ -105,6 +112,12 @@ copy-one = fixed (λ κ a r s p. p)
 
 clear-from-one : OneAnswer clear-from.Pre clear-from.Post (λ κ r s. now (s .0))
 clear-from-one = fixed (λ κ a r s p. p)
+
+from-bytes-one : OneAnswer from-bytes.Pre from-bytes.Post (λ κ r s. now (s .1 .0))
+from-bytes-one = fixed (λ κ a r s p. p)
+
+to-bytes-one : OneAnswer to-bytes.Pre to-bytes.Post (λ κ r s. now (s .1 .0))
+to-bytes-one = fixed (λ κ a r s p. p)
 
 -- flow
 meets-one : OneAnswer meets.Pre meets.Post (λ κ r s. r)
@@ -222,3 +235,10 @@ number-one = fixed (λ κ a r s p. all (p .0) (p .1) (p .2))
 -- compile
 compile-one : OneAnswer compile.Pre compile.Post (λ κ r s. answerAnd r (now (s .1 .0)) (now (s .1 .1 .0)))
 compile-one = fixed (λ κ a r s p. all (p .answer) (p .table) (p .scratch))
+
+-- text
+list-one : OneAnswer list.Pre list.Post (λ κ r s. answerWith r (now (s .1 .0)))
+list-one = fixed (λ κ a r s p. both (p .0 .end) (p .0 .bytes))
+
+put-line-one : OneAnswer put-line.Pre put-line.Post (λ κ r s. answerWith r (now (s .0)))
+put-line-one = fixed (λ κ a r s p. both (p .end) (p .bytes))

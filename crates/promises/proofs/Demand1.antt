@@ -7,8 +7,8 @@ use mathlib.Core.List.{List, [], _∷_, _++_}
 use mathlib.Core.Logic.{_⊎_, inl, inr, ⊎-elim}
 use lib.Dec.{eqb, leb, ltb}
 use lib.ListN.{length}
-use borrow.Author.Tests.{lt-ltb, lt-leb, leb-true, eqb-true, eqb-false}
-use Rattle.logic.proofs.Tests.{by-test, and-left, and-right}
+use borrow.Author.Tests.{lt-ltb, lt-leb, eqb-true, eqb-false}
+use Rattle.logic.proofs.Tests.{by-test}
 use Rattle.words.specs.Records.{records}
 use Rattle.theory.specs.Rows.{Row}
 use Rattle.flow.specs.Packet.{rightPacketWords}
@@ -29,16 +29,13 @@ use Rattle.policy.proofs.Refused.{refused-plain}
 use Rattle.tree.proofs.Eval.{action-eval, action-refused, action-packet}
 use Rattle.table.specs.Table.{wrongTable, wrongRow, rowCount, rightLength, checkFrom, checkRows, checkOf}
 use Rattle.table.specs.Scan.{scanOf}
-use Rattle.table.specs.Theorems.{RightTable}
 use Rattle.table.specs.declared.Checked.{Checked}
 use Rattle.table.specs.declared.Checked.the-variants as checked
 use Rattle.table.proofs.Tables.{check-exactly, check-first}
 use Rattle.table.proofs.Scans.{scan-refused}
 use Rattle.priority.specs.Numbering.{numberOf, answerCount}
-use Rattle.priority.specs.Theorems.{Ready, count}
-use Rattle.priority.specs.declared.Numbered.the-variants as numbered
-use Rattle.priority.specs.declared.Numbered.the-variants.{Priorities}
-use Rattle.priority.proofs.After.{words-stay, refused-stays}
+use Rattle.priority.specs.Theorems.{count}
+use Rattle.priority.proofs.After.{number-ready, words-stay, refused-stays}
 use Rattle.compile.specs.Tables.{wordsOf}
 use Rattle.compile.specs.Compile.{noRoom, noScratch, wrongRate, room, compiledRows, fine, zeros, answerOf, tableAfter, scratchAfter}
 use Rattle.compile.specs.Compile as compile
@@ -52,7 +49,7 @@ abbrev compileNumbers : ℕ → Type 0
 compileNumbers n = between 1 10 n ⊎ between 12 14 n
 
 -- the numbers of a refused file
-file-number : (f : List ℕ) (r : Refusal) → readOf f ≡ reading.Refused r → between 1 10 (r .number)
+pub file-number : (f : List ℕ) (r : Refusal) → readOf f ≡ reading.Refused r → between 1 10 (r .number)
 file-number f r e = by-test (eqb (r .number) lawBroken)
     (λ t. let z : r .number ≡ lawBroken = eqb-true _ _ t in (omega arith, omega arith))
     (λ t. let p = refused-plain f r e (eqb-false _ _ t) in (p .0, omega (arith, p .1)))
@@ -73,7 +70,7 @@ module _ {numbers : ℕ → Type 0} where
   }
 
 -- a file is accepted or refused
-by-reading : {X : Type 0} (f : List ℕ) → ((l : Layout) → readOf f ≡ reading.Accepted l → X) → ((r : Refusal) → readOf f ≡ reading.Refused r → X) → X
+pub by-reading : {X : Type 0} (f : List ℕ) → ((l : Layout) → readOf f ≡ reading.Accepted l → X) → ((r : Refusal) → readOf f ≡ reading.Refused r → X) → X
 by-reading {X} f accepted refused = go (readOf f) refl
   where
     go : (x : Reading) → readOf f ≡ x → X
@@ -174,30 +171,11 @@ order = record {
 }
 
 -- the number of a refusal, and that it is no success
-same-number : {r r′ : Refusal} → Refused r ≡ Refused r′ → r .number ≡ r′ .number
+pub same-number : {r r′ : Refusal} → Refused r ≡ Refused r′ → r .number ≡ r′ .number
 same-number q = ap (λ (x : Compiled). compile.numbered x .number) q
 
-no-rows : {X : Type 0} {n : ℕ} {r : Refusal} → Rows n ≡ Refused r → X
+pub no-rows : {X : Type 0} {n : ℕ} {r : Refusal} → Rows n ≡ Refused r → X
 no-rows q = let z : _≡_ {A = ℕ} 0 1 = cc in absurd (omega arith)
-
--- a success of the numbering: the table is right and the buffers are long enough
-ready : (ws ps cs : List ℕ) (n : ℕ) → numberOf ws (length ps) (length cs) ≡ Priorities n → Ready ws ps cs
-unfolding numberOf
-ready ws ps cs n q = by-check ws
-    (λ m e.
-    let t : RightTable ws × (m ≡ rowCount ws) = check-exactly ws m .0 e in
-    by-test (leb m (length ps) && leb m (length cs))
-    (λ b.
-    record {
-      right = t .0;
-      priorities = omega (arith, t .1, leb-true m (length ps) (and-left _ _ b));
-      chain = omega (arith, t .1, leb-true m (length cs) (and-right (leb m (length ps)) _ b));
-    })
-    (λ b. no-count (rw (e, b) at q)))
-    (λ m i e h. no-count (rw e at q))
-  where
-    no-count : {X : Type 0} {m k i : ℕ} → numbered.Refused k i ≡ Priorities m → X
-    no-count q = let z : _≡_ {A = ℕ} 0 1 = cc in absurd (omega arith)
 
 words-left : WordsLeft
 words-left = record {
@@ -223,7 +201,7 @@ words-left = record {
       (λ q. no-rows (sym q)) (λ q. no-rows (sym q)) (λ q. no-rows (sym q)) (λ q. (refl, refl));
   number-stays = refused-stays;
   number-beyond = λ ws ps cs n q.
-      let w = words-stay ws ps cs (ready ws ps cs n q) in
+      let w = words-stay ws ps cs (number-ready ws ps cs n q) in
       let c : count ws ps cs ≡ n = ap answerCount q in
       (w .2, rw c at (w .3));
 }

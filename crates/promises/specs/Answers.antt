@@ -9,6 +9,10 @@ pub record OneAnswer {K : Type 0} {A R S : K → Type 0} {X : Type 0} (Pre : (κ
   pub asks-nothing : (κ : K) (a : A κ) → Pre κ a
   pub no-second : (κ : K) (a : A κ) (r₁ r₂ : R κ) (s₁ s₂ : S κ) → Post κ a r₁ s₁ → Post κ a r₂ s₂ → seen κ r₁ s₁ ≡ seen κ r₂ s₂
 
+-- a result, with the words of a lent buffer
+abbrev pub answerWith : {X : Type 0} → X → List ℕ → X × List ℕ
+answerWith r b = (r, b)
+
 -- a result, with the words of two lent buffers
 abbrev pub answerAnd : {X : Type 0} → X → List ℕ → List ℕ → X × List ℕ × List ℕ
 answerAnd r b c = (r, b, c)

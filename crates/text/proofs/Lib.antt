@@ -1,3 +1,7 @@
 pub mod Putting
 pub mod Turns
 pub mod Listed
+pub mod Lengths
+pub mod Numerals
+pub mod Lists
+pub mod Examples

@@ -21,7 +21,6 @@ use Rattle.table.proofs.Tables.{check-exactly}
 use Rattle.policy.specs.Numbers.{longestFile}
 use Rattle.policy.specs.declared.Refusal.{Refusal}
 use Rattle.compile.specs.Compile.{answerOf, tableAfter, Compiles}
-use Rattle.compile.specs.Compile as compile
 use Rattle.compile.specs.Theorems.{tableRows}
 use Rattle.compile.specs.declared.Compiled.{Compiled}
 use Rattle.compile.specs.declared.Compiled.the-variants.{Rows}

@@ -15,7 +15,7 @@ const MOST_DIGITS: usize = 20;
 const ZERO: u8 = 48;
 
 // The values of a match and its prefixes, each with a space behind it.
-pub fn put_match(out: &mut [u8], at: usize, m: Match) -> usize
+pub(crate) fn put_match(out: &mut [u8], at: usize, m: Match) -> usize
     ensures { λ r. ⌜ Puts (matchText m) (now (out .entry)) at (now (out .exit)) r ⌝ }
 {
     let f = m.flags;
@@ -28,7 +28,7 @@ pub fn put_match(out: &mut [u8], at: usize, m: Match) -> usize
 }
 
 // An action, and the line end.
-pub fn put_action(out: &mut [u8], at: usize, a: Action) -> usize
+pub(crate) fn put_action(out: &mut [u8], at: usize, a: Action) -> usize
     ensures { λ r. ⌜ Puts (actionText a) (now (out .entry)) at (now (out .exit)) r ⌝ }
 {
     match a {
@@ -66,7 +66,7 @@ fn put_address(out: &mut [u8], at: usize, word: u32, length: u32) -> usize
 }
 
 // A number with no zero before it, and the mark behind it.
-pub fn put_number(out: &mut [u8], at: usize, n: usize, mark: u8) -> usize
+pub(crate) fn put_number(out: &mut [u8], at: usize, n: usize, mark: u8) -> usize
     ensures { λ r. ⌜ Puts (number n mark) (now (out .entry)) at (now (out .exit)) r ⌝ }
 {
     let a = put_digits(out, at, n, MOST_DIGITS);
@@ -88,7 +88,7 @@ fn put_digits(out: &mut [u8], at: usize, n: usize, most: usize) -> usize
 }
 
 // Some text.
-pub fn put(out: &mut [u8], at: usize, text: &[u8]) -> usize
+pub(crate) fn put(out: &mut [u8], at: usize, text: &[u8]) -> usize
     ensures { λ r. ⌜ Puts (now (text .entry)) (now (out .entry)) at (now (out .exit)) r ⌝ }
 {
     let mut to = at;

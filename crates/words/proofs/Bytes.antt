@@ -1,16 +1,17 @@
--- Words laid from bytes, and bytes from words: the turns of the two loops, and their ends. Assumes nothing.
-use Prim.Native.Nat.{ℕ, suc, _+_, _-_, _*_, _/_, _≤_, _<_}
+-- Words laid from bytes, and bytes from words: the turns of the two loops, their ends, and that each reads back as the other. Assumes nothing.
+use Prim.Native.Nat.{ℕ, suc, _+_, _-_, _*_, _/_, _%_, _≤_, _<_}
 use native.Mathlib.Omega.{arith}
 use native.Mathlib.Numerals.{add-one}
-use mathlib.Core.Path.{_≡_, sym, ap, _∙_}
-use mathlib.Core.List.{List, [], _∷_}
+use mathlib.Core.Path.{_≡_, refl, sym, ap, ap₂, _∙_}
+use mathlib.Core.List.{List, [], _∷_, _++_}
 use lib.ListN.{length, getD, take, drop, set, drop-of-length-le, length-map}
 use lib.Seq.{drop-cons}
 use Rattle.words.specs.Words.{laid}
 use Rattle.words.specs.Records.{records, rowsOf, flat}
 use Rattle.words.specs.Bytes.{wordBytes, wordOf, wordsIn, bytesOf}
+use Rattle.words.specs.Theorems.{WordsRead, BytesRead}
 use Rattle.words.proofs.Laid.{laid-none, laid-cons, laid-then}
-use Rattle.words.proofs.Records.{rows-at, rows-end, length-records}
+use Rattle.words.proofs.Records.{rows-more, rows-at, rows-end, rows-flat, length-records}
 
 -- the words of the bytes from a place on are still to be laid over l, and then it is the whole
 pub record WordsAhead (bytes : List ℕ) (from : ℕ) (l : List ℕ) (i : ℕ) (whole : List ℕ) : Type 0 where
@@ -68,3 +69,27 @@ length-bytes [] = omega arith
 length-bytes (w ∷ ws) =
     let e : length (flat bytesOf ws) ≡ wordBytes * length ws = length-bytes ws in
     omega arith
+
+-- each reads back as the other
+pub words-read : WordsRead
+words-read = rows-flat wordBytes wordOf (omega arith) bytesOf (λ w. refl) (λ w. omega arith)
+
+bytes-of : (p q r s w : ℕ) → p < 256 → q < 256 → r < 256 → s < 256 → w ≡ wordOf (p ∷ q ∷ r ∷ s ∷ []) → bytesOf w ≡ p ∷ q ∷ r ∷ s ∷ []
+bytes-of p q r s w hp hq hr hs e =
+    let a : w % 256 ≡ p = omega arith in
+    let b′ : w / 256 ≡ q + 256 * r + 65536 * s = omega arith in
+    let b : w / 256 % 256 ≡ q = rw b′ (omega arith) in
+    let c′ : w / 65536 ≡ r + 256 * s = omega arith in
+    let c : w / 65536 % 256 ≡ r = rw c′ (omega arith) in
+    let d : w / 16777216 ≡ s = omega arith in
+    rw (a, b, c, d)
+
+pub bytes-read : BytesRead
+unfolding rowsOf
+bytes-read [] h e = refl
+bytes-read (p ∷ []) h e = absurd (omega arith)
+bytes-read (p ∷ q ∷ []) h e = absurd (omega arith)
+bytes-read (p ∷ q ∷ r ∷ []) h e = absurd (omega arith)
+bytes-read (p ∷ q ∷ r ∷ s ∷ b) h e =
+    ap (flat bytesOf) (rows-more wordBytes wordOf (omega arith) (p ∷ q ∷ r ∷ s ∷ b) (omega arith))
+    ∙ ap₂ _++_ (bytes-of p q r s (wordOf (p ∷ q ∷ r ∷ s ∷ [])) (h .0) (h .1 .0) (h .1 .1 .0) (h .1 .1 .1 .0) refl) (bytes-read b (h .1 .1 .1 .1) (omega arith))

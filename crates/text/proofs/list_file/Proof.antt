@@ -1,7 +1,6 @@
 -- `text::list_file` meets its contract: the text is that of the table which the compile leaves.
 -- Assumes nothing.
 use native.Mathlib.Omega.{arith}
-use Prim.Native.Nat.{_-_}
 use mathlib.Core.Path.{refl, sym}
 use lib.Seq.{length-take-le}
 use Rattle.text.proofs.Listed.{file-few, file-fits, file-listed, file-refused}

@@ -1,6 +1,6 @@
 -- `text::list_table` meets its contract: the first line and the lines are the text of a table that is numbered.
 -- Assumes nothing.
-use Prim.Native.Nat.{ℕ, _-_}
+use Prim.Native.Nat.{ℕ}
 use mathlib.Core.Path.{refl, sym}
 use lib.Seq.{length-take-le}
 use Rattle.text.proofs.Listed.{table-within, table-listed, table-refused}

@@ -1,7 +1,6 @@
 -- `text::put_line` meets its contract: each part behind the one before.
 -- Assumes nothing.
 use Rattle.text.proofs.Listed.{line-put}
-use Prim.Native.Nat.{_-_}
 use borrow.Author.Needs.{needs}
 use Rattle.text.proofs.put_line.Statement.{statement}
 use Rattle.text.proofs.put_line.Tie as tie

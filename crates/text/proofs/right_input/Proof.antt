@@ -1,6 +1,5 @@
 -- `text::right_input` meets its contract: its body is the definition.
 -- Assumes nothing.
-use Prim.Native.Nat.{_-_}
 use mathlib.Core.Path.{refl}
 use Rattle.text.specs.Listing.{rightInput}
 use Rattle.text.proofs.right_input.Statement.{statement}

@@ -1,6 +1,5 @@
 -- `text::put_action` meets its contract, case by case.
 -- Assumes nothing.
-use Prim.Native.Nat.{_-_}
 use Rattle.text.specs.Text.{actionText}
 use Rattle.text.proofs.Putting.{_then_}
 use borrow.Author.Needs.{needs}

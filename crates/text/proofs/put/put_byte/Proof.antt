@@ -1,7 +1,6 @@
 -- `text::put_byte` meets its contract: it stores the byte, or nothing past the buffer's end.
 -- Assumes nothing.
 use native.Mathlib.Omega.{arith}
-use Prim.Native.Nat.{_-_}
 use Rattle.text.proofs.Putting.{puts-byte, puts-nothing}
 use borrow.Author.Needs.{needs}
 use Rattle.text.proofs.put.put_byte.Statement.{statement}

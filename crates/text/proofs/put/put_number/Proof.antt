@@ -1,6 +1,5 @@
 -- `text::put_number` meets its contract: a number of 64 bits has at most 20 digits.
 -- Assumes nothing.
-use Prim.Native.Nat.{_-_}
 use Rattle.text.specs.Text.{decimal, number}
 use Rattle.text.proofs.Putting.{_then_}
 use borrow.Author.Needs.{needs}

@@ -1,6 +1,5 @@
 -- `text::put_value` meets its contract, constrained or not.
 -- Assumes nothing.
-use Prim.Native.Nat.{_-_}
 use Rattle.text.specs.Text.{value}
 use borrow.Author.Needs.{needs}
 use Rattle.text.proofs.put.put_value.Statement.{statement}

@@ -1,0 +1,109 @@
+-- What is proved of the listing. A law of the same name in proofs/ proves each statement: never-cut proves NeverCut.
+--
+--   longestLine, longestListing   no line, and no listing, has more bytes
+--   rowsText n t                  the listing of the first n rows of a table: the head, and a line for each row
+--   reads ds                      the number that some digits are, the most significant first
+--   Decimal n ds                  ds are digits that read as n, and no zero stands before another digit
+--   ListsRows                     where the compile answers rows, they are listed: the numbering refuses nothing
+--   ListsRefused                  where the compile refuses, its number and place are listed
+--   RefusedInput                  an input that is no file is 18 at place 0
+--   NeverCut                      no listing is longer than longestListing
+--   WrittenWhole                  so a buffer of so many bytes holds the whole text
+--   DecimalReads                  a number of at most 20 digits is written so that it reads back
+--   ExamplesListed                the text of each of some examples
+use Prim.Native.Nat.{ℕ, _+_, _-_, _*_, _^_, _≤_, _<_}
+use Prim.Native.Char.{code}
+use Prim.Native.String.{String}
+use mathlib.Core.Path.{_≡_}
+use mathlib.Core.Bool.{false}
+use mathlib.Core.List.{List, [], _∷_, _++_}
+use lib.ListN.{length, getD, take}
+use Rattle.words.specs.Records.{flat}
+use Rattle.words.specs.Bytes.{bytesOf}
+use Rattle.theory.specs.Number.{levelCount}
+use Rattle.table.specs.Table.{rowsIn}
+use Rattle.action.specs.Operator.{sibling}
+use Rattle.policy.specs.Examples.{tenant, tenantWith, lone}
+use Rattle.policy.specs.declared.Refusal.{Refusal}
+use Rattle.compile.specs.Compile.{answerOf, tableAfter}
+use Rattle.compile.specs.Theorems.{tableRows}
+use Rattle.compile.specs.declared.Compiled.the-variants.{Rows, Refused}
+use Rattle.priority.specs.Numbering.{levelsOf, prioritiesOf}
+use Rattle.text.specs.Text.{ascii, mostDigits, decimal, head, lines, refusal}
+use Rattle.text.specs.Puts.{Puts}
+use Rattle.text.specs.Listing.{wrongInput, room, rightInput, blank, fileText, listingOf}
+
+-- no line is longer
+abbrev pub longestLine : ℕ
+longestLine = 340
+
+-- no listing is longer than so many lines: the head, and one for each row
+abbrev pub longestListing : ℕ
+longestListing = longestLine * (room + 1)
+
+-- the head, and a line for each row with its priority
+abbrev pub rowsText : ℕ → List ℕ → List ℕ
+rowsText n t = head n (levelCount (levelsOf t)) ++ lines (prioritiesOf t) (rowsIn t)
+
+-- THE LISTING HAS A LINE FOR EACH COMPILED ROW (lists-rows)
+abbrev pub ListsRows : Type 0
+ListsRows = (f : List ℕ) (n : ℕ) → answerOf f blank blank ≡ Rows n → fileText f ≡ rowsText n (tableRows n (tableAfter f blank blank))
+
+-- or its refusal
+abbrev pub ListsRefused : Type 0
+ListsRefused = (f : List ℕ) (r : Refusal) → answerOf f blank blank ≡ Refused r → fileText f ≡ refusal (r .number) (r .place)
+
+-- bytes that are not whole words, or too many
+abbrev pub RefusedInput : Type 0
+RefusedInput = (b : List ℕ) → rightInput b ≡ false → listingOf b ≡ refusal wrongInput 0
+
+-- NO LISTING IS LONGER
+abbrev pub NeverCut : Type 0
+NeverCut = (b : List ℕ) → length (listingOf b) ≤ longestListing
+
+-- what a buffer of so many bytes holds afterwards, up to the answer, is the listing
+abbrev pub WrittenWhole : Type 0
+WrittenWhole = (b l m : List ℕ) (r : ℕ) → Puts (listingOf b) l 0 m r → longestListing ≤ length l → take r m ≡ listingOf b
+
+-- digits read from the first on, behind a number that was read before them
+abbrev pub readsOn : ℕ → List ℕ → ℕ
+readsOn n [] = n
+readsOn n (d ∷ ds) = readsOn (n * 10 + (d - code "0")) ds
+
+-- the number that some digits are
+abbrev pub reads : List ℕ → ℕ
+reads ds = readsOn 0 ds
+
+-- digits of a number, without a needless zero
+pub record Decimal (n : ℕ) (ds : List ℕ) : Type 0 where
+  pub same : reads ds ≡ n
+  pub every : (i : ℕ) → i < length ds → (code "0" ≤ getD ds i 0) × (getD ds i 0 ≤ code "9")
+  pub first : 1 < length ds → code "0" < getD ds 0 0
+  pub some : 0 < length ds
+
+-- EVERY NUMBER OF AT MOST 20 DIGITS READS BACK
+abbrev pub DecimalReads : Type 0
+DecimalReads = (n : ℕ) → n < 10 ^ mostDigits → Decimal n (decimal n)
+
+-- an input, and what is listed of it
+pub record Example : Type 0 where
+  pub input : List ℕ
+  pub text : String
+
+-- the tenant's file, the same with a root whose operator is not commutative, a file without rows, no bytes, and one byte
+abbrev pub examples : List Example
+examples =
+    record { input = flat bytesOf tenant; text = "rows 3 priorities 3\n3 * 0.0.0.0/0 10.7.3.9/32 * * * gmb 40000\n2 * 0.0.0.0/0 10.7.0.0/16 * * * deny\n1 * 0.0.0.0/0 10.7.3.9/32 * * * gmb 40000\n" }
+    ∷ record { input = flat bytesOf (tenantWith 1); text = "refused 10 1\n" }
+    ∷ record { input = flat bytesOf (lone sibling); text = "rows 0 priorities 0\n" }
+    ∷ record { input = []; text = "refused 1 0\n" }
+    ∷ record { input = 0 ∷ []; text = "refused 18 0\n" }
+    ∷ []
+
+-- each is listed as it says
+abbrev pub Listed : List Example → Type 0
+Listed [] = Unit {0}
+Listed (x ∷ xs) = (listingOf (x .input) ≡ ascii (x .text)) × Listed xs
+
+abbrev pub ExamplesListed : Type 0
+ExamplesListed = Listed examples
