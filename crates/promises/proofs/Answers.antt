@@ -24,6 +24,7 @@ use Rattle.flow.proofs.overlap.Reads as overlap
 use Rattle.flow.proofs.common.Reads as common
 use Rattle.flow.proofs.is_empty.Reads as is-empty
 use Rattle.flow.proofs.right_match.Reads as right-match
+use Rattle.flow.proofs.is_plain.Reads as is-plain
 use Rattle.flow.proofs.right_packet.Reads as right-packet
 use Rattle.flow.proofs.right_packet_words.Reads as right-packet-words
 use Rattle.flow.proofs.read_packet.Reads as read-packet
@@ -57,6 +58,11 @@ use Rattle.priority.proofs.number.Reads as number
 use Rattle.compile.proofs.compile.Reads as compile
 use Rattle.text.proofs.list.Reads as list
 use Rattle.text.proofs.put_line.Reads as put-line
+use Rattle.speed.proofs.speed_read.Reads as speed-read
+use Rattle.speed.proofs.speed_tree.Reads as speed-tree
+use Rattle.speed.proofs.speed_compile.Reads as speed-compile
+use Rattle.speed.proofs.speed_scan.Reads as speed-scan
+use Rattle.speed.proofs.speed_number.Reads as speed-number
 
 -- where the contract says that what is seen is d, of the arguments alone
 fixed :
@@ -134,6 +140,9 @@ is-empty-one = fixed (λ κ a r s p. p)
 
 right-match-one : OneAnswer right-match.Pre right-match.Post (λ κ r s. r)
 right-match-one = fixed (λ κ a r s p. p)
+
+is-plain-one : OneAnswer is-plain.Pre is-plain.Post (λ κ r s. r)
+is-plain-one = fixed (λ κ a r s p. p)
 
 right-packet-one : OneAnswer right-packet.Pre right-packet.Post (λ κ r s. r)
 right-packet-one = fixed (λ κ a r s p. p)
@@ -242,3 +251,19 @@ list-one = fixed (λ κ a r s p. both (p .0 .end) (p .0 .bytes))
 
 put-line-one : OneAnswer put-line.Pre put-line.Post (λ κ r s. answerWith r (now (s .0)))
 put-line-one = fixed (λ κ a r s p. both (p .end) (p .bytes))
+
+-- speed
+speed-read-one : OneAnswer speed-read.Pre speed-read.Post (λ κ r s. r)
+speed-read-one = fixed (λ κ a r s p. p)
+
+speed-tree-one : OneAnswer speed-tree.Pre speed-tree.Post (λ κ r s. answerWith r (now (s .1 .1 .0)))
+speed-tree-one = fixed (λ κ a r s p. both (p .0) (p .1))
+
+speed-compile-one : OneAnswer speed-compile.Pre speed-compile.Post (λ κ r s. answerAnd r (now (s .1 .0)) (now (s .1 .1 .0)))
+speed-compile-one = fixed (λ κ a r s p. all (p .0) (p .1) (p .2))
+
+speed-scan-one : OneAnswer speed-scan.Pre speed-scan.Post (λ κ r s. answerWith r (now (s .1 .1 .0)))
+speed-scan-one = fixed (λ κ a r s p. both (p .0) (p .1))
+
+speed-number-one : OneAnswer speed-number.Pre speed-number.Post (λ κ r s. answerAnd r (now (s .1 .0)) (now (s .1 .1 .0)))
+speed-number-one = fixed (λ κ a r s p. all (p .0) (p .1) (p .2))
