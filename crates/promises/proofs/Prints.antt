@@ -45,7 +45,7 @@ every-listing b = by-test (rightInput b)
     (λ t. inr (record { number = wrongInput; place = 0; one-of = inr (inr refl); text = refused-input b t }))
   where
     by-answer : rightInput b ≡ true → (x : Compiled) → answerOf (wordsIn b) blank blank ≡ x → PrintsRows b ⊎ PrintsRefusal b
-    by-answer t (Rows n) e = inl (record { right = t; count = n; compiled = e; text = rw t (lists-rows (wordsIn b) n e) })
+    by-answer t (Rows n) e = inl (record { right = t; count = n; compiled = e; listed = lists-rows (wordsIn b) n e; text = rw t refl })
     by-answer t (Refused r) e = inr (record {
       number = r .number;
       place = r .place;

@@ -13,8 +13,8 @@ use Rattle.compile.specs.Compile.{noRoom, answerOf, tableAfter}
 use Rattle.compile.specs.Theorems.{tableRows}
 use Rattle.compile.specs.declared.Compiled.the-variants.{Rows}
 use Rattle.text.specs.Text.{refusal}
-use Rattle.text.specs.Listing.{wrongInput, rightInput, blank, listingOf}
-use Rattle.text.specs.Theorems.{rowsText}
+use Rattle.text.specs.Listing.{wrongInput, rightInput, blank, fileText, listingOf}
+use Rattle.text.specs.Theorems.{ListedRows}
 use Rattle.promises.specs.Told.{between}
 
 -- the rows that the compile answers, each with its priority
@@ -22,7 +22,8 @@ pub record PrintsRows (b : List ℕ) : Type 0 where
   pub right : rightInput b ≡ true
   pub count : ℕ
   pub compiled : answerOf (wordsIn b) blank blank ≡ Rows count
-  pub text : listingOf b ≡ rowsText count (tableRows count (tableAfter (wordsIn b) blank blank))
+  pub listed : ListedRows (wordsIn b) count (tableRows count (tableAfter (wordsIn b) blank blank))
+  pub text : listingOf b ≡ fileText (wordsIn b)
 
 -- one refusal
 pub record PrintsRefusal (b : List ℕ) : Type 0 where

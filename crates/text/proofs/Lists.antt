@@ -20,6 +20,7 @@ use Rattle.compile.specs.declared.Compiled.the-variants.{Rows, Refused}
 use Rattle.compile.proofs.Scanned.{answers-rows, table-right}
 use Rattle.priority.specs.Numbering.{levelsOf, prioritiesOf, numberOf}
 use Rattle.priority.specs.declared.Numbered.the-variants.{Priorities}
+use Rattle.priority.proofs.Whole.{priorities-many}
 use Rattle.text.specs.Text.{head, lines}
 use Rattle.text.specs.Puts.{stop}
 use Rattle.text.specs.Listing.{wrongInput, room, rightInput, blank, tableText, fileText, listingOf}
@@ -40,7 +41,11 @@ module _ (f : List ℕ) (n : ℕ) (e : answerOf f blank blank ≡ Rows n) where
 
 pub lists-rows : ListsRows
 unfolding fileText tableText
-lists-rows f n e = rw (e, numbers f n e) (ap (λ k. rowsText k (tableRows n (tableAfter f blank blank))) (sym (many f n e)))
+lists-rows f n e = record {
+  text = rw (e, numbers f n e) (ap (λ k. rowsText k (tableRows n (tableAfter f blank blank))) (sym (many f n e)));
+  rows = length-rows (tableRows n (tableAfter f blank blank)) ∙ sym (many f n e);
+  priorities = priorities-many (tableRows n (tableAfter f blank blank)) ∙ sym (many f n e);
+}
 
 pub lists-refused : ListsRefused
 unfolding fileText
@@ -58,7 +63,7 @@ file-long f = by-answer (answerOf f blank blank) refl
         let t : List ℕ = tableRows n (tableAfter f blank blank) in
         let h : length (head n (levelCount (levelsOf t))) ≤ longestLine = head-long n (levelCount (levelsOf t)) .is in
         let k : length (lines (prioritiesOf t) (rowsIn t)) ≤ longestLine * length (rowsIn t) = lines-long (prioritiesOf t) (rowsIn t) .is in
-        rw (lists-rows f n e, length-append) (omega (arith, few f n e, many f n e, length-rows t))
+        rw (lists-rows f n e .text, length-append) (omega (arith, few f n e, lists-rows f n e .rows))
     by-answer (Refused r) e = rw (lists-refused f r e) (omega (arith, refusal-long (r .number) (r .place) .is))
 
 pub never-cut : NeverCut

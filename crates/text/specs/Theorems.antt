@@ -1,7 +1,8 @@
 -- What is proved of the listing. A law of the same name in proofs/ proves each statement: never-cut proves NeverCut.
 --
 --   longestLine, longestListing   no line, and no listing, has more bytes
---   rowsText n t                  the listing of the first n rows of a table: the head, and a line for each row
+--   rowsText n t                  the listing of a table t of n rows: the head, and a line for each row
+--   ListedRows f n t              the listing of the file f is that, and t has n rows and n priorities
 --   reads ds                      the number that some digits are, the most significant first
 --   Decimal n ds                  ds are digits that read as n, and no zero stands before another digit
 --   ListsRows                     where the compile answers rows, they are listed: the numbering refuses nothing
@@ -45,11 +46,17 @@ longestListing = longestLine * (room + 1)
 abbrev pub rowsText : ℕ → List ℕ → List ℕ
 rowsText n t = head n (levelCount (levelsOf t)) ++ lines (prioritiesOf t) (rowsIn t)
 
--- THE LISTING HAS A LINE FOR EACH COMPILED ROW (lists-rows)
-abbrev pub ListsRows : Type 0
-ListsRows = (f : List ℕ) (n : ℕ) → answerOf f blank blank ≡ Rows n → fileText f ≡ rowsText n (tableRows n (tableAfter f blank blank))
+-- the text, and that no row and no priority is left over
+pub record ListedRows (f : List ℕ) (n : ℕ) (t : List ℕ) : Type 0 where
+  pub text : fileText f ≡ rowsText n t
+  pub rows : length (rowsIn t) ≡ n
+  pub priorities : length (prioritiesOf t) ≡ n
 
--- or its refusal
+-- THE LISTING HAS A LINE FOR EACH COMPILED ROW
+abbrev pub ListsRows : Type 0
+ListsRows = (f : List ℕ) (n : ℕ) → answerOf f blank blank ≡ Rows n → ListedRows f n (tableRows n (tableAfter f blank blank))
+
+-- or it is the compile's refusal
 abbrev pub ListsRefused : Type 0
 ListsRefused = (f : List ℕ) (r : Refusal) → answerOf f blank blank ≡ Refused r → fileText f ≡ refusal (r .number) (r .place)
 

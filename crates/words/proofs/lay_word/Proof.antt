@@ -1,9 +1,7 @@
 -- `words::lay_word` meets its contract: the four stores are the four bytes laid.
 -- Assumes nothing.
 use native.Mathlib.Omega.{arith}
-use Prim.Native.Nat.{_-_}
 use lib.ListN.{length-set}
-use Rattle.words.specs.Words.{laid}
 use Rattle.words.proofs.Bytes.{laid-four}
 use borrow.Author.Needs.{needs}
 use Rattle.words.proofs.lay_word.Statement.{statement}
