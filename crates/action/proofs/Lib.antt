@@ -4,4 +4,3 @@ pub mod Product
 pub mod Words
 pub mod Rates
 pub mod Exact
-pub mod Examples

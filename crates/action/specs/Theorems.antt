@@ -7,17 +7,16 @@
 --   ActionOfWords      an action is what its two words say
 --   WordsOfAction      two right words are the words of the action that they say
 --   RightWords         an action has right words exactly where it is in range
---   K1, K2, K3, K4     worked examples of joining under the two operators supplied by name
 use Prim.Native.Nat.{ℕ}
 use mathlib.Core.Path.{_≡_}
 use mathlib.Core.Logic.{_↔_}
 use mathlib.Core.Bool.{true}
 use mathlib.Core.List.{List}
 use Rattle.action.specs.Action.{kindOf, rateOf, actionOf, rightAction, inRange}
-use Rattle.action.specs.Operator.{join, sibling, parent, RightCodes}
+use Rattle.action.specs.Operator.{join, RightCodes}
 use Rattle.action.specs.Laws.{Commutative, Associative, _among_, shown, lawSearch, Shows}
 use Rattle.action.specs.declared.Action.{Action}
-use Rattle.action.specs.declared.Action.the-variants.{DontCare, Allow, Deny, Gmb}
+use Rattle.action.specs.declared.Action.the-variants.{DontCare}
 use Rattle.action.specs.declared.Law.{Law}
 use Rattle.action.specs.declared.Lawful.the-variants.{Yes, Broken}
 
@@ -48,19 +47,3 @@ WordsOfAction = (k n : ℕ) → rightAction k n ≡ true → (kindOf (actionOf k
 -- an action has right words exactly where it is in range
 abbrev pub RightWords : Type 0
 RightWords = (a : Action) → rightAction (kindOf a) (rateOf a) ≡ inRange a
-
--- sibling, GMB(10) and Allow: GMB(10)
-abbrev pub K1 : Type 0
-K1 = join sibling (Gmb 10) Allow ≡ Gmb 10
-
--- sibling, GMB(30) and GMB(10): GMB(30)
-abbrev pub K2 : Type 0
-K2 = join sibling (Gmb 30) (Gmb 10) ≡ Gmb 30
-
--- parent, Deny and Allow: Allow
-abbrev pub K3 : Type 0
-K3 = join parent Deny Allow ≡ Allow
-
--- parent, GMB(5), Deny and Allow: the two groupings differ
-abbrev pub K4 : Type 0
-K4 = (join parent (join parent (Gmb 5) Deny) Allow ≡ Allow) × (join parent (Gmb 5) (join parent Deny Allow) ≡ Gmb 5)

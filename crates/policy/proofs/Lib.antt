@@ -7,4 +7,3 @@ pub mod Trees
 pub mod Passed
 pub mod Accepted
 pub mod Refused
-pub mod Examples
