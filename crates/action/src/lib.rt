@@ -93,32 +93,39 @@ impl Operator {
         Operator::PARENT
     }
 
-    // Two actions joined. A code that is not known gives don't care.
+    // Two actions joined.
     pub fn join(self, left: Action, right: Action) -> Action
         ensures { λ r. ⌜ r ≡ join (self .cells) left right ⌝ }
     {
-        let k = kind(left);
-        let l = kind(right);
-        if k == DONT_CARE {
-            return right;
-        }
-        if l == DONT_CARE {
-            return left;
-        }
-        let cell = (k - 1) * KINDS + (l - 1);
-        coded(word(&self.cells, cell as usize), left, right)
+        join(&self.cells, left, right)
     }
 
     // The first pair that breaks commutativity, or else the first triple that breaks associativity.
     pub fn law_search(self) -> Lawful
         ensures { λ r. ⌜ r ≡ lawSearch (self .cells) ⌝ }
     {
-        let found = first_pair(self);
+        let found = first_pair(&self.cells);
         if let Lawful::Broken(_, _, _, _) = found {
             return found;
         }
-        first_triple(self)
+        first_triple(&self.cells)
     }
+}
+
+// Two actions joined by an operator's cells. A code that is not known gives don't care.
+pub fn join(cells: &[u32], left: Action, right: Action) -> Action
+    ensures { λ r. ⌜ r ≡ join (now (cells .entry)) left right ⌝ }
+{
+    let k = kind(left);
+    let l = kind(right);
+    if k == DONT_CARE {
+        return right;
+    }
+    if l == DONT_CARE {
+        return left;
+    }
+    let cell = (k - 1) * KINDS + (l - 1);
+    coded(word(cells, cell as usize), left, right)
 }
 
 pub fn kind(a: Action) -> u32
@@ -201,14 +208,14 @@ fn smaller(m: u32, n: u32) -> u32
 }
 
 // The pairs in order, the first action slowest.
-fn first_pair(op: Operator) -> Lawful
-    ensures { λ r. ⌜ r ≡ firstPair (op .cells) ⌝ }
+fn first_pair(cells: &[u32]) -> Lawful
+    ensures { λ r. ⌜ r ≡ firstPair (now (cells .entry)) ⌝ }
 {
     let mut k = 0;
     while k < PAIRS {
         let a = showing(k / SHOWN);
         let b = showing(k % SHOWN);
-        if !same(op.join(a, b), op.join(b, a)) {
+        if !same(join(cells, a, b), join(cells, b, a)) {
             return Lawful::Broken(Law::Commutativity, a, b, Action::DONT_CARE);
         }
         k += 1;
@@ -217,12 +224,12 @@ fn first_pair(op: Operator) -> Lawful
 }
 
 // The triples in order: each pair with all showing actions.
-fn first_triple(op: Operator) -> Lawful
-    ensures { λ r. ⌜ r ≡ firstTriple (op .cells) ⌝ }
+fn first_triple(cells: &[u32]) -> Lawful
+    ensures { λ r. ⌜ r ≡ firstTriple (now (cells .entry)) ⌝ }
 {
     let mut k = 0;
     while k < PAIRS {
-        let found = with_third(op, showing(k / SHOWN), showing(k % SHOWN));
+        let found = with_third(cells, showing(k / SHOWN), showing(k % SHOWN));
         if let Lawful::Broken(_, _, _, _) = found {
             return found;
         }
@@ -232,14 +239,14 @@ fn first_triple(op: Operator) -> Lawful
 }
 
 // The first triple of two actions and some third.
-fn with_third(op: Operator, a: Action, b: Action) -> Lawful
-    ensures { λ r. ⌜ r ≡ withThird (op .cells) a b ⌝ }
+fn with_third(cells: &[u32], a: Action, b: Action) -> Lawful
+    ensures { λ r. ⌜ r ≡ withThird (now (cells .entry)) a b ⌝ }
 {
-    let ab = op.join(a, b);
+    let ab = join(cells, a, b);
     let mut k = 0;
     while k < SHOWN {
         let c = showing(k);
-        if !same(op.join(ab, c), op.join(a, op.join(b, c))) {
+        if !same(join(cells, ab, c), join(cells, a, join(cells, b, c))) {
             return Lawful::Broken(Law::Associativity, a, b, c);
         }
         k += 1;

@@ -15,7 +15,7 @@ use Rattle.theory.specs.Tree.{Forest, node, bare, _▸_, EveryAtom, EveryAtoms}
 use Rattle.theory.specs.Nodes.{Listed, listTree, listTrees}
 use Rattle.theory.specs.Theorems.{Laws}
 use Rattle.theory.proofs.Compile.{scan-compile}
-use Rattle.theory.proofs.Every.{compile-every}
+use Rattle.theory.proofs.Every.{every-append, compile-every}
 use Rattle.flow.specs.Packet.{packetOf}
 use Rattle.flow.specs.Match.{isEmpty, common, meets, rightMatch}
 use Rattle.flow.specs.declared.Match.{Match}
@@ -66,11 +66,7 @@ every-both T [] ms f = (tt, f)
 every-both T (n ∷ ns) ms f =
     let a = every-split T (n .what .atoms) (allAtoms (ns ++ ms)) f in
     let b = every-both T ns ms (a .1) in
-    (append-every T (n .what .atoms) (allAtoms ns) (a .0) (b .0), b .1)
-  where
-    append-every : (T : Row Match Action → Type 0) (N N′ : List (Row Match Action)) → EveryRow T N → EveryRow T N′ → EveryRow T (N ++ N′)
-    append-every T [] N′ f g = g
-    append-every T (r ∷ N) N′ f g = (f .0, append-every T N N′ (f .1) g)
+    (every-append T (n .what .atoms) (allAtoms ns) (a .0) (b .0), b .1)
 
 -- what every atom of the listed nodes has, every atom of the tree has
 mutual

@@ -3,7 +3,9 @@
 --   part a e l            the words of l from the place a up to e
 --   madeOf at F room      the answer where F is laid at a place, and there is so much room
 --   Lays at F             F is laid at a place, if there is room for it
-use Prim.Native.Nat.{ℕ, _+_, _-_, _≤_}
+--   PutUpTo a F           F stands at the end of a buffer, if there is room for it from the place a on
+--   Grows a F             the same, with the rows made in another buffer from a on
+use Prim.Native.Nat.{ℕ, _+_, _-_, _≤_, _<_}
 use mathlib.Core.Path.{_≡_}
 use mathlib.Core.Bool.{cond}
 use mathlib.Core.List.{List}
@@ -25,3 +27,13 @@ madeOf at F room = cond (leb (at + length F) room) (Words (at + length F)) Full
 pub record Lays (at : ℕ) (F old new : List ℕ) (r : Made) : Type 0 where
   pub answer : r ≡ madeOf at F (length old)
   pub words : at + length F ≤ length old → new ≡ laid at F old
+
+-- F stands at the end of a buffer, from the answered place on; full where it would start before the place a
+pub record PutUpTo (a : ℕ) (F new : List ℕ) (r : Made) : Type 0 where
+  pub full : r ≡ Full → length new < a + length F
+  pub words : (first : ℕ) → r ≡ Words first → (a ≤ first) × (first ≤ length new) × (drop first new ≡ F)
+
+-- the same, and the other buffer has changed only where F would be laid at a
+pub record Grows (a : ℕ) (F old new scratch : List ℕ) (r : Made) : Type 0 where
+  pub stands : PutUpTo a F scratch r
+  pub hidden : (first : ℕ) → r ≡ Words first → (W : List ℕ) → length F ≤ length W → a + length W ≤ length old → laid a W new ≡ laid a W old

@@ -2,9 +2,9 @@
 ghost use mathlib.Core.Path.{_≡_};
 ghost use mathlib.Core.List.{_++_};
 ghost use Prim.Native.Nat.{_≤_, _%_};
-ghost use lib.ListN.{length};
+ghost use lib.ListN.{length, drop};
 ghost use Rattle.row.specs.Row.{rowLength, rowOf};
-ghost use Rattle.compile.specs.Lays.{part, Lays};
+ghost use Rattle.compile.specs.Lays.{part, Lays, Grows, PutUpTo};
 ghost use Rattle.compile.specs.Tables.{commonWithWords, joinWords, atomWords, ownWords};
 use crate::rows::Made;
 use crate::rows::append;
@@ -44,7 +44,7 @@ pub(crate) fn join(
     put_before(table, scratch, start, made, end)
 }
 
-// The table of a node's own atoms, folded from the last.
+// The table of a node's own atoms, folded from the last. It grows down from the end of scratch, so that nothing is moved when rows are put before it.
 pub(crate) fn own_rows(
     operator: Operator,
     atoms: &[u32],
@@ -56,17 +56,17 @@ pub(crate) fn own_rows(
     ensures { λ r. ⌜ Lays start (ownWords (operator .cells) (now (atoms .entry))) (now (table .entry)) (now (table .exit)) r ⌝ }
 {
     let mut i = atoms.len();
-    let mut end = start;
+    let mut first = scratch.len();
     while ROW_WORDS <= i {
         let from = i - ROW_WORDS;
-        let made = join_atom(operator, &atoms[from..i], table, scratch, start, end);
-        let Made::Words(e) = made else {
+        let made = join_atom(operator, &atoms[from..i], table, scratch, start, first);
+        let Made::Words(f) = made else {
             return Made::Full;
         };
-        end = e;
+        first = f;
         i = from;
     }
-    Made::Words(end)
+    append(table, start, &scratch[first..])
 }
 
 // Puts the words at start..made of scratch before those at start..end of the table.
@@ -85,28 +85,42 @@ fn put_before(table: &mut [u32], scratch: &mut [u32], start: usize, made: usize,
     Made::Words(e)
 }
 
-// Joins an atom with the table at start..end, in its place. One with the empty match has no row.
+// Joins an atom with the table that stands at the end of scratch, from its first word on. Its rows are made in the table from the start on, and put
+// before that one. An atom with the empty match has no row.
 fn join_atom(
     operator: Operator,
     atom: &[u32],
     table: &mut [u32],
     scratch: &mut [u32],
     start: usize,
-    end: usize,
+    first: usize,
 ) -> Made
-    requires { ⌜ (start ≤ end) × (end ≤ length (now table)) × (length (now scratch) ≡ length (now table)) ⌝ }
-    ensures { λ r. ⌜ Lays start (joinWords (operator .cells) (atomWords (now (atom .entry))) (part start end (now (table .entry)))) (now (table .entry)) (now (table .exit)) r ⌝ }
+    requires { ⌜ (start ≤ first) × (first ≤ length (now scratch)) × (length (now scratch) ≡ length (now table)) ⌝ }
+    ensures { λ r. ⌜ Grows start (joinWords (operator .cells) (atomWords (now (atom .entry))) (drop first (now (scratch .entry)))) (now (table .entry)) (now (table .exit)) (now (scratch .exit)) r ⌝ }
 {
     let m = read_match(atom);
     if is_empty(m) {
-        return Made::Words(end);
+        return Made::Words(first);
     }
     let row = words_of_row(m, row_action(atom));
-    let made = row_before(operator, &row, &table[start..end], scratch, start);
-    let Made::Words(e) = made else {
+    let made = row_before(operator, &row, &scratch[first..], table, start);
+    let Made::Words(end) = made else {
         return Made::Full;
     };
-    put_before(table, scratch, start, e, end)
+    put_up_to(scratch, start, first, &table[start..end])
+}
+
+// Puts some words before a place, if there is room for them from the start on. Answers where they start.
+fn put_up_to(out: &mut [u32], start: usize, place: usize, words: &[u32]) -> Made
+    requires { ⌜ (start ≤ place) × (place ≤ length (now out)) ⌝ }
+    ensures { λ r. ⌜ PutUpTo start (now (words .entry) ++ drop place (now (out .entry))) (now (out .exit)) r ⌝ }
+{
+    if place - start < words.len() {
+        return Made::Full;
+    }
+    let first = place - words.len();
+    copy(out, first, words);
+    Made::Words(first)
 }
 
 // The common rows of a row and a table, and then the row.

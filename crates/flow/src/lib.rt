@@ -118,6 +118,22 @@ pub fn overlap(a: Match, b: Match) -> bool
     }
     let f = a.flags;
     let g = b.flags;
+    if !values_meet(
+        f / DESTINATION_PORT % 2 == 1,
+        a.destinationport,
+        g / DESTINATION_PORT % 2 == 1,
+        b.destinationport,
+    ) {
+        return false;
+    }
+    if !values_meet(
+        f / SOURCE_PORT % 2 == 1,
+        a.sourceport,
+        g / SOURCE_PORT % 2 == 1,
+        b.sourceport,
+    ) {
+        return false;
+    }
     !is_empty(a)
         & !is_empty(b)
         & values_meet(
@@ -131,18 +147,6 @@ pub fn overlap(a: Match, b: Match) -> bool
             a.protocol,
             g / PROTOCOL % 2 == 1,
             b.protocol,
-        )
-        & values_meet(
-            f / SOURCE_PORT % 2 == 1,
-            a.sourceport,
-            g / SOURCE_PORT % 2 == 1,
-            b.sourceport,
-        )
-        & values_meet(
-            f / DESTINATION_PORT % 2 == 1,
-            a.destinationport,
-            g / DESTINATION_PORT % 2 == 1,
-            b.destinationport,
         )
 }
 

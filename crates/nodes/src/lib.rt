@@ -1,7 +1,9 @@
 // Where a node, its operators and its atoms stand in a policy file. Each function is total: outside the file all is 0, and there are no atoms.
 ghost use mathlib.Core.Path.{_≡_};
 ghost use Prim.Native.Nat.{_≤_};
+ghost use Rattle.action.specs.Operator.{join};
 ghost use Rattle.nodes.specs.Nodes.{nodePlace, nodeAt, cellsAt, atomsAt};
+use action::Action;
 use action::Operator;
 use policy::ATOM_WORDS;
 use policy::CHILDREN;
@@ -60,6 +62,19 @@ pub fn operator_at(file: &[u32], index: u32) -> Operator
             word(file, at + 8),
         ],
     }
+}
+
+// Two actions joined by the operator of an index. It is not read where one of them is don't care.
+pub fn join_at(file: &[u32], index: u32, left: Action, right: Action) -> Action
+    ensures { λ r. ⌜ r ≡ join (cellsAt (now (file .entry)) index) left right ⌝ }
+{
+    if let Action::DontCare = left {
+        return right;
+    }
+    if let Action::DontCare = right {
+        return left;
+    }
+    operator_at(file, index).join(left, right)
 }
 
 // The words of so many atoms, from a word of the file on.

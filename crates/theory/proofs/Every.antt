@@ -7,7 +7,7 @@ use Rattle.theory.specs.Rows.{Row, EveryRow, kept, commonRow, commonWith
 use Rattle.theory.specs.Tree.{Tree, Forest, node, bare, _▸_, Node, EveryAtom, EveryAtoms, table, compile, compiles}
 use Rattle.theory.specs.Theorems.{CompileEvery}
 
-every-append : {M A : Type 0} (T : Row M A → Type 0) (N N′ : List (Row M A)) → EveryRow T N → EveryRow T N′ → EveryRow T (N ++ N′)
+pub every-append : {M A : Type 0} (T : Row M A → Type 0) (N N′ : List (Row M A)) → EveryRow T N → EveryRow T N′ → EveryRow T (N ++ N′)
 every-append T [] N′ f g = g
 every-append T (r ∷ N) N′ f g = (f .0, every-append T N N′ (f .1) g)
 

@@ -30,31 +30,31 @@ children-out f s sibling k p r e =
     record { trees = bare; stand = children-past k (nodeIndex f s) (omega (arith, listed-many f)); answer = refl; reached = r }
 
 -- one child, then the others
-pub children-gave : (f : List ℕ) (s : Spot) (sibling k : ℕ) (p : Packet) {one rest : Gave} {o : List ℕ} {r : Action} → TreeGave f s p one
-    → ChildrenGave f (one .next) sibling (k - 1) p rest → o ≡ cellsAt f sibling → r ≡ join o (one .action) (rest .action) → 0 < k
+pub children-gave : (f : List ℕ) (s : Spot) (sibling k : ℕ) (p : Packet) {one rest : Gave} {r : Action} → TreeGave f s p one
+    → ChildrenGave f (one .next) sibling (k - 1) p rest → r ≡ join (cellsAt f sibling) (one .action) (rest .action) → 0 < k
     → ChildrenGave f s sibling k p (record { action = r; next = rest .next })
-children-gave f s sibling k p {one} {rest} {o} {r} t v q j h =
+children-gave f s sibling k p {one} {rest} {r} t v j h =
     let e : suc (k - 1) ≡ k = omega arith in
     record {
       trees = t .tree ▸ v .trees;
       stand = rw e at (children-more (t .stands) (v .stand));
-      answer = j ∙ ap (λ x. join x (one .action) (rest .action)) q ∙ ap₂ (join (cellsAt f sibling)) (t .answer) (v .answer);
+      answer = j ∙ ap₂ (join (cellsAt f sibling)) (t .answer) (v .answer);
       reached = v .reached;
     }
 
 -- a node's own action, and its children's
-pub tree-gave : (f : List ℕ) (s : Spot) (p : Packet) {n : NodeWords} {o₁ o₂ atoms : List ℕ} {x r : Action} {next : Spot} {rest : Gave}
-    → Reached f s → 0 < s .left → n ≡ nodeAt f (s .left) → o₁ ≡ cellsAt f (n .inner) → atoms ≡ atomsAt f (s .atom) (n .own) → x ≡ ownAction o₁ atoms p
-    → next ≡ nextSpot f s → ChildrenGave f next (n .sibling) (n .children) p rest → o₂ ≡ cellsAt f (n .parent) → r ≡ join o₂ x (rest .action)
+pub tree-gave : (f : List ℕ) (s : Spot) (p : Packet) {n : NodeWords} {atoms : List ℕ} {x r : Action} {next : Spot} {rest : Gave}
+    → Reached f s → 0 < s .left → n ≡ nodeAt f (s .left) → atoms ≡ atomsAt f (s .atom) (n .own) → x ≡ ownAction (cellsAt f (n .inner)) atoms p
+    → next ≡ nextSpot f s → ChildrenGave f next (n .sibling) (n .children) p rest → r ≡ join (cellsAt f (n .parent)) x (rest .action)
     → TreeGave f s p (record { action = r; next = rest .next })
 unfolding ownAction
-tree-gave f s p {n} {o₁} {o₂} {atoms} {x} {r} {next} {rest} reached h e u v q m k y j =
+tree-gave f s p {n} {atoms} {x} {r} {next} {rest} reached h e v q m k j =
     let at : Here f s nothing = here f s reached h nothing in
     let n′ : NodeWords = nodeAt f (s .left) in
     let k′ : ChildrenGave f (nextSpot f s) (n′ .sibling) (n′ .children) p rest =
     subst (λ (z : Spot). ChildrenGave f z (n′ .sibling) (n′ .children) p rest) m (subst (λ (z : NodeWords). ChildrenGave f next (z .sibling) (z .children) p rest) e k) in
     let x′ : x ≡ own meets DontCare join (cellsAt f (n′ .inner)) (rowsOf rowLength rowOf (atomsAt f (s .atom) (n′ .own))) p =
-    q ∙ ap₂ (λ o l. own meets DontCare join o (rowsOf rowLength rowOf l) p) (u ∙ ap (λ (z : NodeWords). cellsAt f (z .inner)) e) (v ∙ ap (λ (z : NodeWords). atomsAt f (s .atom) (z .own)) e) in
+    q ∙ ap₂ (λ o l. own meets DontCare join o (rowsOf rowLength rowOf l) p) (ap (λ (z : NodeWords). cellsAt f (z .inner)) e) (v ∙ ap (λ (z : NodeWords). atomsAt f (s .atom) (z .own)) e) in
     let i : ℕ = nodeIndex f s in
     let j′ : ℕ = nodeIndex f (rest .next) in
     let below : Children (listOf f) (getD (listOf f) i nothing .childCount) (suc i) (k′ .trees) j′ = rw (at .children, ← at .further) (k′ .stand) in
@@ -62,6 +62,6 @@ tree-gave f s p {n} {o₁} {o₂} {atoms} {x} {r} {next} {rest} reached h e u v 
     record {
       tree = node (nodeHere f s) (k′ .trees);
       stands = rw (at .what) at sub;
-      answer = j ∙ ap (λ o. join o x (rest .action)) (y ∙ ap (λ (z : NodeWords). cellsAt f (z .parent)) e) ∙ ap₂ (join (cellsAt f (n′ .parent))) x′ (k′ .answer);
+      answer = j ∙ ap (λ o. join o x (rest .action)) (ap (λ (z : NodeWords). cellsAt f (z .parent)) e) ∙ ap₂ (join (cellsAt f (n′ .parent))) x′ (k′ .answer);
       reached = k′ .reached;
     }

@@ -4,13 +4,13 @@ ghost use Prim.Native.Nat.{_<_, _%_};
 ghost use lib.ListN.{length};
 ghost use Rattle.policy.specs.Read.{readOf};
 ghost use Rattle.policy.specs.declared.Reading.the-variants.{Accepted};
+ghost use Rattle.nodes.specs.Nodes.{cellsAt};
 ghost use Rattle.nodes.specs.Walk.{Reached};
 ghost use Rattle.row.specs.Row.{rowLength};
 ghost use Rattle.tree.specs.Action.{actionOf, acceptedAction};
 ghost use Rattle.tree.specs.Steps.{ownAction, withAtom, TreeGave, ChildrenGave};
 use action::Action;
 use action::Law;
-use action::Operator;
 use flow::Packet;
 use flow::WRONG_PACKET;
 use flow::meets;
@@ -19,8 +19,8 @@ use flow::read_packet;
 use flow::right_packet_words;
 use nodes::Spot;
 use nodes::atoms_at;
+use nodes::join_at;
 use nodes::node_at;
-use nodes::operator_at;
 use policy::ATOM_WORDS;
 use policy::Layout;
 use policy::OPERATOR_WORDS;
@@ -84,11 +84,7 @@ fn subtree(file: &[u32], at: Spot, packet: Packet) -> Gave
 {
     let node = node_at(file, at.left);
     let from = at.atom;
-    let own = own_action(
-        operator_at(file, node.inner),
-        atoms_at(file, from, node.own),
-        packet,
-    );
+    let own = own_action(file, node.inner, atoms_at(file, from, node.own), packet);
     let next = Spot {
         left: at.left - 1,
         atom: from + ATOM_WORDS * (node.own as usize),
@@ -96,7 +92,7 @@ fn subtree(file: &[u32], at: Spot, packet: Packet) -> Gave
     let below = children(file, next, node.sibling, node.children, packet);
     let theirs = below.action;
     let behind = below.next;
-    let action = operator_at(file, node.parent).join(own, theirs);
+    let action = join_at(file, node.parent, own, theirs);
     Gave {
         action,
         next: behind,
@@ -126,7 +122,7 @@ fn children(file: &[u32], at: Spot, sibling: u32, count: u32, packet: Packet) ->
     let rest = children(file, next, sibling, count - 1, packet);
     let others = rest.action;
     let behind = rest.next;
-    let action = operator_at(file, sibling).join(one, others);
+    let action = join_at(file, sibling, one, others);
     Gave {
         action,
         next: behind,
@@ -134,26 +130,26 @@ fn children(file: &[u32], at: Spot, sibling: u32, count: u32, packet: Packet) ->
 }
 
 // A node's own action: its matching atoms, folded from the last.
-fn own_action(op: Operator, atoms: &[u32], packet: Packet) -> Action
+fn own_action(file: &[u32], inner: u32, atoms: &[u32], packet: Packet) -> Action
     requires { ⌜ length (now atoms) % rowLength ≡ 0 ⌝ }
-    ensures { λ r. ⌜ r ≡ ownAction (op .cells) (now (atoms .entry)) packet ⌝ }
+    ensures { λ r. ⌜ r ≡ ownAction (cellsAt (now (file .entry)) inner) (now (atoms .entry)) packet ⌝ }
 {
     let mut i = atoms.len();
     let mut given = Action::DONT_CARE;
     while ROW_WORDS <= i {
         let from = i - ROW_WORDS;
-        given = with_atom(op, &atoms[from..i], packet, given);
+        given = with_atom(file, inner, &atoms[from..i], packet, given);
         i = from;
     }
     given
 }
 
 // One atom before the others.
-fn with_atom(op: Operator, atom: &[u32], packet: Packet, rest: Action) -> Action
-    ensures { λ r. ⌜ r ≡ withAtom (op .cells) (now (atom .entry)) packet rest ⌝ }
+fn with_atom(file: &[u32], inner: u32, atom: &[u32], packet: Packet, rest: Action) -> Action
+    ensures { λ r. ⌜ r ≡ withAtom (cellsAt (now (file .entry)) inner) (now (atom .entry)) packet rest ⌝ }
 {
     if meets(read_match(atom), packet) {
-        op.join(row_action(atom), rest)
+        join_at(file, inner, row_action(atom), rest)
     } else {
         rest
     }

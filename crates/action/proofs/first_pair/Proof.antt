@@ -12,10 +12,10 @@ use Rattle.action.proofs.first_pair.Statement.{statement}
 use Rattle.action.proofs.first_pair.Tie as tie
 
 abbrev Inv-loop : tie.InvT-loop
-Inv-loop op k₀ k = along (commutes (op .cells)) (drop k pairs) ≡ firstPair (op .cells)
+Inv-loop cells k₀ k = along (commutes cells) (drop k pairs) ≡ firstPair cells
 
 abbrev μ-loop : tie.MeasureT-loop
-μ-loop op k₀ k = length pairs - k
+μ-loop cells k₀ k = length pairs - k
 
 loop-holds : tie.Need-loop-holds Inv-loop μ-loop
 unfolding firstPair
@@ -40,7 +40,7 @@ returns : tie.Need-returns Inv-loop μ-loop
 unfolding pairs shown
 returns c =
     let l = c .before .before .before .before .before .before .before .loop in
-    let o = c .before .before .before .before .before .before .before .before .args .op .cells in
+    let o = c .before .before .before .before .before .before .before .before .before .args .cells .now in
     let h : l .k < length pairs = omega arith in
     hit (commutes o) pairs (DontCare, DontCare) (l .k) h (l .inv)
     (pair-tried o (l .k) _ _ _ _ _ h
@@ -63,7 +63,7 @@ loop-again : tie.Need-loop-again Inv-loop μ-loop
 unfolding pairs shown
 loop-again c =
     let l = c .before .before .before .before .before .before .before .loop in
-    let o = c .before .before .before .before .before .before .before .before .args .op .cells in
+    let o = c .before .before .before .before .before .before .before .before .before .args .cells .now in
     let h : l .k < length pairs = omega arith in
     miss (commutes o) pairs (DontCare, DontCare) (l .k) h (l .inv)
     (pair-tried o (l .k) _ _ _ _ _ h

@@ -12,13 +12,13 @@ use Rattle.action.proofs.first_triple.Statement.{statement}
 use Rattle.action.proofs.first_triple.Tie as tie
 
 abbrev Inv-loop : tie.InvT-loop
-Inv-loop op k₀ k = along (byPair (op .cells)) (drop k pairs) ≡ firstTriple (op .cells)
+Inv-loop cells k₀ k = along (byPair cells) (drop k pairs) ≡ firstTriple cells
 
 abbrev μ-loop : tie.MeasureT-loop
-μ-loop op k₀ k = length pairs - k
+μ-loop cells k₀ k = length pairs - k
 
 loop-holds : tie.Need-loop-holds Inv-loop μ-loop
-loop-holds c = triples-by-pair (c .args .op .cells)
+loop-holds c = triples-by-pair (c .before .args .cells .now)
 
 showing-requires : tie.Need-showing-requires Inv-loop μ-loop
 showing-requires c κs = search needs
@@ -36,7 +36,7 @@ returns : tie.Need-returns Inv-loop μ-loop
 unfolding pairs shown
 returns c =
     let l = c .before .before .before .before .before .before .loop in
-    let o = c .before .before .before .before .before .before .before .args .op .cells in
+    let o = c .before .before .before .before .before .before .before .before .args .cells .now in
     let h : l .k < length pairs = omega arith in
     else-hit _ _ _
     (turn (byPair o) pairs (DontCare, DontCare) (l .k) h (l .inv)
@@ -61,7 +61,7 @@ loop-again : tie.Need-loop-again Inv-loop μ-loop
 unfolding pairs shown
 loop-again c =
     let l = c .before .before .before .before .before .before .loop in
-    let o = c .before .before .before .before .before .before .before .args .op .cells in
+    let o = c .before .before .before .before .before .before .before .before .args .cells .now in
     let h : l .k < length pairs = omega arith in
     else-miss _ _ _
     (turn (byPair o) pairs (DontCare, DontCare) (l .k) h (l .inv)

@@ -12,10 +12,10 @@ use Rattle.action.proofs.with_third.Statement.{statement}
 use Rattle.action.proofs.with_third.Tie as tie
 
 abbrev Inv-loop : tie.InvT-loop
-Inv-loop op a b ab k₀ k = along (λ c. associates (op .cells) (a, (b, c))) (drop k shown) ≡ withThird (op .cells) a b
+Inv-loop cells a b ab k₀ k = along (λ c. associates cells (a, (b, c))) (drop k shown) ≡ withThird cells a b
 
 abbrev μ-loop : tie.MeasureT-loop
-μ-loop op a b ab k₀ k = length shown - k
+μ-loop cells a b ab k₀ k = length shown - k
 
 join-requires : tie.Need-join-requires Inv-loop μ-loop
 join-requires c κs = search needs
@@ -43,10 +43,10 @@ returns : tie.Need-returns Inv-loop μ-loop
 unfolding shown
 returns c =
     let l = c .before .before .before .before .before .before .before .loop in
-    let g = c .before .before .before .before .before .before .before .before .before .args in
+    let g = c .before .before .before .before .before .before .before .before .before .before .args in
     let h : l .k < length shown = omega arith in
-    hit (λ x. associates (g .op .cells) (g .a, (g .b, x))) shown DontCare (l .k) h (l .inv)
-    (third-tried (g .op .cells) (l .k) (g .a) (g .b) _ _ _ _ _ _
+    hit (λ x. associates (g .cells .now) (g .a, (g .b, x))) shown DontCare (l .k) h (l .inv)
+    (third-tried (g .cells .now) (l .k) (g .a) (g .b) _ _ _ _ _ _
     (c .before .before .before .before .before .showing .ensures)
     (c .before .before .before .before .before .before .before .before .join .ensures)
     (c .before .before .before .before .join2 .ensures)
@@ -67,10 +67,10 @@ loop-again : tie.Need-loop-again Inv-loop μ-loop
 unfolding shown
 loop-again c =
     let l = c .before .before .before .before .before .before .before .loop in
-    let g = c .before .before .before .before .before .before .before .before .before .args in
+    let g = c .before .before .before .before .before .before .before .before .before .before .args in
     let h : l .k < length shown = omega arith in
-    miss (λ x. associates (g .op .cells) (g .a, (g .b, x))) shown DontCare (l .k) h (l .inv)
-    (third-tried (g .op .cells) (l .k) (g .a) (g .b) _ _ _ _ _ _
+    miss (λ x. associates (g .cells .now) (g .a, (g .b, x))) shown DontCare (l .k) h (l .inv)
+    (third-tried (g .cells .now) (l .k) (g .a) (g .b) _ _ _ _ _ _
     (c .before .before .before .before .before .showing .ensures)
     (c .before .before .before .before .before .before .before .before .join .ensures)
     (c .before .before .before .before .join2 .ensures)

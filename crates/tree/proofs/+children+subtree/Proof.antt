@@ -1,8 +1,7 @@
 -- `tree::subtree` and `tree::children`, which call each other, meet their contracts: what falls is the number of nodes left.
 -- Assumes nothing.
-use Prim.Native.Nat.{ℕ, _<_}
 use borrow.Author.Needs.{needs}
-use Prim.Native.Nat.{_+_}
+use Prim.Native.Nat.{ℕ, _+_, _<_}
 use native.Mathlib.Omega.{arith}
 use Rattle.nodes.proofs.Places.{atoms-rows, atoms-within, next-spot, next-reached}
 use Rattle.tree.proofs.Steps.{children-end, children-out, children-gave, tree-gave}
@@ -14,10 +13,9 @@ use Rattle.tree.proofs.+children+subtree.Lts-children as children-lts
 use Rattle.tree.proofs.subtree.Reads as subtree
 use Rattle.tree.proofs.subtree.Kinds as subtree-kinds
 use Rattle.tree.proofs.+children+subtree.Lts-subtree as subtree-lts
-use Rattle.action.proofs.Operator.join.Reads as join-reads
 use Rattle.nodes.proofs.atoms_at.Reads as atoms-at-reads
+use Rattle.nodes.proofs.join_at.Reads as join-at-reads
 use Rattle.nodes.proofs.node_at.Reads as node-at-reads
-use Rattle.nodes.proofs.operator_at.Reads as operator-at-reads
 use Rattle.tree.proofs.own_action.Reads as own-action-reads
 use Rattle.tree.proofs.+children+subtree.{statement}
 use Rattle.tree.proofs.+children+subtree.Tie.{close}
@@ -46,10 +44,8 @@ children-returns : (t : ℕ) → children-lts.Need-returns (
   subtree.Post,
   children-below t,
   children.Post,
-  operator-at-reads.Asked,
-  operator-at-reads.Learnt,
-  join-reads.Asked,
-  join-reads.Learnt,
+  join-at-reads.Asked,
+  join-at-reads.Learnt,
 ) (children-at t) children.Post
 children-returns t c = children-end _ _ _ _ _ (c .before .before .pre .1) (c .if1 .taken)
 
@@ -58,10 +54,8 @@ children-returns-2 : (t : ℕ) → children-lts.Need-returns-2 (
   subtree.Post,
   children-below t,
   children.Post,
-  operator-at-reads.Asked,
-  operator-at-reads.Learnt,
-  join-reads.Asked,
-  join-reads.Learnt,
+  join-at-reads.Asked,
+  join-at-reads.Learnt,
 ) (children-at t) children.Post
 children-returns-2 t c = children-out _ _ _ _ _ (c .before .before .before .before .pre .1) (c .if2 .taken)
 
@@ -70,10 +64,8 @@ children-subtree-requires : (t : ℕ) → children-lts.Need-subtree-requires (
   subtree.Post,
   children-below t,
   children.Post,
-  operator-at-reads.Asked,
-  operator-at-reads.Learnt,
-  join-reads.Asked,
-  join-reads.Learnt,
+  join-at-reads.Asked,
+  join-at-reads.Learnt,
 ) (children-at t) children.Post
 children-subtree-requires t c κs = (omega (arith, c .before .before .before .before .pre .0, c .if2 .left), (c .before .before .before .before .pre .1, omega (arith, c .if2 .left)))
 
@@ -82,10 +74,8 @@ children-sub-children : (t : ℕ) → children-lts.Need-sub-children (
   subtree.Post,
   children-below t,
   children.Post,
-  operator-at-reads.Asked,
-  operator-at-reads.Learnt,
-  join-reads.Asked,
-  join-reads.Learnt,
+  join-at-reads.Asked,
+  join-at-reads.Learnt,
 ) (children-at t) children.Post
 children-sub-children t c = search needs
 
@@ -94,242 +84,172 @@ children-children-requires : (t : ℕ) → children-lts.Need-children-requires (
   subtree.Post,
   children-below t,
   children.Post,
-  operator-at-reads.Asked,
-  operator-at-reads.Learnt,
-  join-reads.Asked,
-  join-reads.Learnt,
+  join-at-reads.Asked,
+  join-at-reads.Learnt,
 ) (children-at t) children.Post
 children-children-requires t c κs = (omega (arith, c .before .before .before .before .before .before .pre .0, c .before .before .before .before .before .before .pre .1 .left, c .before .before .if2 .left, c .before .subtree .ensures .stands .on), c .before .subtree .ensures .reached)
 
-children-operator-at-requires : (t : ℕ) → children-lts.Need-operator-at-requires (
+children-join-at-requires : (t : ℕ) → children-lts.Need-join-at-requires (
   subtree-below t,
   subtree.Post,
   children-below t,
   children.Post,
-  operator-at-reads.Asked,
-  operator-at-reads.Learnt,
-  join-reads.Asked,
-  join-reads.Learnt,
+  join-at-reads.Asked,
+  join-at-reads.Learnt,
 ) (children-at t) children.Post
-children-operator-at-requires t c κs = search needs
-
-children-join-requires : (t : ℕ) → children-lts.Need-join-requires (
-  subtree-below t,
-  subtree.Post,
-  children-below t,
-  children.Post,
-  operator-at-reads.Asked,
-  operator-at-reads.Learnt,
-  join-reads.Asked,
-  join-reads.Learnt,
-) (children-at t) children.Post
-children-join-requires t c κs = search needs
+children-join-at-requires t c κs = search needs
 
 children-returns-3 : (t : ℕ) → children-lts.Need-returns-3 (
   subtree-below t,
   subtree.Post,
   children-below t,
   children.Post,
-  operator-at-reads.Asked,
-  operator-at-reads.Learnt,
-  join-reads.Asked,
-  join-reads.Learnt,
+  join-at-reads.Asked,
+  join-at-reads.Learnt,
 ) (children-at t) children.Post
-children-returns-3 t c = children-gave _ _ _ _ _ (c .before .before .before .before .before .subtree .ensures) (c .before .before .before .children .ensures) (c .before .operator-at .ensures) (c .join .ensures) (omega (arith, c .before .before .before .before .before .before .before .before .if1 .left))
+children-returns-3 t c = children-gave _ _ _ _ _ (c .before .before .before .before .subtree .ensures) (c .before .before .children .ensures) (c .join-at .ensures) (omega (arith, c .before .before .before .before .before .before .before .if1 .left))
 
 subtree-node-at-requires : (t : ℕ) → subtree-lts.Need-node-at-requires (
   node-at-reads.Asked,
   node-at-reads.Learnt,
-  operator-at-reads.Asked,
-  operator-at-reads.Learnt,
   atoms-at-reads.Asked,
   atoms-at-reads.Learnt,
   own-action-reads.Asked,
   own-action-reads.Learnt,
   children-below t,
   children.Post,
-  join-reads.Asked,
-  join-reads.Learnt,
+  join-at-reads.Asked,
+  join-at-reads.Learnt,
 ) (subtree-at t) subtree.Post
 subtree-node-at-requires t c κs = search needs
-
-subtree-operator-at-requires : (t : ℕ) → subtree-lts.Need-operator-at-requires (
-  node-at-reads.Asked,
-  node-at-reads.Learnt,
-  operator-at-reads.Asked,
-  operator-at-reads.Learnt,
-  atoms-at-reads.Asked,
-  atoms-at-reads.Learnt,
-  own-action-reads.Asked,
-  own-action-reads.Learnt,
-  children-below t,
-  children.Post,
-  join-reads.Asked,
-  join-reads.Learnt,
-) (subtree-at t) subtree.Post
-subtree-operator-at-requires t c κs = search needs
 
 subtree-atoms-at-requires : (t : ℕ) → subtree-lts.Need-atoms-at-requires (
   node-at-reads.Asked,
   node-at-reads.Learnt,
-  operator-at-reads.Asked,
-  operator-at-reads.Learnt,
   atoms-at-reads.Asked,
   atoms-at-reads.Learnt,
   own-action-reads.Asked,
   own-action-reads.Learnt,
   children-below t,
   children.Post,
-  join-reads.Asked,
-  join-reads.Learnt,
+  join-at-reads.Asked,
+  join-at-reads.Learnt,
 ) (subtree-at t) subtree.Post
 subtree-atoms-at-requires t c κs = search needs
 
 subtree-own-action-requires : (t : ℕ) → subtree-lts.Need-own-action-requires (
   node-at-reads.Asked,
   node-at-reads.Learnt,
-  operator-at-reads.Asked,
-  operator-at-reads.Learnt,
   atoms-at-reads.Asked,
   atoms-at-reads.Learnt,
   own-action-reads.Asked,
   own-action-reads.Learnt,
   children-below t,
   children.Post,
-  join-reads.Asked,
-  join-reads.Learnt,
+  join-at-reads.Asked,
+  join-at-reads.Learnt,
 ) (subtree-at t) subtree.Post
 subtree-own-action-requires t c κs = rw (c .atoms-at .ensures) (atoms-rows _ _ _)
 
-subtree-sub-t14 : (t : ℕ) → subtree-lts.Need-sub-t14 (
+subtree-sub-t13 : (t : ℕ) → subtree-lts.Need-sub-t13 (
   node-at-reads.Asked,
   node-at-reads.Learnt,
-  operator-at-reads.Asked,
-  operator-at-reads.Learnt,
   atoms-at-reads.Asked,
   atoms-at-reads.Learnt,
   own-action-reads.Asked,
   own-action-reads.Learnt,
   children-below t,
   children.Post,
-  join-reads.Asked,
-  join-reads.Learnt,
+  join-at-reads.Asked,
+  join-at-reads.Learnt,
 ) (subtree-at t) subtree.Post
-subtree-sub-t14 t c = search needs
+subtree-sub-t13 t c = search needs
 
-subtree-cast-t15 : (t : ℕ) → subtree-lts.Need-cast-t15 (
+subtree-cast-t14 : (t : ℕ) → subtree-lts.Need-cast-t14 (
   node-at-reads.Asked,
   node-at-reads.Learnt,
-  operator-at-reads.Asked,
-  operator-at-reads.Learnt,
   atoms-at-reads.Asked,
   atoms-at-reads.Learnt,
   own-action-reads.Asked,
   own-action-reads.Learnt,
   children-below t,
   children.Post,
-  join-reads.Asked,
-  join-reads.Learnt,
+  join-at-reads.Asked,
+  join-at-reads.Learnt,
 ) (subtree-at t) subtree.Post
-subtree-cast-t15 t c = search needs
+subtree-cast-t14 t c = search needs
 
-subtree-mul-t16 : (t : ℕ) → subtree-lts.Need-mul-t16 (
+subtree-mul-t15 : (t : ℕ) → subtree-lts.Need-mul-t15 (
   node-at-reads.Asked,
   node-at-reads.Learnt,
-  operator-at-reads.Asked,
-  operator-at-reads.Learnt,
   atoms-at-reads.Asked,
   atoms-at-reads.Learnt,
   own-action-reads.Asked,
   own-action-reads.Learnt,
   children-below t,
   children.Post,
-  join-reads.Asked,
-  join-reads.Learnt,
+  join-at-reads.Asked,
+  join-at-reads.Learnt,
 ) (subtree-at t) subtree.Post
-subtree-mul-t16 t c = omega (arith, atoms-within _ _ (c .before .before .before .before .before .before .before .pre .1 .0) (c .before .before .before .before .before .before .before .pre .1 .1) _ (c .before .before .before .before .before .node-at .ensures))
+subtree-mul-t15 t c = omega (arith, atoms-within _ _ (c .before .before .before .before .before .before .pre .1 .0) (c .before .before .before .before .before .before .pre .1 .1) _ (c .before .before .before .before .node-at .ensures))
 
-subtree-add-t17 : (t : ℕ) → subtree-lts.Need-add-t17 (
+subtree-add-t16 : (t : ℕ) → subtree-lts.Need-add-t16 (
   node-at-reads.Asked,
   node-at-reads.Learnt,
-  operator-at-reads.Asked,
-  operator-at-reads.Learnt,
   atoms-at-reads.Asked,
   atoms-at-reads.Learnt,
   own-action-reads.Asked,
   own-action-reads.Learnt,
   children-below t,
   children.Post,
-  join-reads.Asked,
-  join-reads.Learnt,
+  join-at-reads.Asked,
+  join-at-reads.Learnt,
 ) (subtree-at t) subtree.Post
-subtree-add-t17 t c = omega (arith, atoms-within _ _ (c .before .before .before .before .before .before .before .pre .1 .0) (c .before .before .before .before .before .before .before .pre .1 .1) _ (c .before .before .before .before .before .node-at .ensures))
+subtree-add-t16 t c = omega (arith, atoms-within _ _ (c .before .before .before .before .before .before .pre .1 .0) (c .before .before .before .before .before .before .pre .1 .1) _ (c .before .before .before .before .node-at .ensures))
 
 subtree-children-requires : (t : ℕ) → subtree-lts.Need-children-requires (
   node-at-reads.Asked,
   node-at-reads.Learnt,
-  operator-at-reads.Asked,
-  operator-at-reads.Learnt,
   atoms-at-reads.Asked,
   atoms-at-reads.Learnt,
   own-action-reads.Asked,
   own-action-reads.Learnt,
   children-below t,
   children.Post,
-  join-reads.Asked,
-  join-reads.Learnt,
+  join-at-reads.Asked,
+  join-at-reads.Learnt,
 ) (subtree-at t) subtree.Post
-subtree-children-requires t c κs = (omega (arith, c .before .before .before .before .before .before .before .pre .0, c .before .before .before .before .before .before .before .pre .1 .1), next-reached _ _ (c .before .before .before .before .before .before .before .pre .1 .0) (c .before .before .before .before .before .before .before .pre .1 .1) _ (c .before .before .before .before .before .node-at .ensures))
+subtree-children-requires t c κs = (omega (arith, c .before .before .before .before .before .before .pre .0, c .before .before .before .before .before .before .pre .1 .1), next-reached _ _ (c .before .before .before .before .before .before .pre .1 .0) (c .before .before .before .before .before .before .pre .1 .1) _ (c .before .before .before .before .node-at .ensures))
 
-subtree-operator-at-requires-2 : (t : ℕ) → subtree-lts.Need-operator-at-requires-2 (
+subtree-join-at-requires : (t : ℕ) → subtree-lts.Need-join-at-requires (
   node-at-reads.Asked,
   node-at-reads.Learnt,
-  operator-at-reads.Asked,
-  operator-at-reads.Learnt,
   atoms-at-reads.Asked,
   atoms-at-reads.Learnt,
   own-action-reads.Asked,
   own-action-reads.Learnt,
   children-below t,
   children.Post,
-  join-reads.Asked,
-  join-reads.Learnt,
+  join-at-reads.Asked,
+  join-at-reads.Learnt,
 ) (subtree-at t) subtree.Post
-subtree-operator-at-requires-2 t c κs = search needs
-
-subtree-join-requires : (t : ℕ) → subtree-lts.Need-join-requires (
-  node-at-reads.Asked,
-  node-at-reads.Learnt,
-  operator-at-reads.Asked,
-  operator-at-reads.Learnt,
-  atoms-at-reads.Asked,
-  atoms-at-reads.Learnt,
-  own-action-reads.Asked,
-  own-action-reads.Learnt,
-  children-below t,
-  children.Post,
-  join-reads.Asked,
-  join-reads.Learnt,
-) (subtree-at t) subtree.Post
-subtree-join-requires t c κs = search needs
+subtree-join-at-requires t c κs = search needs
 
 subtree-returns : (t : ℕ) → subtree-lts.Need-returns (
   node-at-reads.Asked,
   node-at-reads.Learnt,
-  operator-at-reads.Asked,
-  operator-at-reads.Learnt,
   atoms-at-reads.Asked,
   atoms-at-reads.Learnt,
   own-action-reads.Asked,
   own-action-reads.Learnt,
   children-below t,
   children.Post,
-  join-reads.Asked,
-  join-reads.Learnt,
+  join-at-reads.Asked,
+  join-at-reads.Learnt,
 ) (subtree-at t) subtree.Post
 subtree-returns t c =
-    tree-gave _ _ _ (c .before .before .before .before .before .before .before .before .before .before .before .pre .1 .0) (c .before .before .before .before .before .before .before .before .before .before .before .pre .1 .1) (c .before .before .before .before .before .before .before .before .before .node-at .ensures) (c .before .before .before .before .before .before .before .before .operator-at .ensures) (c .before .before .before .before .before .before .before .atoms-at .ensures) (c .before .before .before .before .before .before .own-action .ensures)
-    (next-spot _ _ (c .before .before .before .before .before .before .before .before .before .before .before .pre .1 .0) (c .before .before .before .before .before .before .before .before .before .before .before .pre .1 .1) _ (c .before .before .before .before .before .before .before .before .before .node-at .ensures)) (c .before .before .before .children .ensures) (c .before .operator-at2 .ensures) (c .join .ensures)
+    tree-gave _ _ _ (c .before .before .before .before .before .before .before .before .before .pre .1 .0) (c .before .before .before .before .before .before .before .before .before .pre .1 .1) (c .before .before .before .before .before .before .before .node-at .ensures) (c .before .before .before .before .before .before .atoms-at .ensures) (c .before .before .before .before .before .own-action .ensures)
+    (next-spot _ _ (c .before .before .before .before .before .before .before .before .before .pre .1 .0) (c .before .before .before .before .before .before .before .before .before .pre .1 .1) _ (c .before .before .before .before .before .before .before .node-at .ensures)) (c .before .before .children .ensures) (c .join-at .ensures)
 
 pub +children+subtree-spec : {M : Type 1} → statement M
 +children+subtree-spec = close μ-children μ-subtree (λ t. children-lts.spec (
@@ -337,10 +257,8 @@ pub +children+subtree-spec : {M : Type 1} → statement M
   subtree.Post,
   children-below t,
   children.Post,
-  operator-at-reads.Asked,
-  operator-at-reads.Learnt,
-  join-reads.Asked,
-  join-reads.Learnt,
+  join-at-reads.Asked,
+  join-at-reads.Learnt,
 )
     (children-at t)
     children.Post
@@ -349,34 +267,29 @@ pub +children+subtree-spec : {M : Type 1} → statement M
     (children-subtree-requires t)
     (children-sub-children t)
     (children-children-requires t)
-    (children-operator-at-requires t)
-    (children-join-requires t)
+    (children-join-at-requires t)
     (children-returns-3 t))
     λ t. subtree-lts.spec (
       node-at-reads.Asked,
       node-at-reads.Learnt,
-      operator-at-reads.Asked,
-      operator-at-reads.Learnt,
       atoms-at-reads.Asked,
       atoms-at-reads.Learnt,
       own-action-reads.Asked,
       own-action-reads.Learnt,
       children-below t,
       children.Post,
-      join-reads.Asked,
-      join-reads.Learnt,
+      join-at-reads.Asked,
+      join-at-reads.Learnt,
     )
     (subtree-at t)
     subtree.Post
     (subtree-node-at-requires t)
-    (subtree-operator-at-requires t)
     (subtree-atoms-at-requires t)
     (subtree-own-action-requires t)
-    (subtree-sub-t14 t)
-    (subtree-cast-t15 t)
-    (subtree-mul-t16 t)
-    (subtree-add-t17 t)
+    (subtree-sub-t13 t)
+    (subtree-cast-t14 t)
+    (subtree-mul-t15 t)
+    (subtree-add-t16 t)
     (subtree-children-requires t)
-    (subtree-operator-at-requires-2 t)
-    (subtree-join-requires t)
+    (subtree-join-at-requires t)
     (subtree-returns t)

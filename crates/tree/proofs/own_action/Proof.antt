@@ -5,6 +5,7 @@ use native.Mathlib.Omega.{arith}
 use Prim.Native.Nat.{_%_, _≤_}
 use mathlib.Core.Path.{_≡_}
 use lib.ListN.{length, drop}
+use Rattle.nodes.specs.Nodes.{cellsAt}
 use Rattle.row.specs.Row.{rowLength}
 use Rattle.tree.specs.Steps.{ownAction}
 use Rattle.tree.proofs.Own.{own-start, own-step, own-end}
@@ -12,13 +13,13 @@ use Rattle.tree.proofs.own_action.Statement.{statement}
 use Rattle.tree.proofs.own_action.Tie as tie
 
 abbrev Inv-loop : tie.InvT-loop
-Inv-loop op atoms packet i₀ given₀ i given = (i ≤ length atoms) × (i % rowLength ≡ 0) × (given ≡ ownAction (op .cells) (drop i atoms) packet)
+Inv-loop file inner atoms packet i₀ given₀ i given = (i ≤ length atoms) × (i % rowLength ≡ 0) × (given ≡ ownAction (cellsAt file inner) (drop i atoms) packet)
 
 abbrev μ-loop : tie.MeasureT-loop
-μ-loop op atoms packet i₀ given₀ i given = i
+μ-loop file inner atoms packet i₀ given₀ i given = i
 
 loop-holds : tie.Need-loop-holds Inv-loop μ-loop
-loop-holds c = (omega arith, omega arith, own-start _ (c .before .args .atoms .now) _)
+loop-holds c = (omega arith, omega arith, own-start _ (c .before .before .args .atoms .now) _)
 
 mul-with-atom : tie.Need-mul-with-atom Inv-loop μ-loop
 mul-with-atom c = search needs

@@ -14,11 +14,11 @@ meets-requires c κs = search needs
 row-action-requires : tie.Need-row-action-requires
 row-action-requires c κs = search needs
 
-join-requires : tie.Need-join-requires
-join-requires c κs = search needs
+join-at-requires : tie.Need-join-at-requires
+join-at-requires c κs = search needs
 
 returns : tie.Need-returns
-returns c = with-met _ _ _ _ (c .before .before .before .meets .ensures) (c .before .before .if1 .taken) (c .before .before .before .before .read-match .ensures) (c .before .row-action .ensures) (c .join .ensures)
+returns c = with-met _ _ _ _ (c .before .before .before .meets .ensures) (c .before .before .if1 .taken) (c .before .before .before .before .read-match .ensures) (c .before .row-action .ensures) (c .join-at .ensures)
 
 returns-2 : tie.Need-returns-2
 returns-2 c = with-unmet _ _ _ _ (c .before .meets .ensures) (c .if1 .left) (c .before .before .read-match .ensures)
@@ -30,6 +30,6 @@ with-atom-spec =
     read-match-requires
     meets-requires
     row-action-requires
-    join-requires
+    join-at-requires
     returns
     returns-2)

@@ -15,7 +15,7 @@ enum-told c = search needs
 returns : tie.Need-returns
 unfolding lawSearch
 returns c =
-    let o = c .before .before .before .args .self .cells in
+    let o = c .before .before .before .before .before .before .args .t1 .cells in
     else-hit _ _ (firstTriple o) (rw (c .before .before .first-pair .ensures)) _ _ _ _ (c .enum-told .given .1)
 
 enum-told-2 : tie.Need-enum-told-2
@@ -28,7 +28,7 @@ returns-2 : tie.Need-returns-2
 unfolding lawSearch
 returns-2 c =
     c .first-triple .ensures
-    ∙ else-miss _ _ _ (rw (c .before .before .before .first-pair .ensures)) (c .before .enum-told2 .given .1)
+    ∙ else-miss _ _ _ (rw (c .before .before .before .before .before .before .first-pair .ensures)) (c .before .before .before .before .enum-told2 .given .1)
 
 pub law-search-spec : {M : Type 1} → statement M
 law-search-spec =

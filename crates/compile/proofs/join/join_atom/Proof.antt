@@ -55,10 +55,20 @@ same-length-2 c = search needs
 returns-2 : tie.Need-returns-2
 returns-2 c = atom-full _ _ _ _ (c .before .before .before .before .before .before .before .before .before .before .before .before .before .read-match .ensures) (c .before .before .before .before .before .before .before .before .before .before .before .before .is-empty .ensures) (c .before .before .before .before .before .before .before .before .before .before .before .if1 .left) (c .before .before .before .before .before .before .before .before .before .before .row-action .ensures) (c .before .before .before .before .before .before .before .before .before .words-of-row .ensures) (c .before .before .before .before .row-before .ensures) _ (omega (arith, c .before .before .before .before .before .before .before .before .before .before .before .before .before .before .before .before .before .pre .2)) (c .enum-told .given .1)
 
-put-before-requires : tie.Need-put-before-requires
-put-before-requires c κs =
-    let n = lays-ends (c .before .before .before .before .before .before .before .row-before .ensures) (c .before .before .before .made .given .1) in
-    (n .0, c .before .before .before .before .before .before .before .before .before .before .before .before .before .before .before .before .before .before .before .before .pre .0, omega (arith, n .1, c .before .before .before .before .before .before .before .before .before .before .before .before .before .before .before .before .before .before .before .before .pre .2), c .before .before .before .before .before .before .before .before .before .before .before .before .before .before .before .before .before .before .before .before .pre .1, omega (arith, c .before .before .before .before .before .before .before .before .before .before .before .before .before .before .before .before .before .before .before .before .pre .2, c .before .before .before .before .before .before .before .row-before .kept .1 .1 .1 .0))
+mul-put-up-to : tie.Need-mul-put-up-to
+mul-put-up-to c = search needs
+
+sub-put-up-to : tie.Need-sub-put-up-to
+sub-put-up-to c = omega (arith, lays-ends (c .before .before .before .before .before .before .row-before .ensures) (c .before .before .made .given .1))
+
+part-put-up-to-start : tie.Need-part-put-up-to-start
+part-put-up-to-start c = omega (arith, lays-ends (c .before .before .before .before .before .before .before .row-before .ensures) (c .before .before .before .made .given .1))
+
+part-put-up-to-end : tie.Need-part-put-up-to-end
+part-put-up-to-end c = omega (arith, lays-ends (c .before .before .before .before .before .before .before .row-before .ensures) (c .before .before .before .made .given .1))
+
+put-up-to-requires : tie.Need-put-up-to-requires
+put-up-to-requires c κs = search needs
 
 same-length-3 : tie.Need-same-length-3
 same-length-3 c = search needs
@@ -67,7 +77,7 @@ same-length-4 : tie.Need-same-length-4
 same-length-4 c = search needs
 
 returns-3 : tie.Need-returns-3
-returns-3 c = atom-joined _ _ _ _ (c .before .before .before .before .before .before .before .before .before .before .before .before .before .before .before .before .before .before .before .before .before .read-match .ensures) (c .before .before .before .before .before .before .before .before .before .before .before .before .before .before .before .before .before .before .before .before .is-empty .ensures) (c .before .before .before .before .before .before .before .before .before .before .before .before .before .before .before .before .before .before .before .if1 .left) (c .before .before .before .before .before .before .before .before .before .before .before .before .before .before .before .before .before .before .row-action .ensures) (c .before .before .before .before .before .before .before .before .before .before .before .before .before .before .before .before .before .words-of-row .ensures) (c .before .before .before .before .before .before .before .before .before .before .before .before .row-before .ensures) (c .before .before .before .before .before .before .before .before .made .given .1) (c .before .before .before .before .put-before .ensures)
+returns-3 c = atom-joined _ _ (c .before .before .before .before .before .before .before .before .before .before .before .before .before .before .before .before .before .before .before .before .before .before .before .before .args .first) (c .before .before .before .before .before .before .before .before .before .before .before .before .before .before .before .before .before .before .before .before .before .before .before .before .args .scratch .now) (c .before .before .before .before .before .before .before .before .before .before .before .before .before .before .before .before .before .before .before .before .read-match .ensures) (c .before .before .before .before .before .before .before .before .before .before .before .before .before .before .before .before .before .before .before .is-empty .ensures) (c .before .before .before .before .before .before .before .before .before .before .before .before .before .before .before .before .before .before .if1 .left) (c .before .before .before .before .before .before .before .before .before .before .before .before .before .before .before .before .before .row-action .ensures) (c .before .before .before .before .before .before .before .before .before .before .before .before .before .before .before .before .words-of-row .ensures) (c .before .before .before .before .before .before .before .before .before .before .before .row-before .ensures) (c .before .before .before .before .before .before .before .made .given .1) (c .before .before .put-up-to .ensures)
 
 pub join-atom-spec : {M : Type 1} → statement M
 join-atom-spec =
@@ -89,7 +99,11 @@ join-atom-spec =
     same-length
     same-length-2
     returns-2
-    put-before-requires
+    mul-put-up-to
+    sub-put-up-to
+    part-put-up-to-start
+    part-put-up-to-end
+    put-up-to-requires
     same-length-3
     same-length-4
     returns-3)
