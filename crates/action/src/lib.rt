@@ -113,7 +113,7 @@ impl Operator {
 }
 
 // Two actions joined by an operator's cells. A code that is not known gives don't care.
-pub fn join(cells: &[u32], left: Action, right: Action) -> Action
+fn join(cells: &[u32], left: Action, right: Action) -> Action
     ensures { λ r. ⌜ r ≡ join (now (cells .entry)) left right ⌝ }
 {
     let k = kind(left);

@@ -6,7 +6,6 @@ ghost use Rattle.compile.specs.Lays.{Lays};
 ghost use Rattle.compile.specs.Tables.{commonWords, commonWithWords, commonRowsWords};
 use action::Action;
 use action::Operator;
-use action::join;
 use flow::Match;
 use flow::common;
 use flow::is_empty;
@@ -62,7 +61,7 @@ pub(crate) fn common_with(
     let mut done = at;
     let mut i = 0;
     while i + ROW_WORDS <= table.len() {
-        let made = add_common(&operator.cells, m, a, &table[i..i + ROW_WORDS], out, done);
+        let made = add_common(operator, m, a, &table[i..i + ROW_WORDS], out, done);
         let Made::Words(end) = made else {
             return Made::Full;
         };
@@ -73,15 +72,22 @@ pub(crate) fn common_with(
 }
 
 // The common row of a match and action and another row, dropped if empty.
-fn add_common(cells: &[u32], m: Match, a: Action, row: &[u32], out: &mut [u32], at: usize) -> Made
+fn add_common(
+    operator: Operator,
+    m: Match,
+    a: Action,
+    row: &[u32],
+    out: &mut [u32],
+    at: usize,
+) -> Made
     requires { ⌜ at ≤ length (now out) ⌝ }
-    ensures { λ r. ⌜ Lays at (commonWords (now (cells .entry)) (record { match = m; action = a }) (now (row .entry))) (now (out .entry)) (now (out .exit)) r ⌝ }
+    ensures { λ r. ⌜ Lays at (commonWords (operator .cells) (record { match = m; action = a }) (now (row .entry))) (now (out .entry)) (now (out .exit)) r ⌝ }
 {
     let both = common(m, read_match(row));
     if is_empty(both) {
         return Made::Words(at);
     }
-    let words = words_of_row(both, join(cells, a, row_action(row)));
+    let words = words_of_row(both, operator.join(a, row_action(row)));
     append(out, at, &words)
 }
 

@@ -51,6 +51,7 @@ use Rattle.policy.proofs.read.Reads as read
 use Rattle.nodes.proofs.node_at.Reads as node-at
 use Rattle.nodes.proofs.operator_at.Reads as operator-at
 use Rattle.nodes.proofs.atoms_at.Reads as atoms-at
+use Rattle.nodes.proofs.join_at.Reads as join-at
 use Rattle.tree.proofs.tree_action.Reads as tree-action
 use Rattle.table.proofs.scan.Reads as scan
 use Rattle.table.proofs.check.Reads as check
@@ -225,6 +226,9 @@ operator-at-one = fixed (λ κ a r s p. ap (λ c. record { cells = c }) p)
 
 atoms-at-one : OneAnswer atoms-at.Pre atoms-at.Post (λ κ r s. now r)
 atoms-at-one = fixed (λ κ a r s p. p)
+
+join-at-one : OneAnswer join-at.Pre join-at.Post (λ κ r s. r)
+join-at-one = fixed (λ κ a r s p. p)
 
 -- tree
 tree-action-one : OneAnswer tree-action.Pre tree-action.Post (λ κ r s. r)

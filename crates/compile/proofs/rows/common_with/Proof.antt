@@ -12,10 +12,10 @@ use Rattle.compile.proofs.rows.common_with.Statement.{statement}
 use Rattle.compile.proofs.rows.common_with.Tie as tie
 
 abbrev Inv-loop : tie.InvT-loop
-Inv-loop row table out₀ at operator m a done₀ i₀ out done i = (i ≤ length table) × Going at (commonWithWords (operator .cells) (rowOf row) table) out₀ done (commonWithWords (operator .cells) (record { match = m; action = a }) (drop i table)) out
+Inv-loop operator row table out₀ at m a done₀ i₀ out done i = (i ≤ length table) × Going at (commonWithWords (operator .cells) (rowOf row) table) out₀ done (commonWithWords (operator .cells) (record { match = m; action = a }) (drop i table)) out
 
 abbrev μ-loop : tie.MeasureT-loop
-μ-loop row table out₀ at operator m a done₀ i₀ out done i = length table - i
+μ-loop operator row table out₀ at m a done₀ i₀ out done i = length table - i
 
 read-match-requires : tie.Need-read-match-requires Inv-loop μ-loop
 read-match-requires c κs = search needs
@@ -57,7 +57,7 @@ same-length : tie.Need-same-length Inv-loop μ-loop
 same-length c = search needs
 
 returns : tie.Need-returns Inv-loop μ-loop
-returns c = stop _ (c .before .before .before .before .before .before .before .before .before .before .before .loop .inv .1) (common-with-next _ _ _ _ (c .before .before .before .before .before .before .before .before .before .before .loop-test .taken)) (c .before .before .before .before .add-common .ensures) (c .enum-told .given .1)
+returns c = stop _ (c .before .before .before .before .before .before .before .before .loop .inv .1) (common-with-next _ _ _ _ (c .before .before .before .before .before .before .before .loop-test .taken)) (c .before .before .before .before .add-common .ensures) (c .enum-told .given .1)
 
 add-i : tie.Need-add-i Inv-loop μ-loop
 add-i c = search needs
@@ -66,7 +66,7 @@ loop-less : tie.Need-loop-less Inv-loop μ-loop
 loop-less c = search needs
 
 loop-again : tie.Need-loop-again Inv-loop μ-loop
-loop-again c = (omega arith, step _ (c .before .before .before .before .before .before .before .before .before .before .before .before .loop .inv .1) (common-with-next _ _ _ _ (c .before .before .before .before .before .before .before .before .before .before .before .loop-test .taken)) (c .before .before .before .before .before .add-common .ensures) (c .before .made .given .1) (c .before .before .before .before .before .add-common .kept .1 .1 .1 .1 .0))
+loop-again c = (omega arith, step _ (c .before .before .before .before .before .before .before .before .before .loop .inv .1) (common-with-next _ _ _ _ (c .before .before .before .before .before .before .before .before .loop-test .taken)) (c .before .before .before .before .before .add-common .ensures) (c .before .made .given .1) (c .before .before .before .before .before .add-common .kept .1 .1 .1 .1 .0))
 
 same-length-2 : tie.Need-same-length-2 Inv-loop μ-loop
 same-length-2 c = search needs
