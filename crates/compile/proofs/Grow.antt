@@ -3,7 +3,7 @@
 --   lays-ends                    where a lay ends
 --   too-long                     a part that does not fit
 --   join-flat                    the join of the words of rows is the words of their join
---   join-holds, join-none        a join holds both its parts; without rows on the left it is the right
+--   join-length, join-none       how long a join is; without rows on the left it is the right
 --   put-none, put-full, put-all  words put before a table: none, too many, and all
 --   join-full, join-put          two tables one behind the other, joined: no room for the common rows, and the common rows put before them
 --   joins                        two tables that were laid one behind the other, replaced by their join

@@ -23,7 +23,7 @@ pub(crate) fn shape_fault(file: &[u32], at: usize, count: usize) -> Test
     requires { ⌜ at + nodeLength * count ≤ length (now file) ⌝ }
     ensures { λ r. ⌜ r ≡ shapeFault (records count nodeLength (drop at (now (file .entry)))) ⌝ }
 {
-    let mut waiting = [0u32; 17];
+    let mut waiting = [0u32; DEEPEST + 1];
     waiting[0] = 1;
     let mut height = 1;
     let mut from = at;
@@ -49,7 +49,7 @@ pub(crate) fn shape_fault(file: &[u32], at: usize, count: usize) -> Test
 }
 
 // Goes up past the nodes that have all their children.
-fn settled(waiting: [u32; 17], height: usize) -> usize
+fn settled(waiting: [u32; DEEPEST + 1], height: usize) -> usize
     requires { ⌜ height ≤ deepest + 1 ⌝ }
     ensures { λ r. ⌜ (stacked waiting r ≡ waitingNodes (stacked waiting height)) × (r ≤ height) × (0 < r → 0 < getD waiting (r - 1) 0) ⌝ }
 {

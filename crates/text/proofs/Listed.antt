@@ -1,5 +1,6 @@
 -- What the parts of the listing put is the listing's text, answer by answer. Assumes nothing.
 use Prim.Native.Nat.{ℕ, _*_, _/_, _≤_}
+use Prim.Native.Char.{code}
 use native.Mathlib.Omega.{arith}
 use mathlib.Core.Path.{_≡_, sym, ap, ap₂, subst, _∙_}
 use mathlib.Core.Bool.{true, false, and-eq-true-iff}
@@ -39,7 +40,7 @@ use Rattle.text.proofs.Putting.{_then_}
 
 -- a row's line
 pub line-put : (ws : List ℕ) (p : ℕ) {l l₁ l₂ l₃ : List ℕ} {a b c d : ℕ} (m : Match) (x : Action) → m ≡ matchOf ws → x ≡ rowAction ws
-    → Puts (number p 32) l a l₁ b → Puts (matchText m) l₁ b l₂ c → Puts (actionText x) l₂ c l₃ d → Puts (line p (rowOf ws)) l a l₃ d
+    → Puts (number p (code " ")) l a l₁ b → Puts (matchText m) l₁ b l₂ c → Puts (actionText x) l₂ c l₃ d → Puts (line p (rowOf ws)) l a l₃ d
 unfolding line
 line-put ws k {l₁ = l₁} {l₂} {l₃} {b = b} {c} {d} m x e f p q r = p then subst (λ y. Puts (matchText y) l₁ b l₂ c) e q then subst (λ y. Puts (actionText y) l₂ c l₃ d) f r
 

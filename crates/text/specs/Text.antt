@@ -30,7 +30,7 @@ ascii (c then s) = code c ∷ ascii s
 
 -- a digit below 10
 abbrev pub digit : ℕ → ℕ
-digit d = 48 + d
+digit d = code "0" + d
 
 -- every number of 64 bits has at most so many digits
 abbrev pub mostDigits : ℕ

@@ -12,8 +12,6 @@ use flow::SOURCE_PORT;
 // Every number of 64 bits has at most so many digits.
 const MOST_DIGITS: usize = 20;
 
-const ZERO: u8 = 48;
-
 // The values of a match and its prefixes, each with a space behind it.
 pub(crate) fn put_match(out: &mut [u8], at: usize, m: Match) -> usize
     ensures { λ r. ⌜ Puts (matchText m) (now (out .entry)) at (now (out .exit)) r ⌝ }
@@ -81,10 +79,10 @@ fn put_digits(out: &mut [u8], at: usize, n: usize, most: usize) -> usize
         return at;
     }
     if n < 10 {
-        return put_byte(out, at, ZERO + n as u8);
+        return put_byte(out, at, b'0' + n as u8);
     }
     let a = put_digits(out, at, n / 10, most - 1);
-    put_byte(out, a, ZERO + (n % 10) as u8)
+    put_byte(out, a, b'0' + (n % 10) as u8)
 }
 
 // Some text.
