@@ -19,11 +19,18 @@ const BUDGET: Duration = Duration::from_millis(1200);
 const FEWEST: usize = 7;
 const MOST: usize = 301;
 
+/// The word that asks for the comparison of all answers alone.
+const EQUAL: &str = "--equal";
+
 fn main() {
-    println!(
-        "{:<34} {:>12} {:>12} {:>6}",
-        "function and input", "Rattle ns", "Rust ns", "ratio"
-    );
+    if only_equal() {
+        println!("answers and buffers are compared, and nothing is timed");
+    } else {
+        println!(
+            "{:<34} {:>12} {:>12} {:>6}",
+            "function and input", "Rattle ns", "Rust ns", "ratio"
+        );
+    }
     let shapes = [(16, 1), (64, 16), (256, 64), (1024, 256), (1024, 1), (1024, 16)];
     for (atoms, nodes) in shapes {
         let file = inputs::file(&inputs::mixed(atoms), nodes);
@@ -61,6 +68,14 @@ fn main() {
             number(&size, table);
         }
     }
+    if only_equal() {
+        println!("all answers and buffers are equal");
+    }
+}
+
+/// Whether no line is to be timed.
+fn only_equal() -> bool {
+    std::env::args().any(|word| word == EQUAL)
 }
 
 fn read(size: &str, file: &[u32]) {
@@ -189,7 +204,7 @@ fn number(size: &str, table: &[u32]) {
 }
 
 /// Runs the two in turn, each time so many calls, with the buffers cleared before and outside the timing, and prints the medians for one call.
-/// Words given to the program must stand in the line's name.
+/// Words given to the program must stand in the line's name; none has the word that asks for no timing.
 fn line(name: &str, calls: u32, clear: impl Fn(), mut rattle: impl FnMut(), mut rust: impl FnMut()) {
     if std::env::args().skip(1).any(|word| !name.contains(&word)) {
         return;
