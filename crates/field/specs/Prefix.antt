@@ -1,12 +1,13 @@
 -- Prefixes of addresses of w bits. The prefix p, n is the set of the addresses that agree with p in their first n bits: length 0 is the
--- paper's star, length w its constant. A length beyond w counts as w. See docs/FORMAT.md, "Matches".
+-- paper's star, length w its constant. A length beyond w holds what length w holds; where two lengths are compared, as in covers, they are
+-- compared as they are, so that a length beyond w covers nothing shorter. See docs/FORMAT.md, "Matches".
 --
 --   leading w n x                the number that the first n of w bits of x make
 --   inPrefix w p n x             x lies in p, n
 --   zeroBeyond w p n             the bits of p beyond the length are 0
 --   rightPrefix w p n            an address of w bits, a length of at most w, and 0 beyond it
 --   prefixesMeet w p m q n       p, m and q, n have an address in common
---   covers w p m q n             p, m holds all of q, n
+--   covers w p m q n             p, m is no longer than q, n, and holds all of it
 --   longerAddress, longerLength  the longer of two prefixes
 use Prim.Native.Nat.{ℕ, _-_, _/_, _%_, _^_}
 use mathlib.Core.Bool.{Bool, cond, _&&_}

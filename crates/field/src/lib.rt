@@ -35,7 +35,7 @@ pub fn prefixes_meet(p: u32, m: u32, q: u32, n: u32) -> bool
     in_prefix(p, pick(m <= n, m, n), q)
 }
 
-// Whether every address of the prefix q of n bits lies in p of m bits.
+// Whether p of m bits is no longer than the prefix q of n bits, and every address of q lies in it. Lengths beyond 32 are compared as they are.
 pub fn prefix_covers(p: u32, m: u32, q: u32, n: u32) -> bool
     ensures { λ r. ⌜ r ≡ covers addressBits p m q n ⌝ }
 {
