@@ -68,7 +68,7 @@ held-children os xs [] = refl
 held-children os xs (r ∷ rs) = ap (λ l. childrenOf r ∷ l) (held-children os (drop (ownOf r) xs) rs)
 
 module _ (f : List ℕ) (a b c : ℕ) where
-  children-shape : shape (map (λ n. n .childCount) (fileNodes f (layout a b c))) (1 ∷ []) 0 ≡ shape (map childrenOf (nodeRecords f a b c)) (1 ∷ []) 0
+  pub children-shape : shape (map (λ n. n .childCount) (fileNodes f (layout a b c))) (1 ∷ []) 0 ≡ shape (map childrenOf (nodeRecords f a b c)) (1 ∷ []) 0
   children-shape = ap (λ ks. shape ks (1 ∷ []) 0) (held-children (operatorRecords f a) (atomsOf f (layout a b c)) (nodeRecords f a b c))
 
   -- what the stages before the laws say
