@@ -136,7 +136,7 @@ naming i (r ∷ ns) e =
     (λ h. let n : Naming i ns = naming i ns h in record { at = suc (n .at); within = omega (arith, n .within); names-it = n .names-it })
     (or-split (names i r) (named i ns) e)
 
-named-by : (i : ℕ) (ns : List (List ℕ)) (n : ℕ) → n < length ns → names i (getD ns n []) ≡ true → named i ns ≡ true
+pub named-by : (i : ℕ) (ns : List (List ℕ)) (n : ℕ) → n < length ns → names i (getD ns n []) ≡ true → named i ns ≡ true
 named-by i [] n h e = absurd (omega arith)
 named-by i (r ∷ ns) zero h e = rw e
 named-by i (r ∷ ns) (suc n) h e =
