@@ -7,7 +7,7 @@ use mathlib.Core.Bool.{Bool, true, false, _&&_, and-false}
 use mathlib.Core.List.{List, [], _∷_}
 use mathlib.Core.Logic.{_⊎_, inl, inr, ⊎-elim}
 use lib.Dec.{eqb, leb, ltb}
-use lib.ListN.{getD, length, drop, length-drop, length-map}
+use lib.ListN.{getD, length, drop, length-map}
 use borrow.Author.Tests.{lt-ltb, le-ltb, le-leb, lt-leb, eqb-true, eqb-false, ne-eqb}
 use Rattle.words.specs.Records.{records}
 use Rattle.words.proofs.Records.{length-records}
@@ -28,9 +28,9 @@ use Rattle.policy.specs.declared.Section.{Section}
 use Rattle.policy.specs.declared.Section.the-variants.{Operators, Atoms, Nodes}
 use Rattle.policy.specs.declared.Test.{Test}
 use Rattle.policy.specs.declared.Test.the-variants.{Passed, Failed}
-use Rattle.policy.proofs.Passed.{passed-each, record-long, fault-cells, fault-atom, node-fault, fault-node, passed-section, laws-kept, kept-laws}
+use Rattle.policy.proofs.Passed.{node-fault, fault-node, right-record, present-long, present-fault, good-passed, laws-kept, kept-laws}
 use Rattle.policy.proofs.Trees.{shape-one-tree, one-tree-shape}
-use Rattle.policy.proofs.Accepted.{children-shape, accepted-exactly}
+use Rattle.policy.proofs.Accepted.{children-shape, good-otherwise, accepted-exactly}
 use Rattle.policy.proofs.Refused.{refused-law, broken-refused}
 use Rattle.policy.proofs.Places.{shape-first, shape-places, has-place}
 use Rattle.logic.proofs.Tests.{by-test, by-le}
@@ -75,6 +75,7 @@ cells-first j at (c ∷ cs) (suc m) h b e =
     let first : rightCell j c ≡ true = rw z at (b 0 (omega arith)) in
     rw (first, y) (cells-first (suc j) (suc at) cs m (omega arith) (λ i l. rw (x i) at (b (suc i) (omega arith))) (rw (x m) at e))
 
+-- tests and stages, by their outcome
 not-true : (b : Bool) → ¬ (b ≡ true) → b ≡ false
 not-true true h = absurd (h refl)
 not-true false h = refl
@@ -91,13 +92,7 @@ passed-or-not : (t : Test) → (t ≡ Passed) ⊎ (¬ (t ≡ Passed))
 passed-or-not Passed = inl refl
 passed-or-not (Failed x) = inr (λ e. let z : _≡_ {A = ℕ} 0 1 = cc in omega arith)
 
--- a right record passes
-record-right : (s : Section) (r : List ℕ) → length r ≡ recordLength s → RightRecord s r → (p : ℕ) → recordFault s p r ≡ Passed
-record-right Operators r long h p = fault-cells p r (λ j g. h j (omega arith))
-record-right Atoms r long h p = fault-atom p r (h .0) (h .1)
-record-right (Nodes a) r long h p = fault-node a p r h
-
--- a wrong one is refused as is due
+-- a wrong record is refused as is due
 record-due : (at : ℕ) (r : List ℕ) {s : Section} {n p : ℕ} → RecordDue at r s n p → length r ≡ recordLength s → recordFault s at r ≡ Failed (plain n p)
 unfolding cellsFault atomFault nodeFault
 record-due at r (cell {j} w) long =
@@ -123,6 +118,7 @@ record-cases (Nodes a) at r = ⊎-elim
     (λ h. inr (_, _, node (λ n. h (fault-node a at r n))))
     (passed-or-not (nodeFault a at r))
 
+-- and not both
 not-right : (at : ℕ) (r : List ℕ) {s : Section} {n p : ℕ} → RecordDue at r s n p → ¬ RightRecord s r
 not-right at r (cell {j} w) h = w .wrong (h j (w .within))
 not-right at r (match e) h = let z : _≡_ {A = ℕ} 0 1 = cc (h .0) in omega arith
@@ -131,15 +127,6 @@ not-right at r (node n) h = n h
 
 -- SECTIONS
 module _ (f : List ℕ) (at : ℕ) (s : Section) where
-  long : (n : ℕ) → Present f at (least s) (most s) (recordLength s) n → (i : ℕ) → i < n → length (recordAt f at s n i) ≡ recordLength s
-  long n p i h = record-long n (recordLength s) (drop (at + 1) f) i (rw length-drop (omega (arith, p .whole))) h
-
-  -- a good section passes
-  good-passed : (n : ℕ) → Good f at s n → sectionFault f at s ≡ Passed
-  good-passed n g = passed-section f at s n (g .present)
-      (passed-each (recordFault s) (at + 1) (recordLength s) (records n (recordLength s) (drop (at + 1) f))
-      (λ i l p. let h : i < n = rw length-records at l in record-right s (recordAt f at s n i) (long n (g .present) i h) (g .right i h) p))
-
   -- what is due to a section is what it is refused with
   section-due : {n p : ℕ} → SectionDue f at s n p → sectionFault f at s ≡ Failed (plain n p)
   unfolding sectionFault countFault
@@ -150,12 +137,11 @@ module _ (f : List ℕ) (at : ℕ) (s : Section) where
       let n : ℕ = getD f at 0 in
       rw (lt-ltb at (length f) h, le-leb (least s) n l, le-leb n (most s) m, lt-leb (at + 1 + recordLength s * n) (length f) g)
   section-due (wrong-record {n} {i} {number} {place} p w d) =
-      rw (p .count, lt-ltb at (length f) (p .there), le-leb (least s) n (p .least), le-leb n (most s) (p .most))
-      (rw (le-leb (at + 1 + recordLength s * n) (length f) (p .whole))
-      (each-first (recordFault s) (at + 1) (recordLength s) (records n (recordLength s) (drop (at + 1) f)) i (plain number place)
+      present-fault f at s n p
+      ∙ each-first (recordFault s) (at + 1) (recordLength s) (records n (recordLength s) (drop (at + 1) f)) i (plain number place)
       (rw length-records (w .within))
-      (λ j l q. record-right s (recordAt f at s n j) (long n p j (omega (arith, w .within))) (w .before j l) q)
-      (record-due (at + 1 + recordLength s * i) (recordAt f at s n i) d (long n p i (w .within)))))
+      (λ j l q. right-record s q (recordAt f at s n j) (present-long f at s n p j (omega (arith, w .within))) (w .before j l))
+      (record-due (at + 1 + recordLength s * i) (recordAt f at s n i) d (present-long f at s n p i (w .within)))
 
   -- a section is good, or something is due to it
   section-cases : Good f at s (getD f at 0) ⊎ ((n : ℕ) × (p : ℕ) × SectionDue f at s n p)
@@ -232,23 +218,7 @@ Cases f = ((a : ℕ) × (b : ℕ) × (c : ℕ) × Otherwise f a b c) ⊎ ((n : �
 module _ (f : List ℕ) (a b c : ℕ) (g : GoodSections f a b c) where
   tree-cases : length f ≡ endOf a b c → OneTree (fileNodes f (layout a b c)) → Cases f
   tree-cases h t = by-test (eqb (ownAtoms (nodeRecords f a b c)) b)
-      (λ e. inl (
-        a,
-        b,
-        c,
-        record {
-          operators = g .operators .present;
-          atoms = g .atoms .present;
-          nodes = g .nodes .present;
-          cells = λ i j l m. g .operators .right i l j m;
-          matches = λ i l. g .atoms .right i l .0;
-          actions = λ i l. g .atoms .right i l .1;
-          right-nodes = g .nodes .right;
-          ends = h;
-          one-tree = t;
-          all-taken = eqb-true _ _ e;
-        },
-      ))
+      (λ e. inl (a, b, c, good-otherwise f a b c g h t (eqb-true _ _ e)))
       (λ e. inr (_, _, sum g h t (eqb-false _ _ e)))
 
   shape-cases : length f ≡ endOf a b c → Cases f
