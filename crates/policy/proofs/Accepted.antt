@@ -1,10 +1,10 @@
 -- A file is accepted exactly when it is well formed: every stage is passed exactly when its part of well-formedness holds. Assumes nothing.
-use Prim.Native.Nat.{ℕ, _+_, _*_, _≤_, _<_}
+use Prim.Native.Nat.{ℕ, _+_, _≤_}
 use native.Mathlib.Omega.{arith}
 use mathlib.Core.Path.{_≡_, refl, sym, ap, _∙_}
 use mathlib.Core.List.{List, [], _∷_, _++_, map, append-nil, append-assoc}
 use lib.Dec.{eqb, leb}
-use lib.ListN.{getD, length, take, drop, length-drop, length-map, take-append-drop, drop-of-length-le}
+use lib.ListN.{getD, length, take, drop, length-map, take-append-drop, drop-of-length-le}
 use lib.Seq.{drop-drop}
 use borrow.Author.Tests.{leb-true, le-leb, eqb-true, eq-eqb}
 use Rattle.words.proofs.Records.{length-records}
@@ -14,19 +14,20 @@ use Rattle.theory.specs.Tree.{bare, _▸_}
 use Rattle.row.specs.Row.{rowOf}
 use Rattle.flow.specs.declared.Match.{Match}
 use Rattle.action.specs.declared.Action.{Action}
-use Rattle.policy.specs.Numbers.{operatorLength, atomLength, nodeLength, extraWords, wrongSum}
-use Rattle.policy.specs.Read.{unless, recordFault, sectionFault, childrenOf, ownOf, shape, shapeFault, ownAtoms, sumFault, lawsFault, atomsAt, nodesAt, endOf, operatorRecords, atomRecords, nodeRecords, stages, layout, answer, readOf}
+use Rattle.policy.specs.Numbers.{operatorLength, atomLength, extraWords, wrongSum}
+use Rattle.policy.specs.Read.{unless, sectionFault, childrenOf, ownOf, shape, shapeFault, ownAtoms, sumFault, lawsFault, atomsAt, nodesAt, endOf, operatorRecords, atomRecords, nodeRecords, stages, layout, answer, readOf}
 use Rattle.policy.specs.File.{held, atomsOf, fileNodes, firstTree, treeOf, allAtoms}
 use Rattle.policy.specs.WellFormed.{OneTree, Otherwise, WellFormed}
+use Rattle.policy.specs.Order.{GoodSections}
 use Rattle.policy.specs.Theorems.{AcceptedExactly, AcceptedTree, AcceptedAtoms}
 use Rattle.policy.specs.declared.Layout.{Layout}
 use Rattle.policy.specs.declared.Reading.the-variants.{Accepted}
 use Rattle.policy.specs.declared.Section.the-variants.{Operators, Atoms, Nodes}
 use Rattle.policy.specs.declared.Test.{Test}
 use Rattle.policy.specs.declared.Test.the-variants.{Passed, Failed}
-use Rattle.policy.proofs.Records.{unless-true, Section-passed, section-passed}
+use Rattle.policy.proofs.Records.{unless-true}
 use Rattle.policy.proofs.Trees.{shape-one-tree, one-tree-shape, one-tree-planted}
-use Rattle.policy.proofs.Passed.{each-passed, passed-each, record-long, cells-fault, fault-cells, atom-fault, fault-atom, node-fault, fault-node, present, passed-section, laws-kept, kept-laws}
+use Rattle.policy.proofs.Passed.{good-passed, passed-good, laws-kept, kept-laws}
 
 -- the stages that are passed, each by its name
 pub record Stages (f : List ℕ) (a b c : ℕ) : Type 0 where
@@ -68,56 +69,49 @@ held-children os xs [] = refl
 held-children os xs (r ∷ rs) = ap (λ l. childrenOf r ∷ l) (held-children os (drop (ownOf r) xs) rs)
 
 module _ (f : List ℕ) (a b c : ℕ) where
-  children-shape : shape (map (λ n. n .childCount) (fileNodes f (layout a b c))) (1 ∷ []) 0 ≡ shape (map childrenOf (nodeRecords f a b c)) (1 ∷ []) 0
+  pub children-shape : shape (map (λ n. n .childCount) (fileNodes f (layout a b c))) (1 ∷ []) 0 ≡ shape (map childrenOf (nodeRecords f a b c)) (1 ∷ []) 0
   children-shape = ap (λ ks. shape ks (1 ∷ []) 0) (held-children (operatorRecords f a) (atomsOf f (layout a b c)) (nodeRecords f a b c))
+
+  -- a file well formed but for the laws is one of good sections that ends with them, and whose nodes are one tree and take all atoms
+  pub good-otherwise : GoodSections f a b c → length f ≡ endOf a b c → OneTree (fileNodes f (layout a b c)) → ownAtoms (nodeRecords f a b c) ≡ b → Otherwise f a b c
+  good-otherwise g ends tree sum = record {
+    operators = g .operators .present;
+    atoms = g .atoms .present;
+    nodes = g .nodes .present;
+    cells = λ i j l m. g .operators .right i l j m;
+    matches = λ i l. g .atoms .right i l .0;
+    actions = λ i l. g .atoms .right i l .1;
+    right-nodes = g .nodes .right;
+    ends = ends;
+    one-tree = tree;
+    all-taken = sum;
+  }
 
   -- what the stages before the laws say
   pub otherwise-of : a ≡ getD f 0 0 → b ≡ getD f (atomsAt a) 0 → c ≡ getD f (nodesAt a b) 0 → Stages f a b c → Otherwise f a b c
   unfolding shapeFault sumFault
   otherwise-of p q w s =
-      let so : Section-passed f 0 Operators = section-passed f 0 Operators (s .operators) in
-      let sa : Section-passed f (atomsAt a) Atoms = section-passed f (atomsAt a) Atoms (s .atoms) in
-      let sn : Section-passed f (nodesAt a b) (Nodes a) = section-passed f (nodesAt a b) (Nodes a) (s .nodes) in
-      let whole : nodesAt a b + 1 + nodeLength * c ≤ length f = rw w (sn .whole) in
+      let g : GoodSections f a b c = record {
+        operators = passed-good f 0 Operators a (sym p) (s .operators);
+        atoms = passed-good f (atomsAt a) Atoms b (sym q) (s .atoms);
+        nodes = passed-good f (nodesAt a b) (Nodes a) c (sym w) (s .nodes);
+      } in
       let extra : length f ≤ endOf a b c = leb-true _ _ (unless-true (leb (length f) (endOf a b c)) extraWords (endOf a b c) (s .extra)) in
-      let long : (i : ℕ) → i < a → length (getD (operatorRecords f a) i []) ≡ operatorLength =
-      λ i l. record-long a operatorLength (drop 1 f) i (rw length-drop (omega arith)) l in
-      record {
-        operators = rw p (present f 0 Operators so);
-        atoms = rw q (present f (atomsAt a) Atoms sa);
-        nodes = rw w (present f (nodesAt a b) (Nodes a) sn);
-        cells = λ i j l m.
-            cells-fault _ (getD (operatorRecords f a) i [])
-            (each-passed (recordFault Operators) 1 operatorLength (operatorRecords f a) (rw p (so .all)) i (rw length-records l)) j (rw (long i l) m);
-        matches = λ i l. atom-fault _ (getD (atomRecords f a b) i []) (each-passed (recordFault Atoms) (atomsAt a + 1) atomLength (atomRecords f a b) (rw q (sa .all)) i (rw length-records l)) .0;
-        actions = λ i l. atom-fault _ (getD (atomRecords f a b) i []) (each-passed (recordFault Atoms) (atomsAt a + 1) atomLength (atomRecords f a b) (rw q (sa .all)) i (rw length-records l)) .1;
-        right-nodes = λ i l. node-fault a _ (getD (nodeRecords f a b c) i []) (each-passed (recordFault (Nodes a)) (nodesAt a b + 1) nodeLength (nodeRecords f a b c) (rw w (sn .all)) i (rw length-records l));
-        ends = omega arith;
-        one-tree = shape-one-tree (fileNodes f (layout a b c)) (children-shape ∙ s .tree);
-        all-taken = eqb-true _ _ (unless-true (eqb (ownAtoms (nodeRecords f a b c)) b) wrongSum 0 (s .sum));
-      }
+      good-otherwise g (omega (arith, g .nodes .present .whole))
+      (shape-one-tree (fileNodes f (layout a b c)) (children-shape ∙ s .tree))
+      (eqb-true _ _ (unless-true (eqb (ownAtoms (nodeRecords f a b c)) b) wrongSum 0 (s .sum)))
 
   -- and the other way round
   pub of-otherwise : Otherwise f a b c → Stages f a b c
   unfolding shapeFault sumFault
-  of-otherwise o =
-      let whole : nodesAt a b + 1 + nodeLength * c ≤ length f = o .nodes .whole in
-      let long : (i : ℕ) → i < a → length (getD (operatorRecords f a) i []) ≡ operatorLength =
-      λ i l. record-long a operatorLength (drop 1 f) i (rw length-drop (omega arith)) l in
-      record {
-        operators = passed-section f 0 Operators a (o .operators)
-            (passed-each (recordFault Operators) 1 operatorLength (operatorRecords f a)
-            (λ i l p. let h : i < a = rw length-records at l in fault-cells p (getD (operatorRecords f a) i []) (λ j m. o .cells i j h (rw (long i h) at m))));
-        atoms = passed-section f (atomsAt a) Atoms b (o .atoms)
-            (passed-each (recordFault Atoms) (atomsAt a + 1) atomLength (atomRecords f a b)
-            (λ i l p. let h : i < b = rw length-records at l in fault-atom p (getD (atomRecords f a b) i []) (o .matches i h) (o .actions i h)));
-        nodes = passed-section f (nodesAt a b) (Nodes a) c (o .nodes)
-            (passed-each (recordFault (Nodes a)) (nodesAt a b + 1) nodeLength (nodeRecords f a b c)
-            (λ i l p. fault-node a p (getD (nodeRecords f a b c) i []) (o .right-nodes i (rw length-records at l))));
-        extra = rw (le-leb (length f) (endOf a b c) (omega (arith, o .ends)));
-        tree = sym children-shape ∙ one-tree-shape (fileNodes f (layout a b c)) (o .one-tree);
-        sum = rw (eq-eqb (ownAtoms (nodeRecords f a b c)) b (o .all-taken));
-      }
+  of-otherwise o = record {
+    operators = good-passed f 0 Operators a (record { present = o .operators; right = λ i l j m. o .cells i j l m });
+    atoms = good-passed f (atomsAt a) Atoms b (record { present = o .atoms; right = λ i l. (o .matches i l, o .actions i l) });
+    nodes = good-passed f (nodesAt a b) (Nodes a) c (record { present = o .nodes; right = o .right-nodes });
+    extra = rw (le-leb (length f) (endOf a b c) (omega (arith, o .ends)));
+    tree = sym children-shape ∙ one-tree-shape (fileNodes f (layout a b c)) (o .one-tree);
+    sum = rw (eq-eqb (ownAtoms (nodeRecords f a b c)) b (o .all-taken));
+  }
 
 -- ACCEPTED EXACTLY WHEN WELL FORMED
 pub accepted-exactly : AcceptedExactly

@@ -1,7 +1,7 @@
 -- A stage is passed exactly when what it tests holds: of every record, of every cell, of every operator that is named. Assumes nothing.
 use Prim.Native.Nat.{ℕ, zero, suc, _+_, _*_, _≤_, _<_}
 use native.Mathlib.Omega.{arith}
-use mathlib.Core.Path.{_≡_, refl}
+use mathlib.Core.Path.{_≡_, refl, _∙_}
 use mathlib.Core.Bool.{Bool, true, _&&_, and-eq-true-iff}
 use mathlib.Core.List.{List, [], _∷_}
 use mathlib.Core.Logic.{⊎-elim}
@@ -10,6 +10,7 @@ use lib.ListN.{getD, length, drop, length-drop}
 use lib.Seq.{length-take-le}
 use borrow.Author.Tests.{eqb-true, eq-eqb, ltb-true, lt-ltb, leb-true, le-leb}
 use Rattle.words.specs.Records.{records}
+use Rattle.words.proofs.Records.{length-records}
 use Rattle.row.specs.Row.{rightRowMatch, rightRowAction}
 use Rattle.action.specs.Operator.{rightCell, RightCodes}
 use Rattle.action.specs.Laws.{lawSearch}
@@ -20,10 +21,12 @@ use Rattle.policy.specs.Numbers.{operatorLength, mostAtoms, mostChildren
 use Rattle.policy.specs.Read.{unless, _else_, each, cellsFrom, cellsFault, atomFault, nodeFault, recordLength, least, most, countFault, recordFault, sectionFault, innerOf, parentOf, siblingOf, ownOf, childrenOf, names, named, broken, cellsOf, operatorFault, lawsFrom}
 use Rattle.policy.specs.File.{operatorAt}
 use Rattle.policy.specs.WellFormed.{Present, RightNode, KeepsLaws, LawsKept}
+use Rattle.policy.specs.Order.{RightRecord, recordAt, Good}
 use Rattle.policy.specs.declared.Section.{Section}
+use Rattle.policy.specs.declared.Section.the-variants.{Operators, Atoms, Nodes}
 use Rattle.policy.specs.declared.Test.{Test}
 use Rattle.policy.specs.declared.Test.the-variants.{Passed}
-use Rattle.policy.proofs.Records.{unless-true, else-both, Section-passed}
+use Rattle.policy.proofs.Records.{unless-true, else-both, Section-passed, section-passed}
 use Rattle.logic.proofs.Tests.{by-test, or-split}
 
 -- both of two tests pass
@@ -31,7 +34,7 @@ both-else : (x y : Test) → x ≡ Passed → y ≡ Passed → _else_ x y ≡ Pa
 both-else x y p q = rw (p, q)
 
 -- every record of some passes
-pub each-passed : (t : ℕ → List ℕ → Test) (at k : ℕ) (rs : List (List ℕ)) → each t at k rs ≡ Passed → (i : ℕ) → i < length rs → t (at + k * i) (getD rs i []) ≡ Passed
+each-passed : (t : ℕ → List ℕ → Test) (at k : ℕ) (rs : List (List ℕ)) → each t at k rs ≡ Passed → (i : ℕ) → i < length rs → t (at + k * i) (getD rs i []) ≡ Passed
 each-passed t at k [] e i h = absurd (omega arith)
 each-passed t at k (r ∷ rs) e zero h =
     let z : at + k * 0 ≡ at = omega arith in
@@ -41,13 +44,13 @@ each-passed t at k (r ∷ rs) e (suc i) h =
     let z : at + k * suc i ≡ at + k + k * i = omega arith in
     rw z (each-passed t (at + k) k rs (else-both (t at r) (each t (at + k) k rs) e .1) i (omega arith))
 
-pub passed-each : (t : ℕ → List ℕ → Test) (at k : ℕ) (rs : List (List ℕ)) → ((i : ℕ) → i < length rs → (p : ℕ) → t p (getD rs i []) ≡ Passed) → each t at k rs ≡ Passed
+passed-each : (t : ℕ → List ℕ → Test) (at k : ℕ) (rs : List (List ℕ)) → ((i : ℕ) → i < length rs → (p : ℕ) → t p (getD rs i []) ≡ Passed) → each t at k rs ≡ Passed
 passed-each t at k [] h = refl
 passed-each t at k (r ∷ rs) h =
     both-else (t at r) (each t (at + k) k rs) (h 0 (omega arith) at) (passed-each t (at + k) k rs (λ i l. h (suc i) (omega arith)))
 
 -- a record of a section that is there has its whole length
-pub record-long : (n k : ℕ) (ws : List ℕ) (i : ℕ) → k * n ≤ length ws → i < n → length (getD (records n k ws) i []) ≡ k
+record-long : (n k : ℕ) (ws : List ℕ) (i : ℕ) → k * n ≤ length ws → i < n → length (getD (records n k ws) i []) ≡ k
 record-long zero k ws i h l = absurd (omega arith)
 record-long (suc n) k ws zero h l =
     let g : k * suc n ≡ k + k * n = omega arith in
@@ -74,22 +77,22 @@ right-cells j at (c ∷ cs) h =
     rw first
     (right-cells (suc j) (suc at) cs (λ i l. let y : j + suc i ≡ suc j + i = omega arith in rw y at (h (suc i) (omega arith))))
 
-pub cells-fault : (at : ℕ) (cs : List ℕ) → cellsFault at cs ≡ Passed → (j : ℕ) → j < length cs → rightCell j (getD cs j 0) ≡ true
+cells-fault : (at : ℕ) (cs : List ℕ) → cellsFault at cs ≡ Passed → (j : ℕ) → j < length cs → rightCell j (getD cs j 0) ≡ true
 unfolding cellsFault
 cells-fault at cs e j h = let z : 0 + j ≡ j = omega arith in rw z at (cells-right 0 at cs e j h)
 
-pub fault-cells : (at : ℕ) (cs : List ℕ) → ((j : ℕ) → j < length cs → rightCell j (getD cs j 0) ≡ true) → cellsFault at cs ≡ Passed
+fault-cells : (at : ℕ) (cs : List ℕ) → ((j : ℕ) → j < length cs → rightCell j (getD cs j 0) ≡ true) → cellsFault at cs ≡ Passed
 unfolding cellsFault
 fault-cells at cs h = right-cells 0 at cs (λ i l. let z : 0 + i ≡ i = omega arith in rw z (h i l))
 
 -- an atom's match and action
-pub atom-fault : (at : ℕ) (r : List ℕ) → atomFault at r ≡ Passed → (rightRowMatch r ≡ true) × (rightRowAction r ≡ true)
+atom-fault : (at : ℕ) (r : List ℕ) → atomFault at r ≡ Passed → (rightRowMatch r ≡ true) × (rightRowAction r ≡ true)
 unfolding atomFault
 atom-fault at r e =
     let h = else-both (unless (rightRowMatch r) wrongMatch at) (unless (rightRowAction r) wrongAction at) e in
     (unless-true (rightRowMatch r) wrongMatch at (h .0), unless-true (rightRowAction r) wrongAction at (h .1))
 
-pub fault-atom : (at : ℕ) (r : List ℕ) → rightRowMatch r ≡ true → rightRowAction r ≡ true → atomFault at r ≡ Passed
+fault-atom : (at : ℕ) (r : List ℕ) → rightRowMatch r ≡ true → rightRowAction r ≡ true → atomFault at r ≡ Passed
 unfolding atomFault
 fault-atom at r p q = rw (p, q)
 
@@ -112,15 +115,48 @@ unfolding nodeFault
 fault-node a at r n =
     rw (lt-ltb (innerOf r) a (n .inner), lt-ltb (parentOf r) a (n .parent), lt-ltb (siblingOf r) a (n .sibling), le-leb (ownOf r) mostAtoms (n .own), le-leb (childrenOf r) mostChildren (n .children))
 
--- a section that passes is present, and the other way round where its records pass
-pub present : (f : List ℕ) (at : ℕ) (s : Section) → Section-passed f at s → Present f at (least s) (most s) (recordLength s) (getD f at 0)
-present f at s p = record { there = p .count .there; count = refl; least = p .count .few; most = p .count .many; whole = p .whole }
+-- a record of a section passes exactly when it is right
+record-right : (s : Section) (at : ℕ) (r : List ℕ) → length r ≡ recordLength s → recordFault s at r ≡ Passed → RightRecord s r
+record-right Operators at r long e = λ j h. cells-fault at r e j (omega arith)
+record-right Atoms at r long e = atom-fault at r e
+record-right (Nodes a) at r long e = node-fault a at r e
 
-pub passed-section : (f : List ℕ) (at : ℕ) (s : Section) (n : ℕ) → Present f at (least s) (most s) (recordLength s) n
-    → each (recordFault s) (at + 1) (recordLength s) (records n (recordLength s) (drop (at + 1) f)) ≡ Passed → sectionFault f at s ≡ Passed
-unfolding sectionFault countFault
-passed-section f at s n p e =
-    rw (p .count, lt-ltb at (length f) (p .there), le-leb (least s) n (p .least), le-leb n (most s) (p .most), le-leb (at + 1 + recordLength s * n) (length f) (p .whole)) e
+pub right-record : (s : Section) (at : ℕ) (r : List ℕ) → length r ≡ recordLength s → RightRecord s r → recordFault s at r ≡ Passed
+right-record Operators at r long h = fault-cells at r (λ j g. h j (omega arith))
+right-record Atoms at r long h = fault-atom at r (h .0) (h .1)
+right-record (Nodes a) at r long h = fault-node a at r h
+
+module _ (f : List ℕ) (at : ℕ) (s : Section) (n : ℕ) where
+  -- a record of a section that is present has its whole length
+  pub present-long : Present f at (least s) (most s) (recordLength s) n → (i : ℕ) → i < n → length (recordAt f at s n i) ≡ recordLength s
+  present-long p i h = record-long n (recordLength s) (drop (at + 1) f) i (rw length-drop (omega (arith, p .whole))) h
+
+  -- what a present section comes to: the first refusal of its records
+  pub present-fault : Present f at (least s) (most s) (recordLength s) n
+      → sectionFault f at s ≡ each (recordFault s) (at + 1) (recordLength s) (records n (recordLength s) (drop (at + 1) f))
+  unfolding sectionFault countFault
+  present-fault p =
+      rw (p .count, lt-ltb at (length f) (p .there), le-leb (least s) n (p .least), le-leb n (most s) (p .most))
+      (rw (le-leb (at + 1 + recordLength s * n) (length f) (p .whole)))
+
+  -- A SECTION passes exactly when it is good
+  pub good-passed : Good f at s n → sectionFault f at s ≡ Passed
+  good-passed g =
+      present-fault (g .present)
+      ∙ passed-each (recordFault s) (at + 1) (recordLength s) (records n (recordLength s) (drop (at + 1) f))
+      (λ i l p. let h : i < n = rw length-records at l in right-record s p (recordAt f at s n i) (present-long (g .present) i h) (g .right i h))
+
+  pub passed-good : getD f at 0 ≡ n → sectionFault f at s ≡ Passed → Good f at s n
+  passed-good c e =
+      let w : Section-passed f at s = section-passed f at s e in
+      let whole : at + 1 + recordLength s * n ≤ length f = rw c at (w .whole) in
+      let p : Present f at (least s) (most s) (recordLength s) n =
+      record { there = w .count .there; count = c; least = omega (arith, w .count .few); most = omega (arith, w .count .many); whole = whole } in
+      record {
+        present = p;
+        right = λ i h. record-right s _ (recordAt f at s n i) (present-long p i h)
+            (each-passed (recordFault s) (at + 1) (recordLength s) (records n (recordLength s) (drop (at + 1) f)) (rw c at (w .all)) i (rw length-records h));
+      }
 
 -- a node that names an operator
 record Naming (i : ℕ) (ns : List (List ℕ)) : Type 0 where
@@ -136,7 +172,7 @@ naming i (r ∷ ns) e =
     (λ h. let n : Naming i ns = naming i ns h in record { at = suc (n .at); within = omega (arith, n .within); names-it = n .names-it })
     (or-split (names i r) (named i ns) e)
 
-named-by : (i : ℕ) (ns : List (List ℕ)) (n : ℕ) → n < length ns → names i (getD ns n []) ≡ true → named i ns ≡ true
+pub named-by : (i : ℕ) (ns : List (List ℕ)) (n : ℕ) → n < length ns → names i (getD ns n []) ≡ true → named i ns ≡ true
 named-by i [] n h e = absurd (omega arith)
 named-by i (r ∷ ns) zero h e = rw e
 named-by i (r ∷ ns) (suc n) h e =

@@ -4,4 +4,5 @@ pub mod Steps
 pub mod File
 pub mod WellFormed
 pub mod Theorems
+pub mod Order
 pub mod Examples

@@ -26,6 +26,7 @@ use Rattle.policy.specs.declared.Reading.{Reading}
 use Rattle.policy.specs.declared.Reading.the-variants as reading
 use Rattle.policy.specs.declared.Refusal.{Refusal}
 use Rattle.policy.proofs.Refused.{refused-plain}
+use Rattle.policy.proofs.Order.{file-order}
 use Rattle.tree.proofs.Eval.{action-eval, action-refused, action-packet}
 use Rattle.table.specs.Table.{wrongTable, wrongRow, rowCount, rightLength, checkFrom, checkRows, checkOf}
 use Rattle.table.specs.Scan.{scanOf}
@@ -158,6 +159,7 @@ short n p c (inr h) = rw (lt-leb n c h) (and-false (leb n p))
 order : Order
 unfolding answerOf numberOf checkOf
 order = record {
+  file = file-order;
   action-file = action-refused;
   action-packet = action-packet;
   compile-file = λ f t s r e. rw e refl;

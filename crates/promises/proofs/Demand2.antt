@@ -2,13 +2,13 @@
 use Prim.Native.Nat.{ℕ, suc, _+_, _<_}
 use native.Mathlib.Omega.{arith}
 use mathlib.Core.Path.{_≡_, refl, sym, ap, subst, _∙_}
-use mathlib.Core.Bool.{true, _||_}
+use mathlib.Core.Bool.{true, _||_, or-true}
 use mathlib.Core.List.{List, [], _∷_}
 use mathlib.Core.Logic.{_⊎_, inl, inr, ⊎-elim}
 use lib.Dec.{eqb}
 use lib.ListN.{length, getD, drop}
-use borrow.Author.Tests.{eqb-true, le-ltb}
-use Rattle.logic.proofs.Tests.{or-split}
+use borrow.Author.Tests.{eqb-true, eq-eqb, le-ltb}
+use Rattle.logic.proofs.Tests.{by-le, or-split}
 use Rattle.words.proofs.Records.{length-records}
 use Rattle.action.specs.Laws.{Shows}
 use Rattle.action.specs.declared.Action.{Action}
@@ -22,13 +22,14 @@ use Rattle.policy.specs.WellFormed.{Otherwise, KeepsLaws, LawsKept}
 use Rattle.policy.specs.Theorems.{BrokenLaw}
 use Rattle.policy.specs.declared.Reading.the-variants.{Refused}
 use Rattle.policy.specs.declared.Refusal.{Refusal}
+use Rattle.policy.proofs.Passed.{named-by}
 use Rattle.policy.proofs.Accepted.{accepted-exactly, accepted-tree, accepted-atoms}
 use Rattle.policy.proofs.Refused.{refused-law, broken-refused}
 use Rattle.tree.proofs.Eval.{action-eval}
 use Rattle.compile.specs.Compile.{answerOf}
 use Rattle.compile.proofs.Scanned.{table-scans, room-exactly}
 use Rattle.promises.proofs.Rates.{accepted-fine}
-use Rattle.promises.specs.Demands.{BreaksCommutativity, BreaksAssociativity, SomeBroken, Demand2}
+use Rattle.promises.specs.Demands.{BreaksCommutativity, BreaksAssociativity, SomeBroken, Shown, Demand2}
 
 -- actions of the list that break a law are actions with allowed rates that do
 breaks : (o : List ℕ) (l : Law) (a b c : Action) → Shows o l a b c → BreaksCommutativity o ⊎ BreaksAssociativity o
@@ -69,24 +70,37 @@ same-counts f a b c a′ b′ c′ o o′ =
     let q : b′ ≡ b = sym (o′ .atoms .count) ∙ ap (λ x. getD f (atomsAt x) 0) p ∙ o .atoms .count in
     (p, q, sym (o′ .nodes .count) ∙ ap (λ x. getD f (nodesAt x b′) 0) p ∙ ap (λ x. getD f (nodesAt a x) 0) q ∙ o .nodes .count)
 
--- what a refusal for an operator says, at the counts of the file
-module _ (f : List ℕ) (a b c : ℕ) (o : Otherwise f a b c) (r : Refusal) (e : readOf f ≡ Refused r) (n : r .number ≡ lawBroken) where
-  told : (r .place < a) × (named (r .place) (nodeRecords f a b c) ≡ true) × Shows (operatorAt (operatorRecords f a) (r .place)) (r .law) (r .first) (r .second) (r .third)
-  told =
-      let w : BrokenLaw f r = refused-law f r e n in
-      let s = same-counts f a b c (w .operators) (w .atoms) (w .nodes) o (w .otherwise) in
-      (omega (arith, w .within, s .0), rw (s .0, s .1, s .2) at (w .used), rw (s .0) at (w .shows))
+-- a node's inner or sibling operator is named
+used : (i : ℕ) (ns : List (List ℕ)) (n : ℕ) → n < length ns → (i ≡ innerOf (getD ns n [])) ⊎ (i ≡ siblingOf (getD ns n [])) → named i ns ≡ true
+used i ns n h (inl e) = named-by i ns n h (rw (eq-eqb (innerOf (getD ns n [])) i (sym e)))
+used i ns n h (inr e) = named-by i ns n h (rw (eq-eqb (siblingOf (getD ns n [])) i (sym e)) (or-true (eqb (innerOf (getD ns n [])) i)))
 
-  some-broken : SomeBroken f a b c
-  some-broken =
-      let g : Naming (r .place) (nodeRecords f a b c) = naming (r .place) (nodeRecords f a b c) (told .1) in
-      record {
+-- what a refusal for an operator says, at the counts of the file
+shown : (f : List ℕ) (a b c : ℕ) (r : Refusal) → Otherwise f a b c → readOf f ≡ Refused r → r .number ≡ lawBroken → Shown f a b c r
+shown f a b c r o e n =
+    let w : BrokenLaw f r = refused-law f r e n in
+    let s = same-counts f a b c (w .operators) (w .atoms) (w .nodes) o (w .otherwise) in
+    let os : List (List ℕ) = operatorRecords f a in
+    let ns : List (List ℕ) = nodeRecords f a b c in
+    let many : length ns ≡ c = length-records c nodeLength (drop (nodesAt a b + 1) f) in
+    let shows : Shows (operatorAt os (r .place)) (r .law) (r .first) (r .second) (r .third) = rw (s .0) at (w .shows) in
+    let g : Naming (r .place) ns = naming (r .place) ns (rw (s .0, s .1, s .2) at (w .used)) in
+    let kept : (i : ℕ) → i < r .place → named i ns ≡ true → KeepsLaws (operatorAt os i) = rw (s .0, s .1, s .2) at (w .first-such) in
+    record {
+      within = omega (arith, w .within, s .0);
+      some = record {
         node = g .node;
-        within = omega (arith, g .within, length-records c nodeLength (drop (nodesAt a b + 1) f));
+        within = omega (arith, g .within);
         operator = r .place;
         named = g .names;
-        breaks = breaks (operatorAt (operatorRecords f a) (r .place)) (r .law) (r .first) (r .second) (r .third) (told .2);
-      }
+        breaks = breaks (operatorAt os (r .place)) (r .law) (r .first) (r .second) (r .third) shows;
+      };
+      named = refl;
+      first = λ x. by-le (r .place) (x .operator)
+          (λ l. l)
+          (λ l. absurd (not-kept (operatorAt os (x .operator)) (x .breaks) (kept (x .operator) l (used (x .operator) ns (x .node) (omega (arith, x .within)) (x .named)))));
+      shows = shows;
+    }
 
 -- a node's operator that breaks a law: the laws are not kept
 not-laws : (f : List ℕ) (a b c : ℕ) → SomeBroken f a b c → ¬ LawsKept (operatorRecords f a) (nodeRecords f a b c)
@@ -105,9 +119,9 @@ demand-2 = record {
   scan = table-scans;
   compiles = λ f t s l e enough fits. rw (e, le-ltb _ _ enough, le-ltb _ _ fits, accepted-fine f l e) refl;
   law = λ f a b c o. (
-    λ w. some-broken f a b c o (w .refusal) (w .refused) (w .number),
+    λ w. shown f a b c (w .refusal) o (w .refused) (w .number) .some,
     λ w. let x = broken-refused f a b c o (not-laws f a b c w) in record { refusal = x .0; refused = x .1; number = x .2 },
   );
-  shown = λ f a b c r o e n. let t = told f a b c o r e n in (t .0, t .2);
+  shown = shown;
   for-room = room-exactly;
 }

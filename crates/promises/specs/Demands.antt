@@ -28,6 +28,7 @@ use Rattle.policy.specs.Numbers.{lawBroken}
 use Rattle.policy.specs.Read.{plain, readOf, innerOf, siblingOf, operatorRecords, nodeRecords}
 use Rattle.policy.specs.File.{operatorAt, atomsOf, treeOf, allAtoms}
 use Rattle.policy.specs.WellFormed.{Otherwise, WellFormed}
+use Rattle.policy.specs.Order.{FileOrder}
 use Rattle.policy.specs.declared.Layout.{Layout}
 use Rattle.policy.specs.declared.Reading.the-variants as reading
 use Rattle.policy.specs.declared.Refusal.{Refusal}
@@ -60,8 +61,10 @@ pub record EveryInput : Type 0 where
   pub scan : (ws p : List ℕ) → Fixed (λ n. (n ≡ 11) ⊎ between 15 16 n) (scanTold (scanOf ws p))
   pub number : (ws : List ℕ) (p c : ℕ) → Fixed (between 15 17) (numberTold (numberOf ws p c))
 
--- "The refusals, their order": which comes first where several could be given. Those of a file are in the order of the stages by which readOf is defined.
+-- "The refusals, their order": which comes first where several could be given.
 pub record Order : Type 0 where
+  -- a file: section by section, then 7, 8, 9 and last 10, each with its place, as crates/policy/specs/Order.antt says
+  pub file : FileOrder
   -- the tree's action: 1..10, 11
   pub action-file : (f p : List ℕ) (r : Refusal) → readOf f ≡ reading.Refused r → actionOf f p ≡ evaluated.Refused r
   pub action-packet : (f p : List ℕ) (l : Layout) → readOf f ≡ reading.Accepted l → rightPacketWords p ≡ false → actionOf f p ≡ evaluated.Refused (plain wrongPacket 0)
@@ -134,6 +137,15 @@ pub record LawRefused (f : List ℕ) : Type 0 where
   pub refused : readOf f ≡ reading.Refused refusal
   pub number : refusal .number ≡ lawBroken
 
+-- a refusal names by its place the first operator that some node has as inner or sibling one and that breaks a law, and
+-- its actions break the law that it names
+pub record Shown (f : List ℕ) (a b c : ℕ) (r : Refusal) : Type 0 where
+  pub within : r .place < a
+  pub some : SomeBroken f a b c
+  pub named : some .operator ≡ r .place
+  pub first : (other : SomeBroken f a b c) → r .place ≤ other .operator
+  pub shows : Shows (operatorAt (operatorRecords f a) (r .place)) (r .law) (r .first) (r .second) (r .third)
+
 pub record Demand2 : Type 0 where
   -- the accepted policies are the well-formed files, whatever order they are read in
   pub accepted : (f : List ℕ) (l : Layout) → (readOf f ≡ reading.Accepted l) ↔ WellFormed f l
@@ -149,9 +161,9 @@ pub record Demand2 : Type 0 where
       → answerOf f t s ≡ compiled.Rows (length (compiledRows f l))
   -- "A file otherwise good is refused for an operator exactly when some node's inner or sibling one breaks commutativity or associativity,"
   pub law : (f : List ℕ) (a b c : ℕ) → Otherwise f a b c → LawRefused f ↔ SomeBroken f a b c
-  -- "with actions that show it": the place names the operator, and the actions break the law that is named
-  pub shown : (f : List ℕ) (a b c : ℕ) (r : Refusal) → Otherwise f a b c → readOf f ≡ reading.Refused r → r .number ≡ lawBroken
-      → (r .place < a) × Shows (operatorAt (operatorRecords f a) (r .place)) (r .law) (r .first) (r .second) (r .third)
+  -- "with actions that show it"
+  pub shown : (f : List ℕ) (a b c : ℕ) (r : Refusal) → Otherwise f a b c → readOf f ≡ reading.Refused r
+      → r .number ≡ lawBroken → Shown f a b c r
   -- "Given its scratch, a table is refused for room exactly when its defined rows outnumber the room."
   pub for-room : (f t s : List ℕ) (l : Layout) → readOf f ≡ reading.Accepted l → rowLength * room (length t) ≤ length s
       → (answerOf f t s ≡ compiled.Refused (plain noRoom 0)) ↔ (room (length t) < length (compiledRows f l))
