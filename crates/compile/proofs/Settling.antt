@@ -32,19 +32,18 @@ use Rattle.policy.proofs.Accepted.{accepted-exactly, accepted-tree}
 use Rattle.nodes.specs.Walk.{listOf, nodeIndex, Reached}
 use Rattle.nodes.specs.declared.Spot.{Spot}
 use Rattle.nodes.proofs.Places.{reached-start}
-use Rattle.compile.specs.Lays.{Lays}
-use Rattle.compile.specs.Tables.{wordsOf}
-use Rattle.compile.specs.Build.{grown, firstRows, treeWords, TreeBuilt, Within}
+use Rattle.common.specs.Lays.{Lays}
+use Rattle.common.specs.Tables.{wordsOf}
+use Rattle.build.specs.Build.{grown, firstRows, treeWords, TreeBuilt, Within}
 use Rattle.compile.specs.Compile.{noRoom, noScratch, wrongRate, room, compiledRows, fine, allRight, fineWords, zeros, answerOf, tableAfter, scratchAfter, Compiles, AcceptedCompiles, Settled, Settles}
 use Rattle.compile.specs.declared.Compiled.{Compiled}
 use Rattle.compile.specs.declared.Compiled.the-variants.{Rows, Refused}
-use Rattle.compile.specs.declared.build.Built.{Built}
-use Rattle.compile.specs.declared.build.Built.the-variants as built
-use Rattle.compile.specs.declared.build.Part.{Part}
-use Rattle.compile.specs.declared.rows.Made.the-variants.{Words, Full}
-use Rattle.compile.proofs.Common.{some-words}
-use Rattle.compile.proofs.Going.{Fitted, made-words, made-full}
-use Rattle.compile.proofs.Grow.{lays-ends}
+use Rattle.build.specs.declared.Built.{Built}
+use Rattle.build.specs.declared.Built.the-variants as built
+use Rattle.build.specs.declared.Part.{Part}
+use Rattle.common.specs.declared.Made.the-variants.{Words, Full}
+use Rattle.common.proofs.Turns.{some-words}
+use Rattle.common.proofs.Going.{Fitted, made-words, made-full, lays-ends}
 
 -- the loop over the rates: a turn, a wrong one, the end
 module _ (ws : List ℕ) (i : ℕ) {W : Bool} (e : fineWords (drop i ws) ≡ W) where

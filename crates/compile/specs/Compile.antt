@@ -19,20 +19,19 @@ use Rattle.flow.specs.declared.Match.{Match}
 use Rattle.action.specs.Action.{inRange}
 use Rattle.action.specs.declared.Action.{Action}
 use Rattle.words.specs.Records.{rowsOf}
-use Rattle.row.specs.Row.{rowLength, rightRowAction}
-use Rattle.table.specs.Table.{mostRows}
+use Rattle.row.specs.Row.{rowLength, mostRows, rightRowAction}
 use Rattle.policy.specs.Read.{plain, readOf}
 use Rattle.policy.specs.File.{treeOf}
 use Rattle.policy.specs.declared.Layout.{Layout}
 use Rattle.policy.specs.declared.Reading.{Reading}
 use Rattle.policy.specs.declared.Reading.the-variants as reading
 use Rattle.policy.specs.declared.Refusal.{Refusal}
-use Rattle.compile.specs.Tables.{wordsOf}
-use Rattle.compile.specs.Build.{compileTree}
+use Rattle.common.specs.Tables.{wordsOf}
+use Rattle.build.specs.Build.{compileTree}
 use Rattle.compile.specs.declared.Compiled.{Compiled}
 use Rattle.compile.specs.declared.Compiled.the-variants.{Rows, Refused}
-use Rattle.compile.specs.declared.build.Built.{Built}
-use Rattle.compile.specs.declared.build.Built.the-variants as built
+use Rattle.build.specs.declared.Built.{Built}
+use Rattle.build.specs.declared.Built.the-variants as built
 
 -- more rows than room
 abbrev pub noRoom : ℕ

@@ -1,5 +1,2 @@
-pub mod Lays
-pub mod Tables
-pub mod Build
 pub mod Compile
 pub mod Theorems

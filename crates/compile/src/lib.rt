@@ -1,27 +1,25 @@
-// The compile: the rows of a policy's tree, joined within the lent buffers, and refused for room exactly when they must be.
+// The compile: the rows of a policy's tree, joined within the lent buffers, and refused for room exactly when they must
+// be.
 ghost use mathlib.Core.Path.{_≡_};
 ghost use lib.ListN.{length};
 ghost use Rattle.policy.specs.Read.{readOf, plain};
 ghost use Rattle.policy.specs.declared.Reading.the-variants.{Accepted};
-ghost use Rattle.compile.specs.Build.{Within};
+ghost use Rattle.build.specs.Build.{Within};
 ghost use Rattle.compile.specs.Compile.{room, fineWords, Compiles, AcceptedCompiles, Settles};
 use action::Action;
 use action::Law;
 use build::Built;
+use build::subtree;
 use nodes::Spot;
 use policy::Layout;
 use policy::OPERATOR_WORDS;
 use policy::Reading;
 use policy::Refusal;
 use policy::read;
+use row::MOST_ROWS;
 use row::ROW_WORDS;
 use row::right_row_action;
-use table::MOST_ROWS;
 use words::clear_from;
-
-mod build;
-mod join;
-mod rows;
 
 // The numbers of the refusals: more rows than room, scratch too short, a rate out of its range.
 pub const NO_ROOM: u32 = 12;
@@ -65,7 +63,7 @@ fn compile_accepted(
         left: layout.nodes,
         atom: 1 + OPERATOR_WORDS * layout.operators + 1,
     };
-    let built = build::subtree(file, start, &mut table[..words], &mut scratch[..words], 0);
+    let built = subtree(file, start, &mut table[..words], &mut scratch[..words], 0);
     settle(table, scratch, built)
 }
 

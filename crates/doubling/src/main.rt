@@ -6,8 +6,8 @@ use libc::STDOUT_FILENO;
 use policy::ATOM_WORDS;
 use policy::NODE_WORDS;
 use policy::OPERATOR_WORDS;
+use row::MOST_ROWS;
 use row::ROW_WORDS;
-use table::MOST_ROWS;
 use words::copy;
 
 // The words before the first atom: the operator count, an operator and the atom count.

@@ -37,7 +37,7 @@ use Rattle.table.proofs.Scans.{scan-refused}
 use Rattle.priority.specs.Numbering.{numberOf, answerCount}
 use Rattle.priority.specs.Theorems.{count}
 use Rattle.priority.proofs.After.{number-ready, words-stay, refused-stays}
-use Rattle.compile.specs.Tables.{wordsOf}
+use Rattle.common.specs.Tables.{wordsOf}
 use Rattle.compile.specs.Compile.{noRoom, noScratch, wrongRate, room, compiledRows, fine, zeros, answerOf, tableAfter, scratchAfter}
 use Rattle.compile.specs.Compile as compile
 use Rattle.compile.specs.declared.Compiled.{Compiled}

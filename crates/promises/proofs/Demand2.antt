@@ -7,7 +7,7 @@ use mathlib.Core.List.{List, [], _∷_}
 use mathlib.Core.Logic.{_⊎_, inl, inr, ⊎-elim}
 use lib.Dec.{eqb}
 use lib.ListN.{length, getD, drop}
-use borrow.Author.Tests.{eqb-true, eq-eqb, le-ltb}
+use borrow.Author.Tests.{eqb-true, eq-eqb}
 use Rattle.logic.proofs.Tests.{by-le, or-split}
 use Rattle.words.proofs.Records.{length-records}
 use Rattle.action.specs.Laws.{Shows}
@@ -26,10 +26,10 @@ use Rattle.policy.proofs.Passed.{named-by}
 use Rattle.policy.proofs.Accepted.{accepted-exactly, accepted-tree, accepted-atoms}
 use Rattle.policy.proofs.Refused.{refused-law, broken-refused}
 use Rattle.tree.proofs.Eval.{action-eval}
-use Rattle.compile.specs.Compile.{answerOf}
-use Rattle.compile.proofs.Scanned.{table-scans, room-exactly}
-use Rattle.promises.proofs.Rates.{accepted-fine}
+use Rattle.compile.proofs.Answered.{room-exactly, rows-answered}
 use Rattle.promises.specs.Demands.{BreaksCommutativity, BreaksAssociativity, SomeBroken, Shown, Demand2}
+use Rattle.promises.proofs.Rates.{accepted-ranged}
+use Rattle.promises.proofs.Scanned.{table-scans}
 
 -- actions of the list that break a law are actions with allowed rates that do
 breaks : (o : List ℕ) (l : Law) (a b c : Action) → Shows o l a b c → BreaksCommutativity o ⊎ BreaksAssociativity o
@@ -111,13 +111,12 @@ not-laws f a b c w k =
     (⊎-elim (λ e. subst (λ i. KeepsLaws (operatorAt os i)) (sym e) (g .0)) (λ e. subst (λ i. KeepsLaws (operatorAt os i)) (sym e) (g .1)) (w .named))
 
 pub demand-2 : Demand2
-unfolding answerOf
 demand-2 = record {
   accepted = accepted-exactly;
   eval = action-eval;
   atoms = λ f l e. ap allAtoms (accepted-tree f l e .lists) ∙ accepted-atoms f l e;
   scan = table-scans;
-  compiles = λ f t s l e enough fits. rw (e, le-ltb _ _ enough, le-ltb _ _ fits, accepted-fine f l e) refl;
+  compiles = λ f t s l e enough fits. rows-answered f t s l e enough fits (accepted-ranged f l e) .0;
   law = λ f a b c o. (
     λ w. shown f a b c (w .refusal) o (w .refused) (w .number) .some,
     λ w. let x = broken-refused f a b c o (not-laws f a b c w) in record { refusal = x .0; refused = x .1; number = x .2 },

@@ -18,8 +18,9 @@ use Rattle.priority.proofs.After.{answer-counts, earlier-higher, priorities-use
 use Rattle.tree.specs.declared.Evaluated.the-variants.{Gives}
 use Rattle.compile.specs.Compile.{tableAfter}
 use Rattle.compile.specs.Theorems.{tableRows}
-use Rattle.compile.proofs.Scanned.{table-right, table-scans}
+use Rattle.text.proofs.Right.{table-right}
 use Rattle.promises.specs.Demands.{SwitchObeysTree, Demand3}
+use Rattle.promises.proofs.Scanned.{table-scans}
 
 module _ (ws ps cs : List ℕ) (r : Ready ws ps cs) where
   -- the chain's places are rows

@@ -31,6 +31,8 @@ use Rattle.policy.specs.declared.Reading.the-variants.{Accepted}
 use Rattle.policy.proofs.Passed.{right-codes}
 use Rattle.policy.proofs.Accepted.{accepted-exactly, accepted-tree}
 use Rattle.compile.specs.Compile.{compiledRows, fine}
+use Rattle.compile.specs.Theorems.{InRange}
+use Rattle.compile.proofs.Answered.{every-fine}
 
 -- a right code is at most 4, and at most 6 in the ninth cell
 small-code : (i c : ℕ) → rightCell i c ≡ true → eqb i rateCell ≡ false → c ≤ largestCode
@@ -108,7 +110,7 @@ join-range o r = go
 
 -- rows whose actions are in range
 abbrev Ranged : List (Row Match Action) → Type 0
-Ranged N = EveryRow (λ r. inRange (r .action) ≡ true) N
+Ranged N = EveryRow InRange N
 
 append-ranged : (N N′ : List (Row Match Action)) → Ranged N → Ranged N′ → Ranged (N ++ N′)
 append-ranged [] N′ f g = g
@@ -192,14 +194,10 @@ held-good os a k xs (r ∷ rs) f h =
       held-good os a k (drop (ownOf r) xs) rs (drop-ranged (ownOf r) xs f) (λ i l. h (suc i) (omega arith)),
     )
 
-ranged-fine : (N : List (Row Match Action)) → Ranged N → fine N ≡ true
-ranged-fine [] f = refl
-ranged-fine (r ∷ N) f = and-both (f .0) (ranged-fine N (f .1))
-
 -- THE RATES OF AN ACCEPTED FILE'S ROWS LIE IN THEIR RANGE
-pub accepted-fine : (f : List ℕ) (l : Layout) → readOf f ≡ Accepted l → fine (compiledRows f l) ≡ true
+pub accepted-ranged : (f : List ℕ) (l : Layout) → readOf f ≡ Accepted l → EveryRow InRange (compiledRows f l)
 unfolding compiledRows
-accepted-fine f l e =
+accepted-ranged f l e =
     let w : WellFormed f l = accepted-exactly f l .0 e in
     let os : List (List ℕ) = operatorRecords f (l .operators) in
     let ns : List (List ℕ) = nodeRecords f (l .operators) (l .atoms) (l .nodes) in
@@ -209,4 +207,8 @@ accepted-fine f l e =
     let good : Good (fileNodes f l) =
     held-good os (l .operators) (λ i h. right-codes (getD os i []) (λ j. w .otherwise .cells i j h)) (atomsOf f l) ns
     (record-ranged xs (λ i h. w .otherwise .actions i (omega arith))) (λ i h. w .otherwise .right-nodes i (omega arith)) in
-    ranged-fine (compiledRows f l) (tree-ranged (treeOf f l) (subst Good (sym (accepted-tree f l e .lists)) good))
+    tree-ranged (treeOf f l) (subst Good (sym (accepted-tree f l e .lists)) good)
+
+-- so none is refused for one
+pub accepted-fine : (f : List ℕ) (l : Layout) → readOf f ≡ Accepted l → fine (compiledRows f l) ≡ true
+accepted-fine f l e = every-fine (compiledRows f l) (accepted-ranged f l e)

@@ -42,7 +42,7 @@ use Rattle.table.specs.declared.Scanned.the-variants as scanned
 use Rattle.priority.specs.Numbering.{shortBuffer, numberOf, prioritiesAfter, chainAfter}
 use Rattle.priority.specs.Theorems.{Ready, Shared, priority, link}
 use Rattle.priority.specs.declared.Numbered.the-variants as numbered
-use Rattle.compile.specs.Tables.{wordsOf}
+use Rattle.common.specs.Tables.{wordsOf}
 use Rattle.compile.specs.Compile.{noRoom, noScratch, wrongRate, room, compiledRows, zeros, answerOf, tableAfter, scratchAfter}
 use Rattle.compile.specs.Theorems.{tableRows}
 use Rattle.compile.specs.declared.Compiled.the-variants as compiled

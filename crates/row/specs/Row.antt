@@ -1,22 +1,29 @@
--- An atom or a row: 11 words, a match and then an action's kind and rate. See docs/FORMAT.md, "Actions".
+-- An atom or a row: 11 words, a match and then an action's kind and rate. See docs/FORMAT.md, "Actions" and "Rows".
 --
 --   rowLength                       how many words it has
+--   mostRows                        the most rows that a table may have
 --   rowOf, rowWords                 the match and the action that some words are, and their words
 --   rightRowMatch, rightRowAction   the match is right, the action is right
 --   rightRow                        a right row: an atom with a right match and a right action, whose match is not empty
+--   RightRow                        the same of a match and an action
 use Prim.Native.Nat.{ℕ, _+_}
-use mathlib.Core.Bool.{Bool, not, _&&_}
+use mathlib.Core.Path.{_≡_}
+use mathlib.Core.Bool.{Bool, true, false, not, _&&_}
 use mathlib.Core.List.{List, [], _∷_, _++_}
 use lib.ListN.{getD}
 use Rattle.theory.specs.Rows.{Row}
 use Rattle.flow.specs.Match.{matchLength, matchOf, matchWords, isEmpty, rightMatch}
 use Rattle.flow.specs.declared.Match.{Match}
-use Rattle.action.specs.Action.{kindOf, rateOf, actionOf, rightAction}
+use Rattle.action.specs.Action.{kindOf, rateOf, actionOf, rightAction, inRange}
 use Rattle.action.specs.declared.Action.{Action}
 
 -- how many words an atom or a row has
 abbrev pub rowLength : ℕ
 rowLength = matchLength + 2
+
+-- the most rows that a table may have
+abbrev pub mostRows : ℕ
+mostRows = 4096
 
 -- where the action's kind stands
 abbrev pub kindPlace : ℕ
@@ -49,3 +56,9 @@ rightRowAction ws = rightAction (getD ws kindPlace 0) (getD ws ratePlace 0)
 -- a right row
 unfoldable pub rightRow : List ℕ → Bool
 rightRow ws = rightRowMatch ws && not (isEmpty (matchOf ws)) && rightRowAction ws
+
+-- a right row: a right match that is not empty, and an action in range
+pub record RightRow (r : Row Match Action) : Type 0 where
+  pub match : rightMatch (r .match) ≡ true
+  pub notEmpty : isEmpty (r .match) ≡ false
+  pub action : inRange (r .action) ≡ true

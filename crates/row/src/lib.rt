@@ -16,6 +16,9 @@ use words::word;
 // How many words an atom or a row has, and where its action stands.
 pub const ROW_WORDS: usize = MATCH_WORDS + 2;
 
+// The most rows that a table may have.
+pub const MOST_ROWS: usize = 4096;
+
 pub type RowWords = [u32; ROW_WORDS];
 
 const KIND: usize = MATCH_WORDS;

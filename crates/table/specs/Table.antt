@@ -1,6 +1,5 @@
 -- Tables: rows that stand one behind the other in a list of words, and which tables are right. See docs/FORMAT.md, "Rows" and "Numbers a caller can get back".
 --
---   mostRows          the most rows that a table may have
 --   wrongTable        the number of a table of a wrong length
 --   wrongRow          the number of a wrong row
 --   rowCount ws       how many rows the words hold
@@ -19,13 +18,9 @@ use Rattle.words.specs.Records.{records, rowsOf}
 use Rattle.theory.specs.Rows.{Row}
 use Rattle.flow.specs.declared.Match.{Match}
 use Rattle.action.specs.declared.Action.{Action}
-use Rattle.row.specs.Row.{rowLength, rowOf, rightRow}
+use Rattle.row.specs.Row.{rowLength, mostRows, rowOf, rightRow}
 use Rattle.table.specs.declared.Checked.{Checked}
 use Rattle.table.specs.declared.Checked.the-variants.{Rows, Wrong}
-
--- the most rows that a table may have
-abbrev pub mostRows : ℕ
-mostRows = 4096
 
 -- the number of a table that is not a multiple of 11 words, or has too many rows
 abbrev pub wrongTable : ℕ

@@ -1,7 +1,7 @@
 -- What is proved of tables and the scan. A law of the same name in proofs/ proves each statement: check-exactly proves CheckExactly.
 --
 --   rowAt                      the words of a row
---   RightRow, RightTable       what makes a row right, and a table
+--   RightTable                 what makes a table right
 --   CheckExactly               the check passes exactly the right tables
 --   CheckFirst                 a wrong row is named by the first place that has one, also behind a matching row
 --   TableRows, TableWords      the rows of a right table are right, and the words of right rows are a right table
@@ -18,13 +18,12 @@ use Rattle.words.specs.Records.{flat}
 use Rattle.theory.specs.Rows.{Row, EveryRow, matchesAt}
 use Rattle.theory.specs.Number.{FirstPlace}
 use Rattle.flow.specs.Packet.{packetOf, rightPacketWords, wrongPacket}
-use Rattle.flow.specs.Match.{isEmpty, rightMatch, meets}
+use Rattle.flow.specs.Match.{meets}
 use Rattle.flow.specs.declared.Match.{Match}
-use Rattle.action.specs.Action.{inRange}
 use Rattle.action.specs.declared.Action.{Action}
 use Rattle.action.specs.declared.Action.the-variants.{DontCare}
-use Rattle.row.specs.Row.{rowLength, rowWords, rightRow}
-use Rattle.table.specs.Table.{mostRows, wrongRow, rowCount, rowsIn, past, rightLength, checkOf}
+use Rattle.row.specs.Row.{rowLength, mostRows, rowWords, rightRow, RightRow}
+use Rattle.table.specs.Table.{wrongRow, rowCount, rowsIn, past, rightLength, checkOf}
 use Rattle.table.specs.Scan.{scanOf}
 use Rattle.table.specs.declared.Checked.the-variants.{Rows, Wrong}
 use Rattle.table.specs.declared.Scanned.the-variants.{Found, Refused}
@@ -32,12 +31,6 @@ use Rattle.table.specs.declared.Scanned.the-variants.{Found, Refused}
 -- the words of row i
 abbrev pub rowAt : List ℕ → ℕ → List ℕ
 rowAt ws i = take rowLength (drop (i * rowLength) ws)
-
--- a right row: a right match that is not empty, and an action in range
-pub record RightRow (r : Row Match Action) : Type 0 where
-  pub match : rightMatch (r .match) ≡ true
-  pub notEmpty : isEmpty (r .match) ≡ false
-  pub action : inRange (r .action) ≡ true
 
 -- a right table: a multiple of 11 words, not too many rows, and each row right
 pub record RightTable (ws : List ℕ) : Type 0 where

@@ -9,12 +9,10 @@ use flow::meets;
 use flow::read_match;
 use flow::read_packet;
 use flow::right_packet_words;
+use row::MOST_ROWS;
 use row::ROW_WORDS;
 use row::right_row;
 use row::row_action;
-
-// The most rows that a table may have.
-pub const MOST_ROWS: usize = 4096;
 
 // The numbers of the refusals.
 pub const WRONG_TABLE: u32 = 15;

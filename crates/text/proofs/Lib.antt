@@ -1,5 +1,6 @@
 pub mod Putting
 pub mod Turns
+pub mod Right
 pub mod Listed
 pub mod Lengths
 pub mod Numerals

@@ -16,8 +16,8 @@ use Rattle.words.proofs.Bytes.{length-words}
 use Rattle.action.specs.declared.Action.{Action}
 use Rattle.flow.specs.Match.{matchOf}
 use Rattle.flow.specs.declared.Match.{Match}
-use Rattle.row.specs.Row.{rowLength, rowOf, rowAction}
-use Rattle.table.specs.Table.{mostRows, rowCount, rowsIn}
+use Rattle.row.specs.Row.{rowLength, mostRows, rowOf, rowAction}
+use Rattle.table.specs.Table.{rowCount, rowsIn}
 use Rattle.table.proofs.Tables.{check-exactly}
 use Rattle.policy.specs.Numbers.{longestFile}
 use Rattle.policy.specs.declared.Refusal.{Refusal}
@@ -26,7 +26,7 @@ use Rattle.compile.specs.Theorems.{tableRows}
 use Rattle.compile.specs.declared.Compiled.{Compiled}
 use Rattle.compile.specs.declared.Compiled.the-variants.{Rows}
 use Rattle.compile.specs.declared.Compiled.the-variants as compiled
-use Rattle.compile.proofs.Scanned.{answers-rows, table-right}
+use Rattle.compile.proofs.Answered.{answers-rows}
 use Rattle.priority.specs.Numbering.{prioritiesOf, numberOf, Answered}
 use Rattle.priority.specs.Theorems.{Ready}
 use Rattle.priority.specs.declared.Numbered.{Numbered}
@@ -37,6 +37,7 @@ use Rattle.text.specs.Text.{number, matchText, actionText, line, lines, 
 use Rattle.text.specs.Puts.{Puts}
 use Rattle.text.specs.Listing.{wrongInput, room, rightInput, blank, tableText, fileText, listingOf}
 use Rattle.text.proofs.Putting.{_then_}
+use Rattle.text.proofs.Right.{table-right}
 
 -- a row's line
 pub line-put : (ws : List ℕ) (p : ℕ) {l l₁ l₂ l₃ : List ℕ} {a b c d : ℕ} (m : Match) (x : Action) → m ≡ matchOf ws → x ≡ rowAction ws

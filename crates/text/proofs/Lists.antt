@@ -17,7 +17,7 @@ use Rattle.compile.specs.Compile.{answerOf, tableAfter}
 use Rattle.compile.specs.Theorems.{tableRows}
 use Rattle.compile.specs.declared.Compiled.{Compiled}
 use Rattle.compile.specs.declared.Compiled.the-variants.{Rows, Refused}
-use Rattle.compile.proofs.Scanned.{answers-rows, table-right}
+use Rattle.compile.proofs.Answered.{answers-rows}
 use Rattle.priority.specs.Numbering.{levelsOf, prioritiesOf, numberOf}
 use Rattle.priority.specs.declared.Numbered.the-variants.{Priorities}
 use Rattle.priority.proofs.Whole.{priorities-many}
@@ -25,6 +25,7 @@ use Rattle.text.specs.Text.{head, lines}
 use Rattle.text.specs.Puts.{stop}
 use Rattle.text.specs.Listing.{wrongInput, room, rightInput, blank, tableText, fileText, listingOf}
 use Rattle.text.specs.Theorems.{longestLine, longestListing, rowsText, ListsRows, ListsRefused, RefusedInput, NeverCut, WrittenWhole}
+use Rattle.text.proofs.Right.{table-right}
 use Rattle.text.proofs.Lengths.{lines-long, head-long, refusal-long}
 
 -- the rows of a file, where the compile answers rows

@@ -5,6 +5,7 @@
 --   ListedRows f n t              the listing of the file f is that, and t has n rows and n priorities
 --   reads ds                      the number that some digits are, the most significant first
 --   Decimal n ds                  ds are digits that read as n, and no zero stands before another digit
+--   TableRight                    the rows that the compile leaves pass the table's check, with as many rows
 --   ListsRows                     where the compile answers rows, they are listed: the numbering refuses nothing
 --   ListsRefused                  where the compile refuses, its number and place are listed
 --   RefusedInput                  an input that is no file is 18 at place 0
@@ -22,7 +23,8 @@ use lib.ListN.{length, getD, take}
 use Rattle.words.specs.Records.{flat}
 use Rattle.words.specs.Bytes.{bytesOf}
 use Rattle.theory.specs.Number.{levelCount}
-use Rattle.table.specs.Table.{rowsIn}
+use Rattle.table.specs.Table.{rowsIn, checkOf}
+use Rattle.table.specs.declared.Checked.the-variants as checked
 use Rattle.action.specs.Operator.{sibling}
 use Rattle.policy.specs.Examples.{tenant, tenantWith, lone}
 use Rattle.policy.specs.declared.Refusal.{Refusal}
@@ -51,6 +53,10 @@ pub record ListedRows (f : List ℕ) (n : ℕ) (t : List ℕ) : Type 0 where
   pub text : fileText f ≡ rowsText n t
   pub rows : length (rowsIn t) ≡ n
   pub priorities : length (prioritiesOf t) ≡ n
+
+-- the rows that the compile leaves pass the table's check, with as many rows
+abbrev pub TableRight : Type 0
+TableRight = (f t s : List ℕ) (n : ℕ) → answerOf f t s ≡ Rows n → checkOf (tableRows n (tableAfter f t s)) ≡ checked.Rows n
 
 -- THE LISTING HAS A LINE FOR EACH COMPILED ROW
 abbrev pub ListsRows : Type 0
