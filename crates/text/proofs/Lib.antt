@@ -1,7 +1,4 @@
-pub mod Putting
 pub mod Turns
 pub mod Listed
-pub mod Lengths
-pub mod Numerals
 pub mod Lists
 pub mod Examples
