@@ -1,20 +1,20 @@
 // Answers calls: reads them from standard input, and writes each answer with every buffer that was lent for writing. What a call and its answer
 // look like stands in tests/README.md.
-ghost use mathlib.Core.Path.{_≡_};
-ghost use Prim.Native.Nat.{min};
-ghost use Rattle.io.specs.Counts.{Counts};
 use action::Action;
 use action::Law;
 use compile::Compiled;
-use libc::STDIN_FILENO;
-use libc::STDOUT_FILENO;
 use policy::Reading;
 use policy::Refusal;
 use priority::Numbered;
 use table::Scanned;
 use text::LONGEST_LISTING;
 use tree::Evaluated;
-use words::WORD_BYTES;
+use wire::give;
+use wire::give_bytes;
+use wire::low;
+use wire::take_bytes;
+use wire::take_slice;
+use wire::take_word;
 
 // The numbers of the calls.
 const READ: u32 = 1;
@@ -33,21 +33,6 @@ const LIST: u32 = 6;
 const MOST_WORDS: usize = 45100;
 
 const MOST_BYTES: usize = 52000;
-
-// How many words are read or written at once.
-const BLOCK: usize = 1024;
-
-// How much of a slice was read: all of it, and so many words.
-struct Taken {
-    whole: bool,
-    count: usize,
-}
-
-// Whether a word was read, and which.
-struct Word {
-    whole: bool,
-    word: u32,
-}
 
 fn main() {
     let mut a = [0u32; MOST_WORDS];
@@ -70,38 +55,19 @@ fn answer(a: &mut [u32], b: &mut [u32], c: &mut [u32]) -> bool {
     if !call.whole {
         return false;
     }
-    if call.word <= COMPILE {
-        return answer_file(call.word, a, b, c);
-    }
-    answer_other(call.word, a, b, c)
+    answer_call(call.word, a, b, c)
 }
 
-// The calls with a policy file.
-fn answer_file(call: u32, a: &mut [u32], b: &mut [u32], c: &mut [u32]) -> bool {
-    if call == READ {
-        return answer_read(a);
+fn answer_call(call: u32, a: &mut [u32], b: &mut [u32], c: &mut [u32]) -> bool {
+    match call {
+        READ => answer_read(a),
+        TREE_ACTION => answer_action(a, b),
+        COMPILE => answer_compile(a, b, c),
+        SCAN => answer_scan(a, b),
+        NUMBER => answer_number(a, b, c),
+        LIST => answer_list(a),
+        _ => false,
     }
-    if call == TREE_ACTION {
-        return answer_action(a, b);
-    }
-    if call == COMPILE {
-        return answer_compile(a, b, c);
-    }
-    false
-}
-
-// The calls with a table or with bytes.
-fn answer_other(call: u32, a: &mut [u32], b: &mut [u32], c: &mut [u32]) -> bool {
-    if call == SCAN {
-        return answer_scan(a, b);
-    }
-    if call == NUMBER {
-        return answer_number(a, b, c);
-    }
-    if call == LIST {
-        return answer_list(a);
-    }
-    false
 }
 
 fn answer_read(file: &mut [u32]) -> bool {
@@ -109,16 +75,7 @@ fn answer_read(file: &mut [u32]) -> bool {
     if !f.whole {
         return false;
     }
-    let reading = policy::read(&file[..f.count]);
-    match reading {
-        Reading::Accepted(layout) => {
-            let operators = low(layout.operators);
-            let atoms = low(layout.atoms);
-            let nodes = low(layout.nodes);
-            give_success() & give(&[operators, atoms, nodes])
-        }
-        Reading::Refused(refusal) => give_refusal(refusal) & give(&[0, 0, 0]),
-    }
+    give_reading(policy::read(&file[..f.count]))
 }
 
 fn answer_action(file: &mut [u32], packet: &mut [u32]) -> bool {
@@ -127,11 +84,7 @@ fn answer_action(file: &mut [u32], packet: &mut [u32]) -> bool {
     if !(f.whole & p.whole) {
         return false;
     }
-    let evaluated = tree::tree_action(&file[..f.count], &packet[..p.count]);
-    match evaluated {
-        Evaluated::Gives(action) => give_success() & give_action(action),
-        Evaluated::Refused(refusal) => give_refusal(refusal) & give_action(Action::DONT_CARE),
-    }
+    give_evaluated(tree::tree_action(&file[..f.count], &packet[..p.count]))
 }
 
 fn answer_compile(file: &mut [u32], table: &mut [u32], scratch: &mut [u32]) -> bool {
@@ -159,14 +112,7 @@ fn answer_scan(table: &mut [u32], packet: &mut [u32]) -> bool {
     if !(t.whole & p.whole) {
         return false;
     }
-    match table::scan(&table[..t.count], &packet[..p.count]) {
-        Scanned::Found { action, tried } => {
-            give(&[0, 0]) & give_action(action) & give(&[low(tried)])
-        }
-        Scanned::Refused { number, place } => {
-            give(&[number, low(place)]) & give_action(Action::DONT_CARE) & give(&[0])
-        }
-    }
+    give_scanned(table::scan(&table[..t.count], &packet[..p.count]))
 }
 
 fn answer_number(table: &mut [u32], priorities: &mut [u32], chain: &mut [u32]) -> bool {
@@ -195,95 +141,42 @@ fn answer_list(words: &mut [u32]) -> bool {
 }
 
 fn list_bytes(words: &mut [u32], input: &mut [u8], out: &mut [u8]) -> bool {
-    let length = take_word();
-    let n = wide(length.word);
-    let w = take_first(words, whole_words(n));
-    if !(length.whole & w.whole) {
+    let b = take_bytes(words, input);
+    if !b.whole {
         return false;
     }
-    words::to_bytes(&words[..w.count], input);
-    let most = first(n, input);
-    let list = text::list(&input[..most], out);
-    let end = first(list, out);
-    give(&[low(end)]) & io::write_all(STDOUT_FILENO, &out[..end]) & give_padding(end)
+    let end = text::list(&input[..b.count], out);
+    give_bytes(&out[..end])
 }
 
-// Reads a slice: its length, then its words.
-fn take_slice(out: &mut [u32]) -> Taken
-    ensures { λ r. ⌜ Counts (r .count) (now (out .exit)) ⌝ }
-{
-    let length = take_word();
-    let got = take_first(out, wide(length.word));
-    let whole = length.whole & got.whole;
-    let count = got.count;
-    Taken { whole, count }
-}
-
-// Reads so many words into the first of a buffer.
-fn take_first(out: &mut [u32], n: usize) -> Taken
-    ensures { λ r. ⌜ Counts (r .count) (now (out .exit)) ⌝ }
-{
-    let count = least(n, out.len());
-    let is_there = take(&mut out[..count]);
-    let whole = is_there & (count == n);
-    Taken { whole, count }
-}
-
-// Reads one word.
-fn take_word() -> Word {
-    let mut buffer = [0u32; 1];
-    let whole = take(&mut buffer);
-    let word = buffer[0];
-    Word { whole, word }
-}
-
-// Reads words until a buffer is full. False where the input ends before.
-fn take(out: &mut [u32]) -> bool {
-    let mut at = 0;
-    while at < out.len() {
-        let end = at + least(out.len() - at, BLOCK);
-        if !take_block(&mut out[at..end]) {
-            return false;
+fn give_reading(reading: Reading) -> bool {
+    match reading {
+        Reading::Accepted(layout) => {
+            let operators = low(layout.operators);
+            let atoms = low(layout.atoms);
+            let nodes = low(layout.nodes);
+            give_success() & give(&[operators, atoms, nodes])
         }
-        at = end;
+        Reading::Refused(refusal) => give_refusal(refusal) & give(&[0, 0, 0]),
     }
-    true
 }
 
-fn take_block(out: &mut [u32]) -> bool {
-    let mut bytes = [0u8; WORD_BYTES * BLOCK];
-    if BLOCK < out.len() {
-        return false;
+fn give_evaluated(evaluated: Evaluated) -> bool {
+    match evaluated {
+        Evaluated::Gives(action) => give_success() & give_action(action),
+        Evaluated::Refused(refusal) => give_refusal(refusal) & give_action(Action::DONT_CARE),
     }
-    take_bytes(out, &mut bytes[..WORD_BYTES * out.len()])
 }
 
-fn take_bytes(out: &mut [u32], bytes: &mut [u8]) -> bool {
-    let got = io::read_full(STDIN_FILENO, bytes);
-    words::from_bytes(bytes, out);
-    got == bytes.len()
-}
-
-// Writes words.
-fn give(words: &[u32]) -> bool {
-    let mut at = 0;
-    while at < words.len() {
-        let end = at + least(words.len() - at, BLOCK);
-        if !give_block(&words[at..end]) {
-            return false;
+fn give_scanned(scanned: Scanned) -> bool {
+    match scanned {
+        Scanned::Found { action, tried } => {
+            give(&[0, 0]) & give_action(action) & give(&[low(tried)])
         }
-        at = end;
+        Scanned::Refused { number, place } => {
+            give(&[number, low(place)]) & give_action(Action::DONT_CARE) & give(&[0])
+        }
     }
-    true
-}
-
-fn give_block(words: &[u32]) -> bool {
-    let mut bytes = [0u8; WORD_BYTES * BLOCK];
-    if BLOCK < words.len() {
-        return false;
-    }
-    words::to_bytes(words, &mut bytes);
-    io::write_all(STDOUT_FILENO, &bytes[..WORD_BYTES * words.len()])
 }
 
 fn give_compiled(compiled: Compiled) -> bool {
@@ -327,46 +220,4 @@ fn law_number(law: Law) -> u32 {
         Law::Commutativity => 1,
         Law::Associativity => 2,
     }
-}
-
-// How many words so many bytes take.
-fn whole_words(bytes: usize) -> usize {
-    bytes / WORD_BYTES + least(bytes % WORD_BYTES, 1)
-}
-
-// Zeros behind so many bytes, up to a whole word.
-fn give_padding(bytes: usize) -> bool {
-    let behind = bytes % WORD_BYTES;
-    if behind == 1 {
-        return io::write_all(STDOUT_FILENO, b"\0\0\0");
-    }
-    if behind == 2 {
-        return io::write_all(STDOUT_FILENO, b"\0\0");
-    }
-    if behind == 3 {
-        return io::write_all(STDOUT_FILENO, b"\0");
-    }
-    true
-}
-
-// So many of a buffer's bytes, or all of them.
-fn first(n: usize, buf: &[u8]) -> usize
-    ensures { λ r. ⌜ Counts r (now (buf .entry)) ⌝ }
-{
-    least(n, buf.len())
-}
-
-fn wide(w: u32) -> usize {
-    w as usize
-}
-
-// The low 32 bits: every place and count in an answer is far below.
-fn low(n: usize) -> u32 {
-    (n % 4294967296) as u32
-}
-
-fn least(m: usize, n: usize) -> usize
-    ensures { λ r. ⌜ r ≡ min m n ⌝ }
-{
-    if m < n { m } else { n }
 }

@@ -62,6 +62,7 @@ use Rattle.line.proofs.put_head.Reads as put-head
 use Rattle.line.proofs.put_refusal.Reads as put-refusal
 use Rattle.text.proofs.list.Reads as list
 use Rattle.text.proofs.list_whole.Reads as list-whole
+use Rattle.wire.proofs.low.Reads as low
 use Rattle.speed.proofs.speed_read.Reads as speed-read
 use Rattle.speed.proofs.speed_tree.Reads as speed-tree
 use Rattle.speed.proofs.speed_compile.Reads as speed-compile
@@ -268,6 +269,10 @@ list-one = fixed (λ κ a r s p. both (p .0 .end) (p .0 .bytes))
 
 list-whole-one : OneAnswer list-whole.Pre list-whole.Post (λ κ r s. answerWith r (now (s .1 .1 .0)))
 list-whole-one = fixed (λ κ a r s p. both (p .puts .end) (p .puts .bytes))
+
+-- wire
+low-one : OneAnswer low.Pre low.Post (λ κ r s. r)
+low-one = fixed (λ κ a r s p. p)
 
 -- speed
 speed-read-one : OneAnswer speed-read.Pre speed-read.Post (λ κ r s. r)

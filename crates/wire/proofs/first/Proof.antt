@@ -1,12 +1,12 @@
--- `answers::first` meets its contract.
+-- `wire::first` meets its contract.
 -- Assumes nothing.
 use native.Mathlib.Omega.{arith}
 use Prim.Native.Nat.{_-_}
 use mathlib.Core.Path.{sym}
 use lib.Seq.{length-take-le}
 use borrow.Author.Needs.{needs}
-use Rattle.answers.proofs.first.Statement.{statement}
-use Rattle.answers.proofs.first.Tie as tie
+use Rattle.wire.proofs.first.Statement.{statement}
+use Rattle.wire.proofs.first.Tie as tie
 
 least-requires : tie.Need-least-requires
 least-requires c κs = search needs

@@ -1,12 +1,12 @@
--- `answers::give_block` is safe: the bytes of a block fit their buffer.
+-- `wire::give_block` is safe: the bytes of a block fit their buffer.
 -- Assumes nothing.
 use native.Mathlib.Omega.{arith}
 use Prim.Native.Nat.{_-_}
 use mathlib.Core.Path.{sym}
 use lib.Seq.{length-take-le}
 use borrow.Author.Needs.{needs}
-use Rattle.answers.proofs.give_block.Statement.{statement}
-use Rattle.answers.proofs.give_block.Tie as tie
+use Rattle.wire.proofs.give_block.Statement.{statement}
+use Rattle.wire.proofs.give_block.Tie as tie
 
 returns : tie.Need-returns
 returns c = search needs

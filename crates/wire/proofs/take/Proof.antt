@@ -1,12 +1,12 @@
--- `answers::take` is safe and ends: each block is one word or more.
+-- `wire::take` is safe and ends: each block is one word or more.
 -- Assumes nothing.
 use borrow.Author.Needs.{needs}
 use native.Mathlib.Omega.{arith}
 use Prim.Native.Nat.{_-_, _≤_}
 use mathlib.Core.Path.{_≡_, refl}
 use lib.ListN.{length}
-use Rattle.answers.proofs.take.Statement.{statement}
-use Rattle.answers.proofs.take.Tie as tie
+use Rattle.wire.proofs.take.Statement.{statement}
+use Rattle.wire.proofs.take.Tie as tie
 
 abbrev Inv-loop : tie.InvT-loop
 Inv-loop out₀ at₀ out at = (at ≤ length out) × (length out ≡ length out₀)

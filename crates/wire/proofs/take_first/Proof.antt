@@ -1,11 +1,11 @@
--- `answers::take_first` meets its contract: no more words are read than the buffer has.
+-- `wire::take_first` meets its contract: no more words are read than the buffer has.
 -- Assumes nothing.
 use native.Mathlib.Omega.{arith}
 use mathlib.Core.Path.{sym}
 use lib.Seq.{length-take-le}
 use borrow.Author.Needs.{needs}
-use Rattle.answers.proofs.take_first.Statement.{statement}
-use Rattle.answers.proofs.take_first.Tie as tie
+use Rattle.wire.proofs.take_first.Statement.{statement}
+use Rattle.wire.proofs.take_first.Tie as tie
 
 least-requires : tie.Need-least-requires
 least-requires c κs = search needs

@@ -1,11 +1,11 @@
--- `answers::give` is safe and ends: each block is one word or more.
+-- `wire::give` is safe and ends: each block is one word or more.
 -- Assumes nothing.
 use borrow.Author.Needs.{needs}
 use native.Mathlib.Omega.{arith}
 use Prim.Native.Nat.{_-_, _≤_}
 use lib.ListN.{length}
-use Rattle.answers.proofs.give.Statement.{statement}
-use Rattle.answers.proofs.give.Tie as tie
+use Rattle.wire.proofs.give.Statement.{statement}
+use Rattle.wire.proofs.give.Tie as tie
 
 abbrev Inv-loop : tie.InvT-loop
 Inv-loop words at₀ at = at ≤ length words

@@ -1,12 +1,12 @@
--- `answers::take_block` is safe: the bytes of a block fit their buffer.
+-- `wire::take_block` is safe: the bytes of a block fit their buffer.
 -- Assumes nothing.
 use native.Mathlib.Omega.{arith}
 use Prim.Native.Nat.{_-_}
 use mathlib.Core.Path.{sym}
 use lib.Seq.{length-take-le}
 use borrow.Author.Needs.{needs}
-use Rattle.answers.proofs.take_block.Statement.{statement}
-use Rattle.answers.proofs.take_block.Tie as tie
+use Rattle.wire.proofs.take_block.Statement.{statement}
+use Rattle.wire.proofs.take_block.Tie as tie
 
 returns : tie.Need-returns
 returns c = search needs
@@ -17,11 +17,11 @@ mul-bytes c = search needs
 array-borrow-prefix-bytes : tie.Need-array-borrow-prefix-bytes
 array-borrow-prefix-bytes c = search needs
 
-slice-aggregate-take-bytes : tie.Need-slice-aggregate-take-bytes
-slice-aggregate-take-bytes c = sym (length-take-le _ _ (omega arith))
+slice-aggregate-take-words : tie.Need-slice-aggregate-take-words
+slice-aggregate-take-words c = sym (length-take-le _ _ (omega arith))
 
-take-bytes-requires : tie.Need-take-bytes-requires
-take-bytes-requires c κs = search needs
+take-words-requires : tie.Need-take-words-requires
+take-words-requires c κs = search needs
 
 same-length : tie.Need-same-length
 same-length c = search needs
@@ -36,7 +36,7 @@ take-block-spec =
     returns
     mul-bytes
     array-borrow-prefix-bytes
-    slice-aggregate-take-bytes
-    take-bytes-requires
+    slice-aggregate-take-words
+    take-words-requires
     same-length
     returns-2)
