@@ -14,6 +14,8 @@ use wire::give_bytes;
 use wire::low;
 use wire::take_bytes;
 use wire::take_slice;
+use wire::take_three;
+use wire::take_two;
 use wire::take_word;
 
 // The numbers of the calls.
@@ -34,15 +36,18 @@ const MOST_WORDS: usize = 45100;
 
 const MOST_BYTES: usize = 52000;
 
+// A buffer for a slice.
+type Words = [u32; MOST_WORDS];
+
 fn main() {
-    let mut a = [0u32; MOST_WORDS];
-    let mut b = [0u32; MOST_WORDS];
-    let mut c = [0u32; MOST_WORDS];
+    let mut a = blank_words();
+    let mut b = blank_words();
+    let mut c = blank_words();
     answer_all(&mut a, &mut b, &mut c);
 }
 
 // A proved loop has to end, and nothing says that the input does: the turns are counted down, from a number that no run uses up.
-fn answer_all(a: &mut [u32], b: &mut [u32], c: &mut [u32]) {
+fn answer_all(a: &mut Words, b: &mut Words, c: &mut Words) {
     let mut turns = u64::MAX;
     while turns > 0 && answer(a, b, c) {
         turns -= 1;
@@ -50,16 +55,13 @@ fn answer_all(a: &mut [u32], b: &mut [u32], c: &mut [u32]) {
 }
 
 // Answers one call, whose slices are read into the buffers. False where the input has ended or is no call.
-fn answer(a: &mut [u32], b: &mut [u32], c: &mut [u32]) -> bool {
+fn answer(a: &mut Words, b: &mut Words, c: &mut Words) -> bool {
     let call = take_word();
     if !call.whole {
         return false;
     }
-    answer_call(call.word, a, b, c)
-}
-
-fn answer_call(call: u32, a: &mut [u32], b: &mut [u32], c: &mut [u32]) -> bool {
-    match call {
+    let number = call.word;
+    match number {
         READ => answer_read(a),
         TREE_ACTION => answer_action(a, b),
         COMPILE => answer_compile(a, b, c),
@@ -79,25 +81,22 @@ fn answer_read(file: &mut [u32]) -> bool {
 }
 
 fn answer_action(file: &mut [u32], packet: &mut [u32]) -> bool {
-    let f = take_slice(file);
-    let p = take_slice(packet);
-    if !(f.whole & p.whole) {
+    let t = take_two(file, packet);
+    if !t.whole {
         return false;
     }
-    give_evaluated(tree::tree_action(&file[..f.count], &packet[..p.count]))
+    give_evaluated(tree::tree_action(&file[..t.first], &packet[..t.second]))
 }
 
 fn answer_compile(file: &mut [u32], table: &mut [u32], scratch: &mut [u32]) -> bool {
-    let f = take_slice(file);
-    let t = take_slice(table);
-    let s = take_slice(scratch);
-    if !(f.whole & t.whole & s.whole) {
+    let t = take_three(file, table, scratch);
+    if !t.whole {
         return false;
     }
     compile_within(
-        &file[..f.count],
-        &mut table[..t.count],
-        &mut scratch[..s.count],
+        &file[..t.first],
+        &mut table[..t.second],
+        &mut scratch[..t.third],
     )
 }
 
@@ -107,25 +106,22 @@ fn compile_within(file: &[u32], table: &mut [u32], scratch: &mut [u32]) -> bool 
 }
 
 fn answer_scan(table: &mut [u32], packet: &mut [u32]) -> bool {
-    let t = take_slice(table);
-    let p = take_slice(packet);
-    if !(t.whole & p.whole) {
+    let t = take_two(table, packet);
+    if !t.whole {
         return false;
     }
-    give_scanned(table::scan(&table[..t.count], &packet[..p.count]))
+    give_scanned(table::scan(&table[..t.first], &packet[..t.second]))
 }
 
 fn answer_number(table: &mut [u32], priorities: &mut [u32], chain: &mut [u32]) -> bool {
-    let t = take_slice(table);
-    let p = take_slice(priorities);
-    let c = take_slice(chain);
-    if !(t.whole & p.whole & c.whole) {
+    let t = take_three(table, priorities, chain);
+    if !t.whole {
         return false;
     }
     number_within(
-        &table[..t.count],
-        &mut priorities[..p.count],
-        &mut chain[..c.count],
+        &table[..t.first],
+        &mut priorities[..t.second],
+        &mut chain[..t.third],
     )
 }
 
@@ -137,24 +133,11 @@ fn number_within(table: &[u32], priorities: &mut [u32], chain: &mut [u32]) -> bo
 fn answer_list(words: &mut [u32]) -> bool {
     let mut input = blank_input();
     let mut out = blank_text();
-    list_bytes(words, &mut input, &mut out)
-}
-
-// Both arrays are made apart, so that no proof looks at their zeros.
-fn blank_input() -> [u8; MOST_BYTES] {
-    [0u8; MOST_BYTES]
-}
-
-fn blank_text() -> [u8; LONGEST_LISTING] {
-    [0u8; LONGEST_LISTING]
-}
-
-fn list_bytes(words: &mut [u32], input: &mut [u8], out: &mut [u8]) -> bool {
-    let b = take_bytes(words, input);
+    let b = take_bytes(words, &mut input);
     if !b.whole {
         return false;
     }
-    let end = text::list(&input[..b.count], out);
+    let end = text::list(&input[..b.count], &mut out);
     give_bytes(&out[..end])
 }
 
@@ -180,11 +163,9 @@ fn give_evaluated(evaluated: Evaluated) -> bool {
 fn give_scanned(scanned: Scanned) -> bool {
     match scanned {
         Scanned::Found { action, tried } => {
-            give(&[0, 0]) & give_action(action) & give(&[low(tried)])
+            give(&[0, 0, action::kind(action), action::rate(action), low(tried)])
         }
-        Scanned::Refused { number, place } => {
-            give(&[number, low(place)]) & give_action(Action::DONT_CARE) & give(&[0])
-        }
+        Scanned::Refused { number, place } => give(&[number, low(place), 0, 0, 0]),
     }
 }
 
@@ -229,4 +210,17 @@ fn law_number(law: Law) -> u32 {
         Law::Commutativity => 1,
         Law::Associativity => 2,
     }
+}
+
+// Arrays are made apart, so that no proof looks at their zeros.
+fn blank_words() -> Words {
+    [0u32; MOST_WORDS]
+}
+
+fn blank_input() -> [u8; MOST_BYTES] {
+    [0u8; MOST_BYTES]
+}
+
+fn blank_text() -> [u8; LONGEST_LISTING] {
+    [0u8; LONGEST_LISTING]
 }

@@ -16,6 +16,21 @@ pub struct Taken {
     pub count: usize,
 }
 
+// How much of two slices was read: all of both or not, and so many words of each.
+pub struct Two {
+    pub whole: bool,
+    pub first: usize,
+    pub second: usize,
+}
+
+// The same of three.
+pub struct Three {
+    pub whole: bool,
+    pub first: usize,
+    pub second: usize,
+    pub third: usize,
+}
+
 // Whether a word was read, and which.
 pub struct Word {
     pub whole: bool,
@@ -39,6 +54,40 @@ pub fn take_slice(out: &mut [u32]) -> Taken
     let whole = length.whole & got.whole;
     let count = got.count;
     Taken { whole, count }
+}
+
+// Reads two slices.
+pub fn take_two(a: &mut [u32], b: &mut [u32]) -> Two
+    ensures { λ r. ⌜ Counts (r .first) (now (a .exit)) × Counts (r .second) (now (b .exit)) ⌝ }
+{
+    let f = take_slice(a);
+    let s = take_slice(b);
+    let whole = f.whole & s.whole;
+    let first = f.count;
+    let second = s.count;
+    Two {
+        whole,
+        first,
+        second,
+    }
+}
+
+// Reads three slices.
+pub fn take_three(a: &mut [u32], b: &mut [u32], c: &mut [u32]) -> Three
+    ensures { λ r. ⌜ Counts (r .first) (now (a .exit)) × Counts (r .second) (now (b .exit)) × Counts (r .third) (now (c .exit)) ⌝ }
+{
+    let two = take_two(a, b);
+    let t = take_slice(c);
+    let whole = two.whole & t.whole;
+    let first = two.first;
+    let second = two.second;
+    let third = t.count;
+    Three {
+        whole,
+        first,
+        second,
+        third,
+    }
 }
 
 // Reads bytes: how many there are, then words that hold them, which are lent a buffer of their own.
