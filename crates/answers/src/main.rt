@@ -1,17 +1,13 @@
-// Answers calls: reads them from standard input, and writes each answer with every buffer that was lent for writing. What a call and its answer
-// look like stands in tests/README.md.
-use action::Action;
-use action::Law;
-use compile::Compiled;
-use policy::Reading;
-use policy::Refusal;
-use priority::Numbered;
-use table::Scanned;
+// Answers calls: reads them from standard input, and writes each answer with every buffer that was lent for writing.
+// What a call and its answer look like stands in tests/README.md.
+use replies::give_compiled;
+use replies::give_evaluated;
+use replies::give_numbered;
+use replies::give_reading;
+use replies::give_scanned;
 use text::LONGEST_LISTING;
-use tree::Evaluated;
 use wire::give;
 use wire::give_bytes;
-use wire::low;
 use wire::take_bytes;
 use wire::take_slice;
 use wire::take_three;
@@ -46,7 +42,8 @@ fn main() {
     answer_all(&mut a, &mut b, &mut c);
 }
 
-// A proved loop has to end, and nothing says that the input does: the turns are counted down, from a number that no run uses up.
+// A proved loop has to end, and nothing says that the input does: the turns are counted down, from a number that no run
+// uses up.
 fn answer_all(a: &mut Words, b: &mut Words, c: &mut Words) {
     let mut turns = u64::MAX;
     while turns > 0 && answer(a, b, c) {
@@ -139,77 +136,6 @@ fn answer_list(words: &mut [u32]) -> bool {
     }
     let end = text::list(&input[..b.count], &mut out);
     give_bytes(&out[..end])
-}
-
-fn give_reading(reading: Reading) -> bool {
-    match reading {
-        Reading::Accepted(layout) => {
-            let operators = low(layout.operators);
-            let atoms = low(layout.atoms);
-            let nodes = low(layout.nodes);
-            give_success() & give(&[operators, atoms, nodes])
-        }
-        Reading::Refused(refusal) => give_refusal(refusal) & give(&[0, 0, 0]),
-    }
-}
-
-fn give_evaluated(evaluated: Evaluated) -> bool {
-    match evaluated {
-        Evaluated::Gives(action) => give_success() & give_action(action),
-        Evaluated::Refused(refusal) => give_refusal(refusal) & give_action(Action::DONT_CARE),
-    }
-}
-
-fn give_scanned(scanned: Scanned) -> bool {
-    match scanned {
-        Scanned::Found { action, tried } => {
-            give(&[0, 0, action::kind(action), action::rate(action), low(tried)])
-        }
-        Scanned::Refused { number, place } => give(&[number, low(place), 0, 0, 0]),
-    }
-}
-
-fn give_compiled(compiled: Compiled) -> bool {
-    match compiled {
-        Compiled::Rows(rows) => give_success() & give(&[low(rows)]),
-        Compiled::Refused(refusal) => give_refusal(refusal) & give(&[0]),
-    }
-}
-
-fn give_numbered(numbered: Numbered) -> bool {
-    match numbered {
-        Numbered::Priorities(count) => give(&[0, 0, count]),
-        Numbered::Refused { number, place } => give(&[number, low(place), 0]),
-    }
-}
-
-// The nine words of a refusal.
-fn give_refusal(refusal: Refusal) -> bool {
-    let number = refusal.number;
-    let place = low(refusal.place);
-    let broken = refusal.law;
-    let law = law_number(broken);
-    let first = refusal.first;
-    let second = refusal.second;
-    let third = refusal.third;
-    give(&[number, place, law]) & give_action(first) & give_action(second) & give_action(third)
-}
-
-// The nine words of an answer that is no refusal.
-fn give_success() -> bool {
-    give(&[0, 0, 0, 0, 0, 0, 0, 0, 0])
-}
-
-fn give_action(a: Action) -> bool {
-    give(&[action::kind(a), action::rate(a)])
-}
-
-fn law_number(law: Law) -> u32 {
-    match law {
-        Law::Unnamed => 0,
-        Law::Commutativity => 1,
-        Law::Associativity => 2,
-    }
 }
 
 // Arrays are made apart, so that no proof looks at their zeros.

@@ -1,4 +1,5 @@
--- Text, byte by byte in ASCII: numbers, addresses, actions and rows as a listing shows them. See docs/FORMAT.md, "The listing".
+-- Text, byte by byte in ASCII: numbers, addresses, actions and rows as a listing shows them. See docs/FORMAT.md,
+-- "The listing".
 --
 --   ascii s          the bytes of a quoted text
 --   decimal n        a number, with no zero before it

@@ -1,5 +1,5 @@
-// The lines of a listing, put into a buffer of bytes: a row's, the first, and a refusal's. Each function answers where its text ends; what
-// lies past the buffer's end is not stored.
+// The lines of a listing, put into a buffer of bytes: a row's, the first, and a refusal's. Each function answers where
+// its text ends; what lies past the buffer's end is not stored.
 ghost use Rattle.row.specs.Row.{rowOf};
 ghost use Rattle.line.specs.Text.{line, head, refusal};
 ghost use Rattle.line.specs.Puts.{Puts};

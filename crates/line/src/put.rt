@@ -1,4 +1,5 @@
-// Text into a buffer of bytes, from a place on. Each answers where its text ends; what lies past the buffer's end is not stored.
+// Text into a buffer of bytes, from a place on. Each answers where its text ends; what lies past the buffer's end is
+// not stored.
 ghost use mathlib.Core.List.{[], _∷_};
 ghost use Rattle.line.specs.Text.{digits, number, value, address, matchText, actionText};
 ghost use Rattle.line.specs.Puts.{Puts};

@@ -8,7 +8,7 @@
 --   tableText t         the listing of a table
 --   fileText f          the listing of a policy file
 --   listingOf b         the listing of an input
---   ListsWhole a n l m r   m is l with the listing at its start, up to r: whole, of every input whose first bytes were read as the first n of a
+--   ListsWhole a n l m r   m is l with the listing at its start, up to r: whole, of every input that was read into a
 use Prim.Native.Nat.{ℕ, _*_, _%_, _≤_}
 use mathlib.Core.Path.{_≡_}
 use mathlib.Core.Bool.{Bool, cond, _&&_}
@@ -80,8 +80,8 @@ fileText f = compiledText (tableAfter f blank blank) (answerOf f blank blank)
 unfoldable pub listingOf : List ℕ → List ℕ
 listingOf b = cond (rightInput b) (fileText (wordsIn b)) (refusal wrongInput 0)
 
--- THE WHOLE LISTING OF WHAT WAS READ: of an array, whose first n bytes are those of an input that was read until it ended or the array was full, however long
--- that input is. The text stands at the start of the buffer, and ends at r: nothing of it is cut.
+-- THE WHOLE LISTING OF WHAT WAS READ. An input, however long, was read until it ended or the array was full, and gave
+-- the array's first n bytes: its listing stands at the start of the buffer, and ends at r. Nothing of it is cut.
 pub record ListsWhole (array : List ℕ) (n : ℕ) (before after : List ℕ) (r : ℕ) : Type 0 where
   pub puts : Puts (listingOf (take n array)) before 0 after r
   pub within : r ≤ length after

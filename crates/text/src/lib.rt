@@ -26,7 +26,7 @@ pub const ROOM: usize = 1024;
 // How many bytes the longest input has.
 pub const LONGEST_INPUT: usize = WORD_BYTES * LONGEST_FILE;
 
-// What a program reads into: one byte more shows that there are too many.
+// How many bytes a program reads into: one more than the longest input has shows that there are too many.
 pub const INPUT_ROOM: usize = LONGEST_INPUT + 1;
 
 // No line is longer than this, and no listing longer than so many lines.
@@ -47,8 +47,8 @@ pub fn list(input: &[u8], out: &mut [u8]) -> usize
     put_refusal(out, WRONG_INPUT, 0)
 }
 
-// The same, whole, for a program that reads: of every input, however long, of which so many bytes were read into an array, until it ended or
-// the array was full.
+// The same for a program that reads its input into an array, until it is full or the input ends: the whole listing of the
+// whole input, however long, of which so many bytes were read.
 pub fn list_whole(input: &[u8; INPUT_ROOM], got: usize, out: &mut [u8; LONGEST_LISTING]) -> usize
     ensures { λ r. ⌜ ListsWhole (now (input .entry)) got (now (out .entry)) (now (out .exit)) r ⌝ }
 {

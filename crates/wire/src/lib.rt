@@ -1,5 +1,6 @@
-// 32-bit words over standard input and standard output, the lowest byte of each first. What is read and what is written is in no contract; where a
-// function answers how many words or bytes it took, they stand at the start of the lent buffer.
+// 32-bit words over standard input and standard output, the lowest byte of each first. What is read and what is written
+// is in no contract; where a function answers how many words or bytes it took, they stand at the start of the lent
+// buffer.
 ghost use mathlib.Core.Path.{_≡_};
 ghost use Prim.Native.Nat.{min, _%_, _^_};
 ghost use Rattle.io.specs.Counts.{Counts};
@@ -74,7 +75,8 @@ pub fn take_two(a: &mut [u32], b: &mut [u32]) -> Two
 
 // Reads three slices.
 pub fn take_three(a: &mut [u32], b: &mut [u32], c: &mut [u32]) -> Three
-    ensures { λ r. ⌜ Counts (r .first) (now (a .exit)) × Counts (r .second) (now (b .exit)) × Counts (r .third) (now (c .exit)) ⌝ }
+    ensures { λ r. ⌜ Counts (r .first) (now (a .exit)) × Counts (r .second) (now (b .exit)) ⌝ }
+    ensures { λ r. ⌜ Counts (r .third) (now (c .exit)) ⌝ }
 {
     let two = take_two(a, b);
     let t = take_slice(c);
@@ -116,7 +118,8 @@ pub fn give(words: &[u32]) -> bool {
     true
 }
 
-// Writes bytes: how many there are, then words that hold them, the last filled up with zeros. False where not all could be written.
+// Writes bytes: how many there are, then words that hold them, the last filled up with zeros. False where not all
+// could be written.
 pub fn give_bytes(bytes: &[u8]) -> bool {
     let n = bytes.len();
     give(&[low(n)]) & io::write_all(STDOUT_FILENO, bytes) & give_padding(n)
