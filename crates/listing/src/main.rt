@@ -6,9 +6,18 @@ use text::LONGEST_LISTING;
 use text::list_whole;
 
 fn main() {
-    let mut input = [0u8; INPUT_ROOM];
-    let mut out = [0u8; LONGEST_LISTING];
+    let mut input = blank_input();
+    let mut out = blank_text();
     let got = io::read_full(STDIN_FILENO, &mut input);
     let end = list_whole(&input, got, &mut out);
     io::write_all(STDOUT_FILENO, &out[..end]);
+}
+
+// Both arrays are made apart, so that no proof looks at their zeros.
+fn blank_input() -> [u8; INPUT_ROOM] {
+    [0u8; INPUT_ROOM]
+}
+
+fn blank_text() -> [u8; LONGEST_LISTING] {
+    [0u8; LONGEST_LISTING]
 }

@@ -6,6 +6,12 @@ use borrow.Author.Needs.{needs}
 use Rattle.listing.proofs.main.Statement.{statement}
 use Rattle.listing.proofs.main.Tie as tie
 
+blank-input-requires : tie.Need-blank-input-requires
+blank-input-requires c κs = search needs
+
+blank-text-requires : tie.Need-blank-text-requires
+blank-text-requires c κs = search needs
+
 slice-aggregate-read-full : tie.Need-slice-aggregate-read-full
 slice-aggregate-read-full c = search needs
 
@@ -31,6 +37,8 @@ pub main-spec : {M : Type 1} → statement M
 main-spec =
     tie.close
     (tie.spec
+    blank-input-requires
+    blank-text-requires
     slice-aggregate-read-full
     read-full-requires
     list-whole-requires
