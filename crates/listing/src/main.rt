@@ -1,15 +1,23 @@
 // Reads the bytes of a policy file from standard input, and writes its listing, or the refusal.
 use libc::STDIN_FILENO;
 use libc::STDOUT_FILENO;
-use text::LONGEST_INPUT;
+use text::INPUT_ROOM;
 use text::LONGEST_LISTING;
-use text::list;
+use text::list_whole;
 
 fn main() {
-    // One byte more than the longest input shows that there are too many.
-    let mut input = [0u8; LONGEST_INPUT + 1];
-    let mut out = [0u8; LONGEST_LISTING];
+    let mut input = blank_input();
+    let mut out = blank_text();
     let got = io::read_full(STDIN_FILENO, &mut input);
-    let end = list(&input[..got], &mut out);
+    let end = list_whole(&input, got, &mut out);
     io::write_all(STDOUT_FILENO, &out[..end]);
+}
+
+// Both arrays are made apart, so that no proof looks at their zeros.
+fn blank_input() -> [u8; INPUT_ROOM] {
+    [0u8; INPUT_ROOM]
+}
+
+fn blank_text() -> [u8; LONGEST_LISTING] {
+    [0u8; LONGEST_LISTING]
 }

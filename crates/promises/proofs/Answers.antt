@@ -57,8 +57,12 @@ use Rattle.table.proofs.scan.Reads as scan
 use Rattle.table.proofs.check.Reads as check
 use Rattle.priority.proofs.number.Reads as number
 use Rattle.compile.proofs.compile.Reads as compile
+use Rattle.line.proofs.put_line.Reads as put-line
+use Rattle.line.proofs.put_head.Reads as put-head
+use Rattle.line.proofs.put_refusal.Reads as put-refusal
 use Rattle.text.proofs.list.Reads as list
-use Rattle.text.proofs.put_line.Reads as put-line
+use Rattle.text.proofs.list_whole.Reads as list-whole
+use Rattle.wire.proofs.low.Reads as low
 use Rattle.speed.proofs.speed_read.Reads as speed-read
 use Rattle.speed.proofs.speed_tree.Reads as speed-tree
 use Rattle.speed.proofs.speed_compile.Reads as speed-compile
@@ -249,12 +253,26 @@ number-one = fixed (λ κ a r s p. all (p .0) (p .1) (p .2))
 compile-one : OneAnswer compile.Pre compile.Post (λ κ r s. answerAnd r (now (s .1 .0)) (now (s .1 .1 .0)))
 compile-one = fixed (λ κ a r s p. all (p .answer) (p .table) (p .scratch))
 
+-- line
+put-line-one : OneAnswer put-line.Pre put-line.Post (λ κ r s. answerWith r (now (s .0)))
+put-line-one = fixed (λ κ a r s p. both (p .end) (p .bytes))
+
+put-head-one : OneAnswer put-head.Pre put-head.Post (λ κ r s. answerWith r (now (s .0)))
+put-head-one = fixed (λ κ a r s p. both (p .end) (p .bytes))
+
+put-refusal-one : OneAnswer put-refusal.Pre put-refusal.Post (λ κ r s. answerWith r (now (s .0)))
+put-refusal-one = fixed (λ κ a r s p. both (p .end) (p .bytes))
+
 -- text
 list-one : OneAnswer list.Pre list.Post (λ κ r s. answerWith r (now (s .1 .0)))
 list-one = fixed (λ κ a r s p. both (p .0 .end) (p .0 .bytes))
 
-put-line-one : OneAnswer put-line.Pre put-line.Post (λ κ r s. answerWith r (now (s .0)))
-put-line-one = fixed (λ κ a r s p. both (p .end) (p .bytes))
+list-whole-one : OneAnswer list-whole.Pre list-whole.Post (λ κ r s. answerWith r (now (s .1 .1 .0)))
+list-whole-one = fixed (λ κ a r s p. both (p .puts .end) (p .puts .bytes))
+
+-- wire
+low-one : OneAnswer low.Pre low.Post (λ κ r s. r)
+low-one = fixed (λ κ a r s p. p)
 
 -- speed
 speed-read-one : OneAnswer speed-read.Pre speed-read.Post (λ κ r s. r)

@@ -12,7 +12,7 @@ use Rattle.words.specs.Bytes.{wordsIn}
 use Rattle.compile.specs.Compile.{noRoom, answerOf, tableAfter}
 use Rattle.compile.specs.Theorems.{tableRows}
 use Rattle.compile.specs.declared.Compiled.the-variants.{Rows}
-use Rattle.text.specs.Text.{refusal}
+use Rattle.line.specs.Text.{refusal}
 use Rattle.text.specs.Listing.{wrongInput, rightInput, blank, fileText, listingOf}
 use Rattle.text.specs.Theorems.{ListedRows}
 use Rattle.promises.specs.Told.{between}

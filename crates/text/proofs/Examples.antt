@@ -13,7 +13,7 @@ use Rattle.policy.specs.Read.{countFault, cellsFault, atomFault, nodeFault, sec
 use Rattle.table.specs.Table.{rightLength, checkRows, checkOf}
 use Rattle.priority.specs.Numbering.{over, levelsOf, numberOf}
 use Rattle.compile.specs.Compile.{compiledRows, answerOf, tableAfter}
-use Rattle.text.specs.Text.{digits, decimal, number, value, address, matchText, actionText, line, head, refusal}
+use Rattle.line.specs.Text.{digits, decimal, number, value, address, matchText, actionText, line, head, refusal}
 use Rattle.text.specs.Listing.{rightInput, tableText, fileText, listingOf}
 use Rattle.text.specs.Theorems.{ExamplesListed}
 

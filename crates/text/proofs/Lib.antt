@@ -1,8 +1,5 @@
-pub mod Putting
 pub mod Turns
 pub mod Right
 pub mod Listed
-pub mod Lengths
-pub mod Numerals
 pub mod Lists
 pub mod Examples

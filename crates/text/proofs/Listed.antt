@@ -1,6 +1,5 @@
 -- What the parts of the listing put is the listing's text, answer by answer. Assumes nothing.
 use Prim.Native.Nat.{ℕ, _*_, _/_, _≤_}
-use Prim.Native.Char.{code}
 use native.Mathlib.Omega.{arith}
 use mathlib.Core.Path.{_≡_, sym, ap, ap₂, subst, _∙_}
 use mathlib.Core.Bool.{true, false, and-eq-true-iff}
@@ -13,10 +12,7 @@ use Rattle.words.specs.Words.{laid, copied}
 use Rattle.words.specs.Bytes.{wordBytes, wordsIn}
 use Rattle.words.proofs.Laid.{copied-fits, length-copied, length-laid, take-laid}
 use Rattle.words.proofs.Bytes.{length-words}
-use Rattle.action.specs.declared.Action.{Action}
-use Rattle.flow.specs.Match.{matchOf}
-use Rattle.flow.specs.declared.Match.{Match}
-use Rattle.row.specs.Row.{rowLength, mostRows, rowOf, rowAction}
+use Rattle.row.specs.Row.{rowLength, mostRows}
 use Rattle.table.specs.Table.{rowCount, rowsIn}
 use Rattle.table.proofs.Tables.{check-exactly}
 use Rattle.policy.specs.Numbers.{longestFile}
@@ -33,17 +29,11 @@ use Rattle.priority.specs.declared.Numbered.{Numbered}
 use Rattle.priority.specs.declared.Numbered.the-variants as numbered
 use Rattle.priority.proofs.After.{number-ready, priorities-left}
 use Rattle.priority.proofs.Whole.{priorities-many}
-use Rattle.text.specs.Text.{number, matchText, actionText, line, lines, head, refusal}
-use Rattle.text.specs.Puts.{Puts}
-use Rattle.text.specs.Listing.{wrongInput, room, rightInput, blank, tableText, fileText, listingOf}
-use Rattle.text.proofs.Putting.{_then_}
+use Rattle.line.specs.Text.{head, refusal}
+use Rattle.line.specs.Puts.{Puts}
+use Rattle.line.proofs.Putting.{_then_}
+use Rattle.text.specs.Listing.{wrongInput, room, longestInput, rightInput, lines, blank, tableText, fileText, listingOf}
 use Rattle.text.proofs.Right.{table-right}
-
--- a row's line
-pub line-put : (ws : List ℕ) (p : ℕ) {l l₁ l₂ l₃ : List ℕ} {a b c d : ℕ} (m : Match) (x : Action) → m ≡ matchOf ws → x ≡ rowAction ws
-    → Puts (number p (code " ")) l a l₁ b → Puts (matchText m) l₁ b l₂ c → Puts (actionText x) l₂ c l₃ d → Puts (line p (rowOf ws)) l a l₃ d
-unfolding line
-line-put ws k {l₁ = l₁} {l₂} {l₃} {b = b} {c} {d} m x e f p q r = p then subst (λ y. Puts (matchText y) l₁ b l₂ c) e q then subst (λ y. Puts (actionText y) l₂ c l₃ d) f r
 
 -- the words of an input, where it is right
 module _ (b : List ℕ) (right : rightInput b ≡ true) where
@@ -51,7 +41,7 @@ module _ (b : List ℕ) (right : rightInput b ≡ true) where
   unfolding rightInput
   input-fits =
       let h = simp and-eq-true-iff at right in
-      omega (arith, leb-true (length b) (wordBytes * longestFile) (h .1))
+      omega (arith, leb-true (length b) longestInput (h .1))
 
   pub input-words : (l l′ : List ℕ) → length l ≡ longestFile → l′ ≡ copied 0 (wordsIn b) l → take (length b / wordBytes) l′ ≡ wordsIn b
   input-words l l′ n e =

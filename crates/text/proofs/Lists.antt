@@ -1,15 +1,20 @@
 -- What is listed, by what the compile answers in blank buffers: its rows pass the table's check and fit the numbering's buffers, so the numbering refuses nothing.
 -- So no listing is longer than its bound. Assumes nothing.
-use Prim.Native.Nat.{ℕ, _*_, _≤_}
+use Prim.Native.Nat.{ℕ, _*_, _≤_, _<_}
 use native.Mathlib.Omega.{arith}
 use mathlib.Core.Path.{_≡_, refl, sym, ap, ap₂, _∙_}
-use mathlib.Core.List.{List}
+use mathlib.Core.Bool.{false, and-false}
+use mathlib.Core.List.{List, [], _∷_}
 use lib.ListN.{length, take, length-append, length-replicate}
-use borrow.Author.Tests.{le-leb}
-use Rattle.logic.proofs.Tests.{by-test}
+use lib.Seq.{take-all, length-take-le}
+use borrow.Author.Tests.{le-leb, lt-leb}
+use Rattle.logic.proofs.Tests.{by-test, by-le}
 use Rattle.words.specs.Bytes.{wordsIn}
 use Rattle.words.proofs.Laid.{take-laid}
 use Rattle.theory.specs.Number.{levelCount}
+use Rattle.theory.specs.Rows.{Row}
+use Rattle.flow.specs.declared.Match.{Match}
+use Rattle.action.specs.declared.Action.{Action}
 use Rattle.row.specs.Row.{rowLength}
 use Rattle.table.specs.Table.{rowCount, rowsIn}
 use Rattle.table.proofs.Tables.{check-exactly, length-rows}
@@ -21,12 +26,13 @@ use Rattle.compile.proofs.Answered.{answers-rows}
 use Rattle.priority.specs.Numbering.{levelsOf, prioritiesOf, numberOf}
 use Rattle.priority.specs.declared.Numbered.the-variants.{Priorities}
 use Rattle.priority.proofs.Whole.{priorities-many}
-use Rattle.text.specs.Text.{head, lines}
-use Rattle.text.specs.Puts.{stop}
-use Rattle.text.specs.Listing.{wrongInput, room, rightInput, blank, tableText, fileText, listingOf}
-use Rattle.text.specs.Theorems.{longestLine, longestListing, rowsText, ListsRows, ListsRefused, RefusedInput, NeverCut, WrittenWhole}
+use Rattle.line.specs.Text.{line, head}
+use Rattle.line.specs.Puts.{stop, Puts}
+use Rattle.text.specs.Listing.{wrongInput, room, longestInput, rightInput, lines, blank, tableText, fileText, listingOf, ListsWhole}
+use Rattle.line.specs.Theorems.{longestLine}
+use Rattle.text.specs.Theorems.{longestListing, rowsText, ListsRows, ListsRefused, RefusedInput, NeverCut, WrittenWhole, KnownByFirst}
+use Rattle.line.proofs.Lengths.{line-within, head-within, refusal-within}
 use Rattle.text.proofs.Right.{table-right}
-use Rattle.text.proofs.Lengths.{lines-long, head-long, refusal-long}
 
 -- the rows of a file, where the compile answers rows
 module _ (f : List ℕ) (n : ℕ) (e : answerOf f blank blank ≡ Rows n) where
@@ -56,22 +62,28 @@ pub refused-input : RefusedInput
 unfolding listingOf
 refused-input b e = rw e
 
+-- as many lines as rows, at most
+lines-within : (ps : List ℕ) (rs : List (Row Match Action)) → length (lines ps rs) ≤ longestLine * length rs
+lines-within [] rs = omega arith
+lines-within (p ∷ ps) [] = omega arith
+lines-within (p ∷ ps) (r ∷ rs) = omega (arith, length-append (line p r) (lines ps rs), line-within p r, lines-within ps rs)
+
 file-long : (f : List ℕ) → length (fileText f) ≤ longestListing
 file-long f = by-answer (answerOf f blank blank) refl
   where
     by-answer : (x : Compiled) → answerOf f blank blank ≡ x → length (fileText f) ≤ longestListing
     by-answer (Rows n) e =
         let t : List ℕ = tableRows n (tableAfter f blank blank) in
-        let h : length (head n (levelCount (levelsOf t))) ≤ longestLine = head-long n (levelCount (levelsOf t)) .is in
-        let k : length (lines (prioritiesOf t) (rowsIn t)) ≤ longestLine * length (rowsIn t) = lines-long (prioritiesOf t) (rowsIn t) .is in
+        let h : length (head n (levelCount (levelsOf t))) ≤ longestLine = head-within n (levelCount (levelsOf t)) in
+        let k : length (lines (prioritiesOf t) (rowsIn t)) ≤ longestLine * length (rowsIn t) = lines-within (prioritiesOf t) (rowsIn t) in
         rw (lists-rows f n e .text, length-append) (omega (arith, few f n e, lists-rows f n e .rows))
-    by-answer (Refused r) e = rw (lists-refused f r e) (omega (arith, refusal-long (r .number) (r .place) .is))
+    by-answer (Refused r) e = rw (lists-refused f r e) (omega (arith, refusal-within (r .number) (r .place)))
 
 pub never-cut : NeverCut
 unfolding listingOf
 never-cut b = by-test (rightInput b)
     (λ t. rw t (file-long (wordsIn b)))
-    (λ t. rw t (omega (arith, refusal-long wrongInput 0 .is)))
+    (λ t. rw t (omega (arith, refusal-within wrongInput 0)))
 
 pub written-whole : WrittenWhole
 unfolding stop
@@ -79,3 +91,30 @@ written-whole b l m r p h =
     let k : length (listingOf b) ≤ length l = omega (arith, never-cut b) in
     let e : r ≡ length (listingOf b) = omega (arith, p .end) in
     ap₂ take e (p .bytes) ∙ take-laid (listingOf b) l (length (listingOf b)) refl k
+
+-- an input that is too long is refused
+too-long : (b : List ℕ) → longestInput < length b → rightInput b ≡ false
+unfolding rightInput
+too-long b h = rw (lt-leb (length b) longestInput h, and-false)
+
+pub known-by-first : KnownByFirst
+unfolding listingOf
+known-by-first b n h =
+    by-le (length b) n
+    (λ k. ap listingOf (take-all n b k))
+    (λ k.
+    let e : length (take n b) ≡ n = length-take-le n b (omega arith) in
+    rw (too-long (take n b) (omega arith), too-long b (omega arith)))
+
+-- the first bytes of a slice that has no more are all of it
+pub first-listed : (n : ℕ) (b : List ℕ) {l m : List ℕ} {r : ℕ} → Puts (listingOf b) l 0 m r → length b ≤ n → Puts (listingOf (take n b)) l 0 m r
+first-listed n b p h = rw (take-all n b h) p
+
+-- arrays that are long enough, for the input and for its listing
+pub lists-whole : (array : List ℕ) (n : ℕ) {l m : List ℕ} {r : ℕ} → Puts (listingOf (take n array)) l 0 m r → r ≤ length m → longestInput < length array → longestListing ≤ length l
+    → ListsWhole array n l m r
+lists-whole array n {l} {m} {r} p w h k = record {
+  puts = p;
+  within = w;
+  whole = λ b e. written-whole (take n array) l m r p k ∙ ap listingOf (sym e) ∙ known-by-first b (length array) h;
+}

@@ -1,4 +1,2 @@
-pub mod Text
 pub mod Listing
-pub mod Puts
 pub mod Theorems

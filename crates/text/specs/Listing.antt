@@ -2,15 +2,22 @@
 --
 --   wrongInput          the number of an input that is no file
 --   room                the rows that the listing has room for
+--   longestInput        the bytes of the longest file
 --   rightInput b        whole words, and not more than the longest file has
+--   lines ps rs         rows, each with its priority
 --   tableText t         the listing of a table
 --   fileText f          the listing of a policy file
 --   listingOf b         the listing of an input
-use Prim.Native.Nat.{ℕ, _*_, _%_}
+--   ListsWhole a n l m r   m is l with the listing at its start, up to r: whole, of every input that was read into a
+use Prim.Native.Nat.{ℕ, _*_, _%_, _≤_}
+use mathlib.Core.Path.{_≡_}
 use mathlib.Core.Bool.{Bool, cond, _&&_}
-use mathlib.Core.List.{List, _++_}
+use mathlib.Core.List.{List, [], _∷_, _++_}
 use lib.Dec.{eqb, leb}
-use lib.ListN.{length, replicate}
+use lib.ListN.{length, replicate, take}
+use Rattle.theory.specs.Rows.{Row}
+use Rattle.flow.specs.declared.Match.{Match}
+use Rattle.action.specs.declared.Action.{Action}
 use Rattle.words.specs.Bytes.{wordBytes, wordsIn}
 use Rattle.row.specs.Row.{rowLength}
 use Rattle.table.specs.Table.{rowCount, rowsIn}
@@ -22,7 +29,8 @@ use Rattle.compile.specs.declared.Compiled.the-variants as compiled
 use Rattle.priority.specs.Numbering.{numberOf, prioritiesOf}
 use Rattle.priority.specs.declared.Numbered.{Numbered}
 use Rattle.priority.specs.declared.Numbered.the-variants as numbered
-use Rattle.text.specs.Text.{head, lines, refusal}
+use Rattle.line.specs.Text.{line, head, refusal}
+use Rattle.line.specs.Puts.{Puts}
 
 -- the number of an input that is not whole words, or too long
 abbrev pub wrongInput : ℕ
@@ -32,13 +40,23 @@ wrongInput = 18
 abbrev pub room : ℕ
 room = 1024
 
+-- the bytes of the longest file
+abbrev pub longestInput : ℕ
+longestInput = wordBytes * longestFile
+
 -- whole words, and not more than the longest file has
 unfoldable pub rightInput : List ℕ → Bool
-rightInput b = eqb (length b % wordBytes) 0 && leb (length b) (wordBytes * longestFile)
+rightInput b = eqb (length b % wordBytes) 0 && leb (length b) longestInput
 
 -- the table, and the scratch, before the compile
 abbrev pub blank : List ℕ
 blank = replicate (rowLength * room) 0
+
+-- rows in scan order, each with its priority
+abbrev pub lines : List ℕ → List (Row Match Action) → List ℕ
+lines [] rs = []
+lines (p ∷ ps) [] = []
+lines (p ∷ ps) (r ∷ rs) = line p r ++ lines ps rs
 
 -- what is shown of a table, by what the numbering answers
 abbrev pub numberedText : List ℕ → Numbered → List ℕ
@@ -61,3 +79,10 @@ fileText f = compiledText (tableAfter f blank blank) (answerOf f blank blank)
 -- THE LISTING, for every input
 unfoldable pub listingOf : List ℕ → List ℕ
 listingOf b = cond (rightInput b) (fileText (wordsIn b)) (refusal wrongInput 0)
+
+-- THE WHOLE LISTING OF WHAT WAS READ. An input, however long, was read until it ended or the array was full, and gave
+-- the array's first n bytes: its listing stands at the start of the buffer, and ends at r. Nothing of it is cut.
+pub record ListsWhole (array : List ℕ) (n : ℕ) (before after : List ℕ) (r : ℕ) : Type 0 where
+  pub puts : Puts (listingOf (take n array)) before 0 after r
+  pub within : r ≤ length after
+  pub whole : (input : List ℕ) → take (length array) input ≡ take n array → take r after ≡ listingOf input

@@ -1,25 +1,22 @@
 -- What is proved of the listing. A law of the same name in proofs/ proves each statement: never-cut proves NeverCut.
 --
---   longestLine, longestListing   no line, and no listing, has more bytes
+--   longestListing                no listing has more bytes
 --   rowsText n t                  the listing of a table t of n rows: the head, and a line for each row
 --   ListedRows f n t              the listing of the file f is that, and t has n rows and n priorities
---   reads ds                      the number that some digits are, the most significant first
---   Decimal n ds                  ds are digits that read as n, and no zero stands before another digit
 --   TableRight                    the rows that the compile leaves pass the table's check, with as many rows
 --   ListsRows                     where the compile answers rows, they are listed: the numbering refuses nothing
 --   ListsRefused                  where the compile refuses, its number and place are listed
 --   RefusedInput                  an input that is no file is 18 at place 0
 --   NeverCut                      no listing is longer than longestListing
 --   WrittenWhole                  so a buffer of so many bytes holds the whole text
---   DecimalReads                  a number of at most 20 digits is written so that it reads back
+--   KnownByFirst                  one byte more than the longest input has tells what is listed
 --   ExamplesListed                the text of each of some examples
-use Prim.Native.Nat.{ℕ, _+_, _-_, _*_, _^_, _≤_, _<_}
-use Prim.Native.Char.{code}
+use Prim.Native.Nat.{ℕ, _+_, _*_, _≤_, _<_}
 use Prim.Native.String.{String}
 use mathlib.Core.Path.{_≡_}
 use mathlib.Core.Bool.{false}
 use mathlib.Core.List.{List, [], _∷_, _++_}
-use lib.ListN.{length, getD, take}
+use lib.ListN.{length, take}
 use Rattle.words.specs.Records.{flat}
 use Rattle.words.specs.Bytes.{bytesOf}
 use Rattle.theory.specs.Number.{levelCount}
@@ -32,13 +29,10 @@ use Rattle.compile.specs.Compile.{answerOf, tableAfter}
 use Rattle.compile.specs.Theorems.{tableRows}
 use Rattle.compile.specs.declared.Compiled.the-variants.{Rows, Refused}
 use Rattle.priority.specs.Numbering.{levelsOf, prioritiesOf}
-use Rattle.text.specs.Text.{ascii, mostDigits, decimal, head, lines, refusal}
-use Rattle.text.specs.Puts.{Puts}
-use Rattle.text.specs.Listing.{wrongInput, room, rightInput, blank, fileText, listingOf}
-
--- no line is longer
-abbrev pub longestLine : ℕ
-longestLine = 340
+use Rattle.line.specs.Text.{ascii, head, refusal}
+use Rattle.line.specs.Puts.{Puts}
+use Rattle.line.specs.Theorems.{longestLine}
+use Rattle.text.specs.Listing.{wrongInput, room, longestInput, rightInput, lines, blank, fileText, listingOf}
 
 -- no listing is longer than so many lines: the head, and one for each row
 abbrev pub longestListing : ℕ
@@ -78,25 +72,9 @@ NeverCut = (b : List ℕ) → length (listingOf b) ≤ longestListing
 abbrev pub WrittenWhole : Type 0
 WrittenWhole = (b l m : List ℕ) (r : ℕ) → Puts (listingOf b) l 0 m r → longestListing ≤ length l → take r m ≡ listingOf b
 
--- digits read from the first on, behind a number that was read before them
-abbrev pub readsOn : ℕ → List ℕ → ℕ
-readsOn n [] = n
-readsOn n (d ∷ ds) = readsOn (n * 10 + (d - code "0")) ds
-
--- the number that some digits are
-abbrev pub reads : List ℕ → ℕ
-reads ds = readsOn 0 ds
-
--- digits of a number, without a needless zero
-pub record Decimal (n : ℕ) (ds : List ℕ) : Type 0 where
-  pub same : reads ds ≡ n
-  pub every : (i : ℕ) → i < length ds → (code "0" ≤ getD ds i 0) × (getD ds i 0 ≤ code "9")
-  pub first : 1 < length ds → code "0" < getD ds 0 0
-  pub some : 0 < length ds
-
--- EVERY NUMBER OF AT MOST 20 DIGITS READS BACK
-abbrev pub DecimalReads : Type 0
-DecimalReads = (n : ℕ) → n < 10 ^ mostDigits → Decimal n (decimal n)
+-- an input is known by its first bytes, if they are one more than the longest has: what is longer is refused
+abbrev pub KnownByFirst : Type 0
+KnownByFirst = (b : List ℕ) (n : ℕ) → longestInput < n → listingOf (take n b) ≡ listingOf b
 
 -- an input, and what is listed of it
 pub record Example : Type 0 where

@@ -1,28 +1,21 @@
 // The listing: the bytes of a policy file in, the text of its rows and priorities out.
 ghost use mathlib.Core.Path.{_≡_};
 ghost use Prim.Native.Nat.{_≤_};
-ghost use lib.ListN.{length};
-ghost use Rattle.row.specs.Row.{rowOf};
+ghost use lib.ListN.{length, take};
 ghost use Rattle.table.specs.Table.{rowCount, rowsIn};
-ghost use Rattle.text.specs.Text.{line, lines, head, refusal};
-ghost use Rattle.text.specs.Puts.{Puts};
-ghost use Rattle.text.specs.Listing.{rightInput, tableText, fileText, listingOf};
+ghost use Rattle.line.specs.Puts.{Puts};
+ghost use Rattle.text.specs.Listing.{rightInput, lines, tableText, fileText, listingOf, ListsWhole};
 use compile::Compiled;
 use compile::compile;
-use flow::read_match;
+use line::put_head;
+use line::put_line;
+use line::put_refusal;
 use policy::LONGEST_FILE;
 use priority::Numbered;
 use priority::number;
-use put::put;
-use put::put_action;
-use put::put_match;
-use put::put_number;
 use row::ROW_WORDS;
-use row::row_action;
 use words::WORD_BYTES;
 use words::from_bytes;
-
-mod put;
 
 // The number of the refusal: bytes that are not whole words, or too many.
 pub const WRONG_INPUT: u32 = 18;
@@ -32,6 +25,9 @@ pub const ROOM: usize = 1024;
 
 // How many bytes the longest input has.
 pub const LONGEST_INPUT: usize = WORD_BYTES * LONGEST_FILE;
+
+// How many bytes a program reads into: one more than the longest input has shows that there are too many.
+pub const INPUT_ROOM: usize = LONGEST_INPUT + 1;
 
 // No line is longer than this, and no listing longer than so many lines.
 const LONGEST_LINE: usize = 340;
@@ -51,13 +47,23 @@ pub fn list(input: &[u8], out: &mut [u8]) -> usize
     put_refusal(out, WRONG_INPUT, 0)
 }
 
-// Puts the line of a row of a priority into a buffer from a place on, and answers where it ends.
-pub fn put_line(out: &mut [u8], at: usize, priority: u32, row: &[u32]) -> usize
-    ensures { λ r. ⌜ Puts (line priority (rowOf (now (row .entry)))) (now (out .entry)) at (now (out .exit)) r ⌝ }
+// The same for a program that reads its input into an array, until it is full or the input ends: the whole listing of the
+// whole input, however long, of which so many bytes were read.
+pub fn list_whole(input: &[u8; INPUT_ROOM], got: usize, out: &mut [u8; LONGEST_LISTING]) -> usize
+    ensures { λ r. ⌜ ListsWhole (now (input .entry)) got (now (out .entry)) (now (out .exit)) r ⌝ }
 {
-    let a = put_number(out, at, priority as usize, b' ');
-    let b = put_match(out, a, read_match(row));
-    put_action(out, b, row_action(row))
+    list_first(input, got, out)
+}
+
+// The listing of the first bytes of a slice, or of all of them.
+fn list_first(input: &[u8], n: usize, out: &mut [u8]) -> usize
+    ensures { λ r. ⌜ Puts (listingOf (take n (now (input .entry)))) (now (out .entry)) 0 (now (out .exit)) r ⌝ }
+    ensures { λ r. ⌜ r ≤ length (now (out .exit)) ⌝ }
+{
+    if n < input.len() {
+        return list(&input[..n], out);
+    }
+    list(input, out)
 }
 
 // The listing of a policy file.
@@ -89,16 +95,6 @@ fn list_table(table: &[u32], out: &mut [u8]) -> usize
     }
 }
 
-// The first line: how many rows and how many priorities there are.
-fn put_head(out: &mut [u8], rows: usize, priorities: u32) -> usize
-    ensures { λ r. ⌜ Puts (head rows priorities) (now (out .entry)) 0 (now (out .exit)) r ⌝ }
-{
-    let a = put(out, 0, b"rows ");
-    let b = put_number(out, a, rows, b' ');
-    let c = put(out, b, b"priorities ");
-    put_number(out, c, priorities as usize, b'\n')
-}
-
 // A line for each row, with its priority.
 fn put_lines(out: &mut [u8], at: usize, priorities: &[u32], table: &[u32]) -> usize
     requires { ⌜ length (now priorities) ≡ rowCount (now table) ⌝ }
@@ -114,15 +110,6 @@ fn put_lines(out: &mut [u8], at: usize, priorities: &[u32], table: &[u32]) -> us
         i += 1;
     }
     to
-}
-
-// The only line of a refusal.
-fn put_refusal(out: &mut [u8], number: u32, place: usize) -> usize
-    ensures { λ r. ⌜ Puts (refusal number place) (now (out .entry)) 0 (now (out .exit)) r ⌝ }
-{
-    let a = put(out, 0, b"refused ");
-    let b = put_number(out, a, number as usize, b' ');
-    put_number(out, b, place, b'\n')
 }
 
 // Whether an input is whole words, and not longer than the longest file.

@@ -2,7 +2,7 @@
 -- Assumes nothing.
 use mathlib.Core.Path.{sym, _∙_, refl}
 use lib.Seq.{length-take-le}
-use Rattle.text.proofs.Putting.{puts-within}
+use Rattle.line.proofs.Putting.{puts-within}
 use Rattle.text.proofs.Listed.{input-words, input-within, input-listed, input-refused}
 use borrow.Author.Needs.{needs}
 use Rattle.text.proofs.list.Statement.{statement}

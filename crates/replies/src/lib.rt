@@ -1,0 +1,89 @@
+// The answer of each call, written as words: number and place, for a policy file the law and three actions too, then
+// the values. A success has zeros for its number, a refusal for its values. What they look like stands in tests/README.md.
+// Each function answers whether all could be written.
+use action::Action;
+use action::Law;
+use compile::Compiled;
+use policy::Reading;
+use policy::Refusal;
+use priority::Numbered;
+use table::Scanned;
+use tree::Evaluated;
+use wire::give;
+use wire::low;
+
+// What was read of a file: its three counts.
+pub fn give_reading(reading: Reading) -> bool {
+    match reading {
+        Reading::Accepted(layout) => {
+            let operators = low(layout.operators);
+            let atoms = low(layout.atoms);
+            let nodes = low(layout.nodes);
+            give_success() & give(&[operators, atoms, nodes])
+        }
+        Reading::Refused(refusal) => give_refusal(refusal) & give(&[0, 0, 0]),
+    }
+}
+
+// The tree's action.
+pub fn give_evaluated(evaluated: Evaluated) -> bool {
+    match evaluated {
+        Evaluated::Gives(action) => give_success() & give_action(action),
+        Evaluated::Refused(refusal) => give_refusal(refusal) & give_action(Action::DONT_CARE),
+    }
+}
+
+// What the scan found: the action, and how many rows were tried.
+pub fn give_scanned(scanned: Scanned) -> bool {
+    match scanned {
+        Scanned::Found { action, tried } => {
+            give(&[0, 0, action::kind(action), action::rate(action), low(tried)])
+        }
+        Scanned::Refused { number, place } => give(&[number, low(place), 0, 0, 0]),
+    }
+}
+
+// How many rows the compile made.
+pub fn give_compiled(compiled: Compiled) -> bool {
+    match compiled {
+        Compiled::Rows(rows) => give_success() & give(&[low(rows)]),
+        Compiled::Refused(refusal) => give_refusal(refusal) & give(&[0]),
+    }
+}
+
+// How many priorities the numbering used.
+pub fn give_numbered(numbered: Numbered) -> bool {
+    match numbered {
+        Numbered::Priorities(count) => give(&[0, 0, count]),
+        Numbered::Refused { number, place } => give(&[number, low(place), 0]),
+    }
+}
+
+// The nine words of a refusal.
+fn give_refusal(refusal: Refusal) -> bool {
+    let number = refusal.number;
+    let place = low(refusal.place);
+    let broken = refusal.law;
+    let law = law_number(broken);
+    let first = refusal.first;
+    let second = refusal.second;
+    let third = refusal.third;
+    give(&[number, place, law]) & give_action(first) & give_action(second) & give_action(third)
+}
+
+// The nine words of an answer that is no refusal.
+fn give_success() -> bool {
+    give(&[0, 0, 0, 0, 0, 0, 0, 0, 0])
+}
+
+fn give_action(a: Action) -> bool {
+    give(&[action::kind(a), action::rate(a)])
+}
+
+fn law_number(law: Law) -> u32 {
+    match law {
+        Law::Unnamed => 0,
+        Law::Commutativity => 1,
+        Law::Associativity => 2,
+    }
+}
