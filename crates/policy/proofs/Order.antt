@@ -14,7 +14,8 @@ use Rattle.words.proofs.Records.{length-records}
 use Rattle.row.specs.Row.{rightRowMatch, rightRowAction}
 use Rattle.action.specs.Operator.{rightCell}
 use Rattle.policy.specs.Numbers.{operatorLength, nodeLength, mostAtoms, mostChildren, wrongCell, wrongNode, extraWords, noTree, wrongSum, lawBroken}
-use Rattle.policy.specs.Read.{plain, unless, each, recordLength, least, most, countFault, cellsFrom, cellsFault, atomFault, nodeFault, recordFault, sectionFault}
+use Rattle.policy.specs.Read.{plain, unless, each, recordLength, least, most}
+use Rattle.policy.specs.Read.{countFault, cellsFrom, cellsFault, atomFault, nodeFault, recordFault, sectionFault}
 use Rattle.policy.specs.Read.{innerOf, parentOf, siblingOf, ownOf, childrenOf, shape, shapeFault, ownAtoms, sumFault, lawsFrom}
 use Rattle.policy.specs.Read.{atomsAt, nodesAt, endOf, operatorRecords, nodeRecords, stages, layout, answer, readOf, numbered}
 use Rattle.policy.specs.Steps.{fromStage}

@@ -1,4 +1,4 @@
--- What is proved of reading. Each statement is proved in proofs/ under the name given behind it.
+-- What is proved of reading, but for the order of its refusals, which stands in Order.antt. Each statement is proved in proofs/ under the name given behind it.
 use Prim.Native.Nat.{ℕ, _≤_, _<_}
 use mathlib.Core.Path.{_≡_}
 use mathlib.Core.Bool.{true}
