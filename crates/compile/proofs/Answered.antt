@@ -1,5 +1,4 @@
--- What the compile's answer tells: for room exactly when it must be, the rows where nothing is short, and of a success that its rows are right and stand in the
--- table. Assumes nothing.
+-- What the answer tells: 12 exactly where the rows outnumber the room, rows where nothing is short, and those right and in the table. Assumes nothing.
 use Prim.Native.Nat.{ℕ, suc, _+_, _*_, _-_, _<_}
 use native.Mathlib.Omega.{arith}
 use mathlib.Core.Path.{_≡_, refl, sym, ap, ap₂, subst, _∙_}
