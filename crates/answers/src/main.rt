@@ -1,12 +1,11 @@
 // Answers calls: reads them from standard input, and writes each answer with every buffer that was lent for writing.
 // What a call and its answer look like stands in tests/README.md.
-use replies::give_compiled;
-use replies::give_evaluated;
-use replies::give_numbered;
-use replies::give_reading;
-use replies::give_scanned;
+use replies::reply_action;
+use replies::reply_compile;
+use replies::reply_number;
+use replies::reply_read;
+use replies::reply_scan;
 use text::LONGEST_LISTING;
-use wire::give;
 use wire::give_bytes;
 use wire::take_bytes;
 use wire::take_slice;
@@ -74,7 +73,7 @@ fn answer_read(file: &mut [u32]) -> bool {
     if !f.whole {
         return false;
     }
-    give_reading(policy::read(&file[..f.count]))
+    reply_read(&file[..f.count])
 }
 
 fn answer_action(file: &mut [u32], packet: &mut [u32]) -> bool {
@@ -82,7 +81,7 @@ fn answer_action(file: &mut [u32], packet: &mut [u32]) -> bool {
     if !t.whole {
         return false;
     }
-    give_evaluated(tree::tree_action(&file[..t.first], &packet[..t.second]))
+    reply_action(&file[..t.first], &packet[..t.second])
 }
 
 fn answer_compile(file: &mut [u32], table: &mut [u32], scratch: &mut [u32]) -> bool {
@@ -90,16 +89,11 @@ fn answer_compile(file: &mut [u32], table: &mut [u32], scratch: &mut [u32]) -> b
     if !t.whole {
         return false;
     }
-    compile_within(
+    reply_compile(
         &file[..t.first],
         &mut table[..t.second],
         &mut scratch[..t.third],
     )
-}
-
-fn compile_within(file: &[u32], table: &mut [u32], scratch: &mut [u32]) -> bool {
-    let compiled = compile::compile(file, table, scratch);
-    give_compiled(compiled) & give(table) & give(scratch)
 }
 
 fn answer_scan(table: &mut [u32], packet: &mut [u32]) -> bool {
@@ -107,7 +101,7 @@ fn answer_scan(table: &mut [u32], packet: &mut [u32]) -> bool {
     if !t.whole {
         return false;
     }
-    give_scanned(table::scan(&table[..t.first], &packet[..t.second]))
+    reply_scan(&table[..t.first], &packet[..t.second])
 }
 
 fn answer_number(table: &mut [u32], priorities: &mut [u32], chain: &mut [u32]) -> bool {
@@ -115,16 +109,11 @@ fn answer_number(table: &mut [u32], priorities: &mut [u32], chain: &mut [u32]) -
     if !t.whole {
         return false;
     }
-    number_within(
+    reply_number(
         &table[..t.first],
         &mut priorities[..t.second],
         &mut chain[..t.third],
     )
-}
-
-fn number_within(table: &[u32], priorities: &mut [u32], chain: &mut [u32]) -> bool {
-    let numbered = priority::number(table, priorities, chain);
-    give_numbered(numbered) & give(priorities) & give(chain)
 }
 
 fn answer_list(words: &mut [u32]) -> bool {

@@ -2,7 +2,9 @@
 use libc::STDIN_FILENO;
 use libc::STDOUT_FILENO;
 use text::INPUT_ROOM;
+use text::InputBytes;
 use text::LONGEST_LISTING;
+use text::ListingBytes;
 use text::list_whole;
 
 fn main() {
@@ -14,10 +16,10 @@ fn main() {
 }
 
 // Both arrays are made apart, so that no proof looks at their zeros.
-fn blank_input() -> [u8; INPUT_ROOM] {
+fn blank_input() -> InputBytes {
     [0u8; INPUT_ROOM]
 }
 
-fn blank_text() -> [u8; LONGEST_LISTING] {
+fn blank_text() -> ListingBytes {
     [0u8; LONGEST_LISTING]
 }

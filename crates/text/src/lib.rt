@@ -34,6 +34,11 @@ const LONGEST_LINE: usize = 340;
 
 pub const LONGEST_LISTING: usize = LONGEST_LINE * (ROOM + 1);
 
+// What a program reads its input into, and what it writes the listing from.
+pub type InputBytes = [u8; INPUT_ROOM];
+
+pub type ListingBytes = [u8; LONGEST_LISTING];
+
 // Puts the listing of an input at the start of a buffer, and answers where it ends. It is cut where the buffer ends.
 pub fn list(input: &[u8], out: &mut [u8]) -> usize
     ensures { λ r. ⌜ Puts (listingOf (now (input .entry))) (now (out .entry)) 0 (now (out .exit)) r ⌝ }
@@ -47,9 +52,9 @@ pub fn list(input: &[u8], out: &mut [u8]) -> usize
     put_refusal(out, WRONG_INPUT, 0)
 }
 
-// The same for a program that reads its input into an array, until it is full or the input ends: the whole listing of the
-// whole input, however long, of which so many bytes were read.
-pub fn list_whole(input: &[u8; INPUT_ROOM], got: usize, out: &mut [u8; LONGEST_LISTING]) -> usize
+// The same for a program that reads its input into an array, until it is full or the input ends: the whole listing of
+// the whole input, however long, of which so many bytes were read.
+pub fn list_whole(input: &InputBytes, got: usize, out: &mut ListingBytes) -> usize
     ensures { λ r. ⌜ ListsWhole (now (input .entry)) got (now (out .entry)) (now (out .exit)) r ⌝ }
 {
     list_first(input, got, out)
