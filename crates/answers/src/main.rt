@@ -1,16 +1,13 @@
 // Answers calls: reads them from standard input, and writes each answer with every buffer that was lent for writing.
 // What a call and its answer look like stands in tests/README.md.
-use replies::reply_action;
-use replies::reply_compile;
-use replies::reply_number;
-use replies::reply_read;
-use replies::reply_scan;
+use calls::call_action;
+use calls::call_compile;
+use calls::call_number;
+use calls::call_read;
+use calls::call_scan;
 use text::LONGEST_LISTING;
 use wire::give_bytes;
 use wire::take_bytes;
-use wire::take_slice;
-use wire::take_three;
-use wire::take_two;
 use wire::take_word;
 
 // The numbers of the calls.
@@ -58,62 +55,14 @@ fn answer(a: &mut Words, b: &mut Words, c: &mut Words) -> bool {
     }
     let number = call.word;
     match number {
-        READ => answer_read(a),
-        TREE_ACTION => answer_action(a, b),
-        COMPILE => answer_compile(a, b, c),
-        SCAN => answer_scan(a, b),
-        NUMBER => answer_number(a, b, c),
+        READ => call_read(a),
+        TREE_ACTION => call_action(a, b),
+        COMPILE => call_compile(a, b, c),
+        SCAN => call_scan(a, b),
+        NUMBER => call_number(a, b, c),
         LIST => answer_list(a),
         _ => false,
     }
-}
-
-fn answer_read(file: &mut [u32]) -> bool {
-    let f = take_slice(file);
-    if !f.whole {
-        return false;
-    }
-    reply_read(&file[..f.count])
-}
-
-fn answer_action(file: &mut [u32], packet: &mut [u32]) -> bool {
-    let t = take_two(file, packet);
-    if !t.whole {
-        return false;
-    }
-    reply_action(&file[..t.first], &packet[..t.second])
-}
-
-fn answer_compile(file: &mut [u32], table: &mut [u32], scratch: &mut [u32]) -> bool {
-    let t = take_three(file, table, scratch);
-    if !t.whole {
-        return false;
-    }
-    reply_compile(
-        &file[..t.first],
-        &mut table[..t.second],
-        &mut scratch[..t.third],
-    )
-}
-
-fn answer_scan(table: &mut [u32], packet: &mut [u32]) -> bool {
-    let t = take_two(table, packet);
-    if !t.whole {
-        return false;
-    }
-    reply_scan(&table[..t.first], &packet[..t.second])
-}
-
-fn answer_number(table: &mut [u32], priorities: &mut [u32], chain: &mut [u32]) -> bool {
-    let t = take_three(table, priorities, chain);
-    if !t.whole {
-        return false;
-    }
-    reply_number(
-        &table[..t.first],
-        &mut priorities[..t.second],
-        &mut chain[..t.third],
-    )
 }
 
 fn answer_list(words: &mut [u32]) -> bool {
