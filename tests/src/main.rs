@@ -142,6 +142,10 @@ fn test_model(options: &Options) -> bool {
             println!("FAILED: {cells:?} breaks a law that the search does not see");
             return false;
         }
+        if let Some(fault) = laws::sample_fault(seed) {
+            println!("FAILED: {fault}");
+            return false;
+        }
     }
     println!("the model holds");
     true

@@ -14,7 +14,7 @@ use crate::policies::Draft;
 use crate::program::{Difference, Program};
 use crate::properties;
 use crate::random::Random;
-use crate::stock::{count, operator, Stock};
+use crate::stock::{all, operator, sample_size, Stock};
 use crate::tally::Tally;
 
 const THREADS: usize = 2;
@@ -27,11 +27,15 @@ const BIG_PARTS: usize = 14;
 const TABLES: usize = 150;
 const PROPERTY_PARTS: usize = 8;
 const OPERATORS: usize = 32_768;
+/// The stream of the sample of operators, which no other part comes to.
+const SAMPLE: usize = usize::MAX;
 
 enum Part {
     Known,
     /// Operators from one index up to another, named as inner and sibling.
     Operators(usize, usize),
+    /// A sample of operators, named as inner and sibling.
+    Sample(u64),
     Small(u64, usize, usize),
     Big(u64, usize),
     Properties(u64, usize),
@@ -64,10 +68,12 @@ impl Plan {
             let small = (0..each.div_ceil(SMALL))
                 .map(|part| Part::Small(seed, part, SMALL.min(each - part * SMALL)));
             plan.parts.extend(big.chain(small));
+            plan.parts.push(Part::Sample(seed));
         }
-        let all = count(NEWEST);
-        let part = |from: usize| Part::Operators(from, all.min(from + OPERATORS));
-        plan.parts.extend((0..all).step_by(OPERATORS).map(part));
+        if let Some(all) = all(NEWEST) {
+            let part = |from: usize| Part::Operators(from, all.min(from + OPERATORS));
+            plan.parts.extend((0..all).step_by(OPERATORS).map(part));
+        }
         plan
     }
 }
@@ -116,6 +122,11 @@ fn run_part(
         Part::Known => return run_known(program, tally),
         Part::Operators(from, to) => {
             let operators = (from..to).map(|index| operator(NEWEST, index));
+            operators.map(operator_call).collect()
+        }
+        Part::Sample(seed) => {
+            let mut random = maker(seed, SAMPLE).random;
+            let operators = (0..sample_size(NEWEST)).map(|_| stock.sampled(&mut random));
             operators.map(operator_call).collect()
         }
         Part::Small(seed, part, count) => {
