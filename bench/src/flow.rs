@@ -2,11 +2,11 @@
 
 /// A packet's values in the order of its words; a match has them at the same places.
 pub const IN_PORT: usize = 0;
-pub const SOURCE: usize = 1;
-pub const DESTINATION: usize = 2;
-pub const PROTOCOL: usize = 3;
-pub const SOURCE_PORT: usize = 4;
-pub const DESTINATION_PORT: usize = 5;
+pub const SOURCE: usize = IN_PORT + 1;
+pub const DESTINATION: usize = SOURCE + 1;
+pub const PROTOCOL: usize = DESTINATION + 1;
+pub const SOURCE_PORT: usize = PROTOCOL + 1;
+pub const DESTINATION_PORT: usize = SOURCE_PORT + 1;
 pub const PACKET_WORDS: usize = DESTINATION_PORT + 1;
 
 /// Behind them in a match, and behind that a row's action.
@@ -35,7 +35,16 @@ const PROTOCOLS: u32 = 256;
 pub const PREFIXES: [(usize, usize); 2] = [(SOURCE, SOURCE_LENGTH), (DESTINATION, DESTINATION_LENGTH)];
 const ADDRESS_BITS: u32 = 32;
 
+/// The flag of the empty match, and those of the values together.
 const EMPTY: u32 = 16;
+const CONSTRAINED: u32 = {
+    let (mut flags, mut i) = (0, 0);
+    while i < VALUES.len() {
+        flags |= VALUES[i].1;
+        i += 1;
+    }
+    flags
+};
 
 pub fn is_empty(m: &Row) -> bool {
     m[FLAGS] & EMPTY != 0
@@ -78,7 +87,7 @@ pub fn right_match(m: &Row) -> bool {
     if m[FLAGS] == EMPTY {
         return m[..FLAGS].iter().all(|&w| w == 0);
     }
-    m[FLAGS] < EMPTY
+    m[FLAGS] & !CONSTRAINED == 0
         && VALUES
             .iter()
             .all(|&(at, flag, limit)| m[at] < limit && (m[FLAGS] & flag != 0 || m[at] == 0))

@@ -29,6 +29,14 @@ const TENANT_LISTING: &str = "rows 3 priorities 3\n\
     2 * 0.0.0.0/0 10.7.0.0/16 * * * deny\n\
     1 * 0.0.0.0/0 10.7.3.9/32 * * * gmb 40000\n";
 
+/// Rows of the first edition, word for word: all values constrained, and one
+/// pair of numbers and another, which tells the flags apart.
+const ROWS: [[u32; Edition::First.atom_words()]; 3] = [
+    [7, 167772160, 168230912, 6, 80, 443, 8, 16, 15, 3, 40000],
+    [7, 167772160, 168230912, 6, 0, 0, 8, 16, 3, 1, 0],
+    [7, 167772160, 168230912, 0, 80, 0, 8, 16, 5, 2, 0],
+];
+
 /// Commutative, but not associative.
 const UNLAWFUL: [u32; NEWEST.operator_words()] = [1, 1, 4, 1, 2, 2, 3, 2, 5];
 
@@ -42,13 +50,43 @@ const ANY_PACKET: Packet = Packet {
 };
 
 pub fn cases() -> Vec<Known> {
-    assert_eq!(tenant_draft(Edition::First).words(), TENANT);
+    written_as_it_must_be();
     let mut cases = operators();
     cases.extend(one_empty_node());
     cases.extend(tenant());
     cases.extend(laws());
     cases.extend(empty_file());
     cases
+}
+
+/// What is built by name is written as it stands above.
+fn written_as_it_must_be() {
+    assert_eq!(tenant_draft(Edition::First).words(), TENANT);
+    let addresses = Match {
+        in_port: Prefix::exactly(7),
+        source: Prefix::of(167772160, 8),
+        destination: Prefix::of(168230912, 16),
+        ..Match::default()
+    };
+    let of_protocol = Match {
+        protocol: Prefix::exactly(6),
+        ..addresses
+    };
+    let from_port = Match {
+        source_port: Prefix::exactly(80),
+        ..addresses
+    };
+    let all = Match {
+        source_port: Prefix::exactly(80),
+        destination_port: Prefix::exactly(443),
+        ..of_protocol
+    };
+    let rows = [
+        all.raw(Gmb(40000)),
+        of_protocol.raw(Allow),
+        from_port.raw(Deny),
+    ];
+    assert_eq!(rows.map(|row| row.words(Edition::First)), ROWS);
 }
 
 /// An atom for the destinations of a prefix.
