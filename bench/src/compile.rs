@@ -1,10 +1,10 @@
 //! The compile, within the lent buffers.
 
 use crate::action::{self, Cells, join, right_action, row_action};
-use crate::flow::{self, ROW_WORDS, Row, is_empty, overlap};
+use crate::flow::{self, KIND, ROW_WORDS, Row, is_empty, overlap};
+use crate::numbers;
 use crate::policy::{self, CHILDREN, INNER, OWN, PARENT, Policy, Refusal, SIBLING};
-
-const MOST_ROWS: usize = 4096;
+use crate::table::MOST_ROWS;
 
 /// There is no room.
 struct Full;
@@ -14,7 +14,7 @@ pub fn compile(file: &[u32], table: &mut [u32], scratch: &mut [u32]) -> Result<u
     let left = policy::read(file)?;
     let room = (table.len() / ROW_WORDS).min(MOST_ROWS);
     if scratch.len() < ROW_WORDS * room {
-        return Err(policy::refusal(13, 0));
+        return Err(policy::refusal(numbers::SCRATCH, 0));
     }
     let mut build = Build {
         left,
@@ -25,11 +25,11 @@ pub fn compile(file: &[u32], table: &mut [u32], scratch: &mut [u32]) -> Result<u
     scratch.fill(0);
     let Ok(rows) = built else {
         table.fill(0);
-        return Err(policy::refusal(12, 0));
+        return Err(policy::refusal(numbers::ROOM, 0));
     };
     if !table.as_chunks().0[..rows].iter().all(right_action) {
         table.fill(0);
-        return Err(policy::refusal(14, 0));
+        return Err(policy::refusal(numbers::RATE, 0));
     }
     table[ROW_WORDS * rows..].fill(0);
     Ok(rows)
@@ -104,7 +104,7 @@ fn common_with(cells: &Cells, left: &Row, table: &[Row], out: &mut [Row], mut ma
             let row = out.get_mut(made).ok_or(Full)?;
             *row = flow::common(left, right);
             let joined = join(cells, row_action(left), row_action(right));
-            row[9..].copy_from_slice(&action::words(joined));
+            row[KIND..].copy_from_slice(&action::words(joined));
             made += 1;
         }
     }

@@ -1,30 +1,50 @@
 //! Packets and matches.
 
-pub const ROW_WORDS: usize = 11;
+/// A packet's values in the order of its words; a match has them at the same places.
+pub const IN_PORT: usize = 0;
+pub const SOURCE: usize = IN_PORT + 1;
+pub const DESTINATION: usize = SOURCE + 1;
+pub const PROTOCOL: usize = DESTINATION + 1;
+pub const SOURCE_PORT: usize = PROTOCOL + 1;
+pub const DESTINATION_PORT: usize = SOURCE_PORT + 1;
+pub const PACKET_WORDS: usize = DESTINATION_PORT + 1;
+
+/// Behind them in a match, and behind that a row's action.
+pub const SOURCE_LENGTH: usize = PACKET_WORDS;
+pub const DESTINATION_LENGTH: usize = PACKET_WORDS + 1;
+pub const FLAGS: usize = PACKET_WORDS + 2;
+pub const KIND: usize = FLAGS + 1;
+pub const RATE: usize = KIND + 1;
+pub const ROW_WORDS: usize = RATE + 1;
 
 /// An atom or a row: a match, then an action's kind and rate.
 pub type Row = [u32; ROW_WORDS];
-pub type Packet = [u32; 6];
-
-const IN_PORT: usize = 0;
-const SOURCE: usize = 1;
-const DESTINATION: usize = 2;
-const PROTOCOL: usize = 3;
-const SOURCE_PORT: usize = 4;
-const DESTINATION_PORT: usize = 5;
-const SOURCE_LENGTH: usize = 6;
-const DESTINATION_LENGTH: usize = 7;
-const FLAGS: usize = 8;
+pub type Packet = [u32; PACKET_WORDS];
 
 /// Where a value stands, the flag that says it is constrained, and its limit.
-const VALUES: [(usize, u32, u32); 4] = [
-    (IN_PORT, 1, 65536),
-    (PROTOCOL, 2, 256),
-    (SOURCE_PORT, 4, 65536),
-    (DESTINATION_PORT, 8, 65536),
+pub const VALUES: [(usize, u32, u32); 4] = [
+    (IN_PORT, 1, PORTS),
+    (PROTOCOL, 2, PROTOCOLS),
+    (SOURCE_PORT, 4, PORTS),
+    (DESTINATION_PORT, 8, PORTS),
 ];
+const PORTS: u32 = 65536;
+const PROTOCOLS: u32 = 256;
 
+/// Where an address stands, and where its prefix length.
+pub const PREFIXES: [(usize, usize); 2] = [(SOURCE, SOURCE_LENGTH), (DESTINATION, DESTINATION_LENGTH)];
+const ADDRESS_BITS: u32 = 32;
+
+/// The flag of the empty match, and those of the values together.
 const EMPTY: u32 = 16;
+const CONSTRAINED: u32 = {
+    let (mut flags, mut i) = (0, 0);
+    while i < VALUES.len() {
+        flags |= VALUES[i].1;
+        i += 1;
+    }
+    flags
+};
 
 pub fn is_empty(m: &Row) -> bool {
     m[FLAGS] & EMPTY != 0
@@ -54,7 +74,7 @@ pub fn common(a: &Row, b: &Row) -> Row {
     for (at, flag, _) in VALUES {
         m[at] = if a[FLAGS] & flag != 0 { a[at] } else { b[at] };
     }
-    for (at, length) in [(SOURCE, SOURCE_LENGTH), (DESTINATION, DESTINATION_LENGTH)] {
+    for (at, length) in PREFIXES {
         let longer = if a[length] > b[length] { a } else { b };
         m[at] = longer[at];
         m[length] = longer[length];
@@ -67,7 +87,7 @@ pub fn right_match(m: &Row) -> bool {
     if m[FLAGS] == EMPTY {
         return m[..FLAGS].iter().all(|&w| w == 0);
     }
-    m[FLAGS] < EMPTY
+    m[FLAGS] & !CONSTRAINED == 0
         && VALUES
             .iter()
             .all(|&(at, flag, limit)| m[at] < limit && (m[FLAGS] & flag != 0 || m[at] == 0))
@@ -81,7 +101,7 @@ pub fn right_packet(words: &[u32]) -> Option<&Packet> {
 }
 
 fn in_prefix(p: u32, length: u32, x: u32) -> bool {
-    u64::from(p ^ x) >> (32 - length.min(32)) == 0
+    u64::from(p ^ x) >> (ADDRESS_BITS - length.min(ADDRESS_BITS)) == 0
 }
 
 fn prefixes_meet(a: &Row, b: &Row, at: usize, length: usize) -> bool {
@@ -89,5 +109,5 @@ fn prefixes_meet(a: &Row, b: &Row, at: usize, length: usize) -> bool {
 }
 
 fn right_prefix(p: u32, length: u32) -> bool {
-    length <= 32 && u64::from(p) << length & 0xffff_ffff == 0
+    length <= ADDRESS_BITS && u64::from(p) << length & 0xffff_ffff == 0
 }

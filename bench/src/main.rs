@@ -5,14 +5,17 @@ mod compile;
 mod flow;
 mod inputs;
 mod number;
+mod numbers;
 mod policy;
 mod rattle;
 mod table;
 mod tree;
 
+use action::ACTION_WORDS;
 use flow::ROW_WORDS;
 use std::hint::black_box;
 use std::time::{Duration, Instant};
+use table::MOST_ROWS;
 
 /// How long the runs of one line may take, and how many there are at least and at most.
 const BUDGET: Duration = Duration::from_millis(1200);
@@ -31,14 +34,28 @@ fn main() {
             "function and input", "Rattle ns", "Rust ns", "ratio"
         );
     }
-    let shapes = [(16, 1), (64, 16), (256, 64), (1024, 256), (1024, 1), (1024, 16)];
-    for (atoms, nodes) in shapes {
+    files();
+    compiles();
+    tables();
+    if only_equal() {
+        println!("all answers and buffers are equal");
+    }
+}
+
+/// Atoms and nodes of the policy files.
+const SHAPES: [(usize, usize); 6] = [(16, 1), (64, 16), (256, 64), (1024, 256), (1024, 1), (1024, 16)];
+
+fn files() {
+    for (atoms, nodes) in SHAPES {
         let file = inputs::file(&inputs::mixed(atoms), nodes);
         let size = format!("{atoms} atoms, {nodes} nodes");
         read(&size, &file);
         tree(&size, &file);
     }
-    for (atoms, nodes) in shapes {
+}
+
+fn compiles() {
+    for (atoms, nodes) in SHAPES {
         let file = inputs::file(&inputs::disjoint(atoms), nodes);
         compile(&format!("{atoms} disjoint, {nodes} nodes"), &file);
     }
@@ -55,7 +72,10 @@ fn main() {
             &inputs::file(&inputs::mixed(atoms), nodes),
         );
     }
-    for rows in [64, 256, 1024, 4096] {
+}
+
+fn tables() {
+    for rows in [64, 256, 1024, MOST_ROWS] {
         let tables = [
             ("disjoint", inputs::disjoint(rows)),
             ("overlapping", inputs::overlapping(rows)),
@@ -67,9 +87,6 @@ fn main() {
             scan(&size, table);
             number(&size, table);
         }
-    }
-    if only_equal() {
-        println!("all answers and buffers are equal");
     }
 }
 
@@ -97,7 +114,7 @@ fn read(size: &str, file: &[u32]) {
 }
 
 fn tree(size: &str, file: &[u32]) {
-    let (mut ours, mut theirs) = ([7; 2], [7; 2]);
+    let (mut ours, mut theirs) = ([7; ACTION_WORDS], [7; ACTION_WORDS]);
     let mut by_rattle = || rattle::tree(black_box(file), black_box(&inputs::PACKET), &mut ours);
     let mut by_rust = || match tree::tree_action(black_box(file), black_box(&inputs::PACKET)) {
         Ok(a) => {
@@ -112,7 +129,7 @@ fn tree(size: &str, file: &[u32]) {
 }
 
 fn compile(size: &str, file: &[u32]) {
-    const ROOM: usize = ROW_WORDS * 4096;
+    const ROOM: usize = ROW_WORDS * MOST_ROWS;
     let mut ours = vec![vec![7; ROOM]; 2];
     let mut theirs = ours.clone();
     let (rows, wanted) = {
@@ -149,7 +166,7 @@ fn compile(size: &str, file: &[u32]) {
 }
 
 fn scan(size: &str, table: &[u32]) {
-    let (mut ours, mut theirs) = ([7; 2], [7; 2]);
+    let (mut ours, mut theirs) = ([7; ACTION_WORDS], [7; ACTION_WORDS]);
     let mut by_rattle = || rattle::scan(black_box(table), black_box(&inputs::PACKET), &mut ours);
     let mut by_rust = || match table::scan(black_box(table), black_box(&inputs::PACKET)) {
         Ok((a, tried)) => {

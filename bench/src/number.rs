@@ -1,6 +1,7 @@
 //! The numbering: all pairs of rows as the definition says, and with the rows left out that cannot raise a level.
 
 use crate::flow::{Row, overlap};
+use crate::numbers;
 use crate::table::{Wrong, check};
 
 /// Each row against all rows before it.
@@ -43,7 +44,7 @@ fn number(
 ) -> Result<u32, Wrong> {
     let rows = check(table)?;
     if priorities.len() < rows.len() || chain.len() < rows.len() {
-        return Err((17, 0));
+        return Err((numbers::BUFFER, 0));
     }
     let levels = &mut priorities[..rows.len()];
     let mut count = 0;

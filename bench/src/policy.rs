@@ -1,16 +1,23 @@
 //! Reading a policy file.
 
-use crate::action::{self, Action, Cells};
-use crate::flow::{self, Row};
-
-pub type Node = [u32; 5];
+use crate::action::{self, Action, CELLS, Cells};
+use crate::flow::{self, ROW_WORDS, Row};
+use crate::numbers;
 
 pub const INNER: usize = 0;
 pub const PARENT: usize = 1;
 pub const SIBLING: usize = 2;
 pub const OWN: usize = 3;
 pub const CHILDREN: usize = 4;
+pub const NODE_WORDS: usize = CHILDREN + 1;
+pub type Node = [u32; NODE_WORDS];
 
+/// The words before the first count; each is read as a count that must be it.
+pub const HEADER: [u32; 0] = [];
+
+const MOST_OPERATORS: u32 = 32;
+const MOST_ATOMS: u32 = 1024;
+const MOST_NODES: u32 = 256;
 const DEEPEST: usize = 16;
 
 /// An accepted file's sections.
@@ -37,41 +44,18 @@ pub fn refusal(number: u32, place: usize) -> Refusal {
 
 #[inline(never)]
 pub fn read(file: &[u32]) -> Result<Policy<'_>, Refusal> {
-    let (operators, at) = section::<9>(file, 0, 1, 32)?;
-    for (i, cells) in operators.iter().enumerate() {
-        if let Some(j) = action::right_cells(cells) {
-            return Err(refusal(3, 1 + 9 * i + j));
-        }
+    for (at, &word) in HEADER.iter().enumerate() {
+        count(file, at, word, word)?;
     }
-    let first = at + 1;
-    let (atoms, at) = section::<11>(file, at, 0, 1024)?;
-    for (i, atom) in atoms.iter().enumerate() {
-        if !flow::right_match(atom) {
-            return Err(refusal(4, first + 11 * i));
-        }
-        if !action::right_action(atom) {
-            return Err(refusal(5, first + 11 * i));
-        }
-    }
-    let first = at + 1;
-    let (nodes, at) = section::<5>(file, at, 1, 256)?;
-    for (i, node) in nodes.iter().enumerate() {
-        let known = |index: u32| (index as usize) < operators.len();
-        let right = known(node[INNER])
-            && known(node[PARENT])
-            && known(node[SIBLING])
-            && node[OWN] <= 1024
-            && node[CHILDREN] <= 255;
-        if !right {
-            return Err(refusal(6, first + 5 * i));
-        }
-    }
+    let (operators, at) = operators(file, HEADER.len())?;
+    let (atoms, at) = atoms(file, at)?;
+    let (nodes, at) = nodes(file, at, operators.len())?;
     if at < file.len() {
-        return Err(refusal(7, at));
+        return Err(refusal(numbers::BEHIND, at));
     }
     one_tree(nodes)?;
     if nodes.iter().map(|n| n[OWN] as usize).sum::<usize>() != atoms.len() {
-        return Err(refusal(9, 0));
+        return Err(refusal(numbers::SUM, 0));
     }
     laws(operators, nodes)?;
     Ok(Policy {
@@ -81,19 +65,77 @@ pub fn read(file: &[u32]) -> Result<Policy<'_>, Refusal> {
     })
 }
 
-/// The records of the section whose count stands at a place, and the place behind them.
-fn section<const N: usize>(file: &[u32], at: usize, least: u32, most: u32) -> Result<(&[[u32; N]], usize), Refusal> {
-    let Some(&count) = file.get(at) else {
-        return Err(refusal(1, file.len()));
-    };
-    if !(least..=most).contains(&count) {
-        return Err(refusal(2, at));
+// The parts of the reading are inlined: apart they are slower by up to a fifth.
+
+/// The records of a section, and the place behind them.
+type Section<'a, const N: usize> = Result<(&'a [[u32; N]], usize), Refusal>;
+
+#[inline(always)]
+fn operators(file: &[u32], at: usize) -> Section<'_, CELLS> {
+    let (operators, end) = section(file, at, 1, MOST_OPERATORS)?;
+    for (i, cells) in operators.iter().enumerate() {
+        if let Some(j) = action::wrong_cell(cells) {
+            return Err(refusal(numbers::CELL, record::<CELLS>(at, i) + j));
+        }
     }
-    let end = at + 1 + N * count as usize;
-    let Some(words) = file.get(at + 1..end) else {
-        return Err(refusal(1, file.len()));
+    Ok((operators, end))
+}
+
+#[inline(always)]
+fn atoms(file: &[u32], at: usize) -> Section<'_, ROW_WORDS> {
+    let (atoms, end) = section(file, at, 0, MOST_ATOMS)?;
+    for (i, atom) in atoms.iter().enumerate() {
+        if !flow::right_match(atom) {
+            return Err(refusal(numbers::MATCH, record::<ROW_WORDS>(at, i)));
+        }
+        if !action::right_action(atom) {
+            return Err(refusal(numbers::ACTION, record::<ROW_WORDS>(at, i)));
+        }
+    }
+    Ok((atoms, end))
+}
+
+#[inline(always)]
+fn nodes(file: &[u32], at: usize, operators: usize) -> Section<'_, NODE_WORDS> {
+    let (nodes, end) = section(file, at, 1, MOST_NODES)?;
+    for (i, node) in nodes.iter().enumerate() {
+        let known = |index: u32| (index as usize) < operators;
+        let right = known(node[INNER])
+            && known(node[PARENT])
+            && known(node[SIBLING])
+            && node[OWN] <= MOST_ATOMS
+            && node[CHILDREN] < MOST_NODES;
+        if !right {
+            return Err(refusal(numbers::NODE, record::<NODE_WORDS>(at, i)));
+        }
+    }
+    Ok((nodes, end))
+}
+
+/// The place of a record, or behind the last one, of the section whose count stands at a place.
+fn record<const N: usize>(at: usize, index: usize) -> usize {
+    at + 1 + N * index
+}
+
+/// The records of the section whose count stands at a place, and the place behind them.
+#[inline(always)]
+fn section<const N: usize>(file: &[u32], at: usize, least: u32, most: u32) -> Section<'_, N> {
+    let end = record::<N>(at, count(file, at, least, most)?);
+    let Some(words) = file.get(record::<N>(at, 0)..end) else {
+        return Err(refusal(numbers::ENDED, file.len()));
     };
     Ok((words.as_chunks().0, end))
+}
+
+#[inline(always)]
+fn count(file: &[u32], at: usize, least: u32, most: u32) -> Result<usize, Refusal> {
+    let Some(&count) = file.get(at) else {
+        return Err(refusal(numbers::ENDED, file.len()));
+    };
+    if !(least..=most).contains(&count) {
+        return Err(refusal(numbers::COUNT, at));
+    }
+    Ok(count as usize)
 }
 
 fn one_tree(nodes: &[Node]) -> Result<(), Refusal> {
@@ -106,14 +148,14 @@ fn one_tree(nodes: &[Node]) -> Result<(), Refusal> {
             height -= 1;
         }
         if height == 0 || height > DEEPEST {
-            return Err(refusal(8, i));
+            return Err(refusal(numbers::TREE, i));
         }
         waiting[height - 1] -= 1;
         waiting[height] = node[CHILDREN];
         height += 1;
     }
     if waiting[..height].iter().any(|&w| w != 0) {
-        return Err(refusal(8, nodes.len()));
+        return Err(refusal(numbers::TREE, nodes.len()));
     }
     Ok(())
 }
@@ -123,7 +165,7 @@ fn laws(operators: &[Cells], nodes: &[Node]) -> Result<(), Refusal> {
         let named = nodes.iter().any(|n| n[INNER] as usize == i || n[SIBLING] as usize == i);
         if named && let Some(law) = action::broken(cells) {
             return Err(Refusal {
-                number: 10,
+                number: numbers::LAW,
                 place: i,
                 law: Some(law),
             });

@@ -8,7 +8,7 @@ mod raw {
             file: *const u32,
             words: usize,
             packet: *const u32,
-            six: usize,
+            values: usize,
             given: *mut u32,
             two: usize,
         ) -> u32;
@@ -24,7 +24,7 @@ mod raw {
             table: *const u32,
             words: usize,
             packet: *const u32,
-            six: usize,
+            values: usize,
             given: *mut u32,
             two: usize,
         ) -> usize;

@@ -2,12 +2,13 @@
 
 use crate::action::{Action, join, row_action};
 use crate::flow::{Packet, meets, right_packet};
+use crate::numbers;
 use crate::policy::{self, CHILDREN, INNER, OWN, PARENT, Policy, Refusal, SIBLING};
 
 #[inline(never)]
 pub fn tree_action(file: &[u32], packet: &[u32]) -> Result<Action, Refusal> {
     let mut left = policy::read(file)?;
-    let packet = right_packet(packet).ok_or(policy::refusal(11, 0))?;
+    let packet = right_packet(packet).ok_or(policy::refusal(numbers::PACKET, 0))?;
     Ok(subtree(&mut left, packet))
 }
 

@@ -3,6 +3,28 @@
 //! A slice is its length in words, then its words; bytes are their number, then
 //! words that hold them, the first byte lowest, the last word filled up with zeros.
 
+use crate::model::action::ACTION_WORDS;
+
+/// Bytes of a word.
+pub const WORD_BYTES: usize = 4;
+
+/// The longest slice and listing input that the program under test takes.
+pub const MOST_SLICE_WORDS: usize = 45_100;
+pub const MOST_INPUT_BYTES: usize = 52_000;
+
+/// Number and place are the front of every answer but a listing's.
+pub const PLACED_WORDS: usize = 2;
+/// Where a refusal of a file has its law; three actions follow.
+pub const LAW_AT: usize = PLACED_WORDS;
+/// Number, place, law and three actions: the front of an answer about a file.
+pub const REFUSAL_WORDS: usize = LAW_AT + 1 + 3 * ACTION_WORDS;
+/// Operators, atoms and nodes, behind the refusal of a reading.
+pub const READ_COUNTS: usize = 3;
+/// Where the count of atoms stands among an answer's words.
+pub const ATOMS_AT: usize = REFUSAL_WORDS + 1;
+/// Where the rows tried stand, behind the action of a scan.
+pub const TRIED_AT: usize = PLACED_WORDS + ACTION_WORDS;
+
 #[derive(Clone, PartialEq, Eq, Debug)]
 pub enum Call {
     Read {
@@ -32,7 +54,8 @@ pub enum Call {
 }
 
 /// Names of the functions, by call code less 1.
-pub const NAMES: [&str; 6] = ["read", "action", "compile", "scan", "number", "listing"];
+pub const NAMES: [&str; FUNCTIONS] = ["read", "action", "compile", "scan", "number", "listing"];
+pub const FUNCTIONS: usize = 6;
 
 impl Call {
     pub fn code(&self) -> u32 {
@@ -112,14 +135,14 @@ impl Call {
     /// The answer to this call at the front of the words, which it is taken from.
     pub fn take_answer(&self, words: &mut &[u32]) -> Option<Vec<u32>> {
         let length = match self {
-            Call::Read { .. } => 12,
-            Call::Action { .. } => 11,
-            Call::Compile { table, scratch, .. } => 10 + table.len() + scratch.len(),
-            Call::Scan { .. } => 5,
+            Call::Read { .. } => REFUSAL_WORDS + READ_COUNTS,
+            Call::Action { .. } => REFUSAL_WORDS + ACTION_WORDS,
+            Call::Compile { table, scratch, .. } => REFUSAL_WORDS + 1 + table.len() + scratch.len(),
+            Call::Scan { .. } => TRIED_AT + 1,
             Call::Number {
                 priorities, chain, ..
-            } => 3 + priorities.len() + chain.len(),
-            Call::Listing { .. } => 1 + (*words.first()? as usize).div_ceil(4),
+            } => PLACED_WORDS + 1 + priorities.len() + chain.len(),
+            Call::Listing { .. } => 1 + (*words.first()? as usize).div_ceil(WORD_BYTES),
         };
         take(words, length).map(<[u32]>::to_vec)
     }
@@ -138,7 +161,7 @@ fn take_slice(words: &mut &[u32]) -> Option<Vec<u32>> {
 
 fn take_bytes(words: &mut &[u32]) -> Option<Vec<u8>> {
     let length = take(words, 1)?[0] as usize;
-    let mut bytes = to_bytes(take(words, length.div_ceil(4))?);
+    let mut bytes = to_bytes(take(words, length.div_ceil(WORD_BYTES))?);
     bytes.truncate(length);
     Some(bytes)
 }
@@ -146,8 +169,8 @@ fn take_bytes(words: &mut &[u32]) -> Option<Vec<u8>> {
 /// The number of bytes, then the words that hold them.
 pub fn words_of_bytes(bytes: &[u8]) -> Vec<u32> {
     let mut words = vec![bytes.len() as u32];
-    for four in bytes.chunks(4) {
-        let mut full = [0; 4];
+    for four in bytes.chunks(WORD_BYTES) {
+        let mut full = [0; WORD_BYTES];
         full[..four.len()].copy_from_slice(four);
         words.push(u32::from_le_bytes(full));
     }
@@ -167,5 +190,5 @@ pub fn to_bytes(words: &[u32]) -> Vec<u8> {
 /// All whole words; bytes left over are dropped.
 pub fn to_words(bytes: &[u8]) -> Vec<u32> {
     let word = |four: &[u8]| u32::from_le_bytes(four.try_into().expect("four bytes"));
-    bytes.chunks_exact(4).map(word).collect()
+    bytes.chunks_exact(WORD_BYTES).map(word).collect()
 }

@@ -1,19 +1,19 @@
 //! Cases: one call each, from right and damaged policies, tables and packets.
 
-use crate::calls::{to_bytes, Call};
-use crate::damage::{damaged, spoil_packet, spoil_row, EMPTY_MATCH};
+use crate::calls::{to_bytes, Call, MOST_INPUT_BYTES, WORD_BYTES};
+use crate::damage::{damaged, spoil_packet};
+use crate::model::edition::{DEEPEST, MOST_ATOMS, MOST_NODES, MOST_OPERATORS, NEWEST, ROW_WORDS};
 use crate::model::file::Policy;
-use crate::model::rows::{compile, MOST_ROWS};
+use crate::model::listing::{MOST_BYTES, ROOM};
+use crate::model::matches::{Match, Prefix};
+use crate::model::rows::{compile, Row, MOST_ROWS};
 use crate::policies::{Draft, Size};
 use crate::random::Random;
 use crate::stock::Stock;
-use crate::world::{Row, World};
+use crate::world::World;
 
-/// The longest file and listing input that the program under test takes at all.
-const MOST_FILE_WORDS: usize = 13_000;
-const MOST_INPUT_BYTES: usize = 52_000;
-/// The longest file in bytes, which is also what the listing reads at most.
-const LONGEST_FILE_BYTES: usize = 51_340;
+/// The longest file that is sent; there is a little room behind a right one.
+const MOST_FILE_WORDS: usize = MOST_INPUT_BYTES / WORD_BYTES;
 
 pub struct Maker<'a> {
     pub random: Random,
@@ -56,15 +56,17 @@ impl Maker<'_> {
             4 => self.compile_in_large_room(&wide, big),
             5 => self.compile_to_the_edge(),
             6 => {
-                let rows = self.random.pick(&[4_095, 4_096, 4_096, 4_097]);
+                let near = [MOST_ROWS - 1, MOST_ROWS, MOST_ROWS, MOST_ROWS + 1];
+                let rows = self.random.pick(&near);
                 self.scan(&wide, rows)
             }
             7 => {
-                let rows = self.random.pick(&[1_000, 4_095, 4_096, 4_097]);
+                let near = [1_000, MOST_ROWS - 1, MOST_ROWS, MOST_ROWS + 1];
+                let rows = self.random.pick(&near);
                 self.number(&wide, rows)
             }
             8 => {
-                let rows = self.random.pick(&[300, 4_096]);
+                let rows = self.random.pick(&[300, MOST_ROWS]);
                 self.number(&tiny, rows)
             }
             9 => self.listing(&wide, big),
@@ -89,12 +91,12 @@ impl Maker<'_> {
         words
     }
 
-    fn packet(&mut self, world: &World, right: usize) -> Vec<u32> {
+    pub fn packet(&mut self, world: &World, right: usize) -> Vec<u32> {
         let packet = world.packet(&mut self.random);
         if self.random.percent(right) {
-            packet.to_vec()
+            packet.words(NEWEST)
         } else {
-            spoil_packet(&mut self.random, packet)
+            spoil_packet(&mut self.random, &packet)
         }
     }
 
@@ -122,24 +124,24 @@ impl Maker<'_> {
 
     /// Words for a table: around what the file's rows need, or not.
     fn table_words(&mut self, file: &[u32]) -> usize {
-        let policy = Policy::read(file).ok();
+        let policy = Policy::read(file, NEWEST).ok();
         let rows = policy.and_then(|policy| compile(&policy.tree(), 200).ok());
-        let needed = 11 * rows.map_or(20, |rows| rows.len());
+        let needed = ROW_WORDS * rows.map_or(20, |rows| rows.len());
         match self.random.below(8) {
             0..=2 => needed,
-            3 => needed + self.random.within(1, 10),
-            4 => needed.saturating_sub(self.random.within(1, 11)),
-            5 => needed + 11 * self.random.within(1, 5),
-            6 => self.random.within(0, 11),
+            3 => needed + self.random.within(1, ROW_WORDS - 1),
+            4 => needed.saturating_sub(self.random.within(1, ROW_WORDS)),
+            5 => needed + ROW_WORDS * self.random.within(1, 5),
+            6 => self.random.within(0, ROW_WORDS),
             _ => self.random.within(0, 2 * needed + 30),
         }
     }
 
     fn scratch_words(&mut self, table: usize) -> usize {
-        let needed = 11 * (table / 11).min(MOST_ROWS);
+        let needed = scratch_needed(table);
         match self.random.below(8) {
             0..=3 => needed,
-            4 => needed + self.random.within(1, 12),
+            4 => needed + self.random.within(1, ROW_WORDS + 1),
             5 => needed.saturating_sub(1),
             6 => table,
             _ => self.random.within(0, needed),
@@ -148,24 +150,24 @@ impl Maker<'_> {
 
     fn compile_in_large_room(&mut self, world: &World, size: Size) -> Call {
         let file = self.file(world, size, 95);
-        let rows = self.random.pick(&[1_024, 4_095, 4_096, 4_096, 4_097]);
-        let table = 11 * rows + self.random.below(11);
+        let near = [ROOM, MOST_ROWS - 1, MOST_ROWS, MOST_ROWS, MOST_ROWS + 1];
+        let table = ROW_WORDS * self.random.pick(&near) + self.random.below(ROW_WORDS);
         let scratch = self.scratch_words(table);
         self.compile_with(file, table, scratch)
     }
 
     /// A large room that is used to the last row, or one row too small.
     fn compile_to_the_edge(&mut self) -> Call {
-        let rows = self.random.pick(&[255, 1_024, 4_094, 4_095, 4_096, 4_097]);
+        let [under, most, over] = [MOST_ROWS - 1, MOST_ROWS, MOST_ROWS + 1];
+        let rows = self.random.pick(&[255, ROOM, under - 1, under, most, over]);
         let file = self.draft_of_rows(rows).words();
-        let table = 11 * (rows - self.random.below(2)) + self.random.below(11);
-        let scratch = 11 * (table / 11).min(MOST_ROWS);
-        self.compile_with(file, table, scratch)
+        let table = ROW_WORDS * (rows - self.random.below(2)) + self.random.below(ROW_WORDS);
+        self.compile_with(file, table, scratch_needed(table))
     }
 
-    /// A listing around its room of 1,024 rows.
+    /// A listing around its room.
     fn listing_to_the_edge(&mut self) -> Call {
-        let rows = self.random.pick(&[1_023, 1_024, 1_025]);
+        let rows = self.random.pick(&[ROOM - 1, ROOM, ROOM + 1]);
         let bytes = to_bytes(&self.draft_of_rows(rows).words());
         Call::Listing { bytes }
     }
@@ -188,76 +190,21 @@ impl Maker<'_> {
             operators: 2,
             atoms: in_ports.len(),
             nodes: self.random.pick(&[1, 2, 9]),
-            deepest: 16,
+            deepest: DEEPEST,
         };
         let mut draft = self.draft(&world, size);
         for (atom, in_port) in draft.atoms.iter_mut().zip(in_ports) {
-            *atom = world.row(&mut self.random);
-            atom[0] = in_port;
-            atom[8] = 1;
+            let matching = Match {
+                in_port: Prefix::exactly(in_port),
+                ..Match::default()
+            };
+            *atom = Row {
+                matching,
+                ..world.row(&mut self.random)
+            }
+            .raw();
         }
         draft
-    }
-
-    /// Words of a table with this many rows, right three times in four.
-    fn table(&mut self, world: &World, rows: usize) -> Vec<u32> {
-        let mut rows = world.rows(&mut self.random, rows);
-        if self.random.percent(18) {
-            self.spoil_rows(&mut rows);
-        }
-        let mut words = rows.concat();
-        if self.random.percent(7) {
-            words.extend(vec![0; self.random.within(1, 10)]);
-        } else if self.random.percent(4) {
-            words.pop();
-        }
-        words
-    }
-
-    fn spoil_rows(&mut self, rows: &mut [Row]) {
-        if rows.is_empty() {
-            return;
-        }
-        for _ in 0..self.random.within(1, 2) {
-            let row = match self.random.below(4) {
-                0 => rows.len() - 1,
-                _ => self.random.below(rows.len()),
-            };
-            if self.random.percent(15) {
-                rows[row][..9].copy_from_slice(&EMPTY_MATCH);
-            } else {
-                spoil_row(&mut self.random, &mut rows[row]);
-            }
-        }
-    }
-
-    fn scan(&mut self, world: &World, rows: usize) -> Call {
-        Call::Scan {
-            table: self.table(world, rows),
-            packet: self.packet(world, 90),
-        }
-    }
-
-    fn number(&mut self, world: &World, rows: usize) -> Call {
-        let table = self.table(world, rows);
-        let priorities = self.buffer(rows);
-        let chain = self.buffer(rows);
-        Call::Number {
-            table,
-            priorities,
-            chain,
-        }
-    }
-
-    /// A buffer that is exact, longer, or sometimes too short.
-    fn buffer(&mut self, rows: usize) -> Vec<u32> {
-        let words = match self.random.below(12) {
-            0..=5 => rows,
-            6..=9 => rows + self.random.within(1, 5),
-            10 => rows.saturating_sub(1),
-            _ => self.random.within(0, rows),
-        };
-        self.random.words(words)
     }
 
     fn listing(&mut self, world: &World, size: Size) -> Call {
@@ -276,11 +223,15 @@ impl Maker<'_> {
     /// The longest file with nothing, a little, or more than the most behind it.
     fn long_listing(&mut self, world: &World) -> Call {
         let mut bytes = to_bytes(&self.draft(world, Size::LARGEST).words());
-        assert_eq!(bytes.len(), LONGEST_FILE_BYTES);
-        let length = LONGEST_FILE_BYTES + self.random.pick(&[0, 0, 1, 4, 8, 660]);
+        assert_eq!(bytes.len(), MOST_BYTES);
+        let most = MOST_INPUT_BYTES - MOST_BYTES;
+        let length = MOST_BYTES
+            + self
+                .random
+                .pick(&[0, 0, 1, WORD_BYTES, 2 * WORD_BYTES, most]);
         bytes.resize(length, 0);
         if self.random.percent(20) {
-            bytes.truncate(LONGEST_FILE_BYTES - self.random.within(1, 5));
+            bytes.truncate(MOST_BYTES - self.random.within(1, 5));
         }
         Call::Listing { bytes }
     }
@@ -289,9 +240,9 @@ impl Maker<'_> {
     fn limit_read(&mut self, world: &World) -> Call {
         let mut size = Size::LARGEST;
         match self.random.below(6) {
-            0 => size.operators = 33,
-            1 => size.atoms = 1_025,
-            2 => size.nodes = 257,
+            0 => size.operators = MOST_OPERATORS + 1,
+            1 => size.atoms = MOST_ATOMS + 1,
+            2 => size.nodes = MOST_NODES + 1,
             _ => {}
         }
         let mut file = self.file(world, size, 70);
@@ -302,4 +253,9 @@ impl Maker<'_> {
         file.truncate(MOST_FILE_WORDS);
         Call::Read { file }
     }
+}
+
+/// The scratch that a compile needs for a table of so many words.
+fn scratch_needed(table: usize) -> usize {
+    ROW_WORDS * (table / ROW_WORDS).min(MOST_ROWS)
 }

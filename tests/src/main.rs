@@ -7,11 +7,13 @@ mod damage;
 mod known;
 mod laws;
 mod model;
+mod numberings;
 mod policies;
 mod program;
 mod properties;
 mod random;
 mod stock;
+mod tables;
 mod tally;
 mod work;
 mod world;
@@ -138,6 +140,10 @@ fn test_model(options: &Options) -> bool {
     for seed in seeds {
         if let Some(cells) = laws::unlawful_elsewhere(seed) {
             println!("FAILED: {cells:?} breaks a law that the search does not see");
+            return false;
+        }
+        if let Some(fault) = laws::sample_fault(seed) {
+            println!("FAILED: {fault}");
             return false;
         }
     }

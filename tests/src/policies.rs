@@ -1,15 +1,19 @@
 //! Random right policies.
 
+use crate::model::edition::{Edition, DEEPEST, MOST_ATOMS, MOST_NODES, MOST_OPERATORS};
+use crate::model::operator::Cells;
+use crate::model::record::{Node, RawRow};
 use crate::random::Random;
-use crate::stock::{Cells, Stock};
-use crate::world::{Row, World};
+use crate::stock::Stock;
+use crate::world::World;
 
 /// The three sections of a policy file before they are written out.
 #[derive(Clone)]
 pub struct Draft {
+    pub edition: Edition,
     pub operators: Vec<Cells>,
-    pub atoms: Vec<Row>,
-    pub nodes: Vec<[u32; 5]>,
+    pub atoms: Vec<RawRow>,
+    pub nodes: Vec<Node>,
 }
 
 #[derive(Clone, Copy)]
@@ -28,14 +32,16 @@ impl Size {
             operators: random.pick(&[1, 2, 2, 3, 5]),
             atoms: random.within(0, 6),
             nodes: random.within(1, most_nodes),
-            deepest: 16,
+            deepest: DEEPEST,
         };
         if random.percent(8) {
-            size.nodes = random.within(15, 26);
-            size.deepest = random.pick(&[15, 16, 16, 17, 18]);
+            size.nodes = random.within(DEEPEST - 1, DEEPEST + 10);
+            let near = [DEEPEST - 1, DEEPEST, DEEPEST, DEEPEST + 1, DEEPEST + 2];
+            size.deepest = random.pick(&near);
         }
         if random.percent(1) {
-            size.operators = random.pick(&[31, 32, 33]);
+            let near = [MOST_OPERATORS - 1, MOST_OPERATORS, MOST_OPERATORS + 1];
+            size.operators = random.pick(&near);
         }
         size
     }
@@ -46,25 +52,25 @@ impl Size {
             operators: random.within(1, 4),
             atoms: random.within(7, 13),
             nodes: random.within(1, 40),
-            deepest: 16,
+            deepest: DEEPEST,
         }
     }
 
     /// At or near the limits of every section.
     pub fn big(random: &mut Random) -> Size {
         Size {
-            operators: random.pick(&[1, 2, 31, 32]),
-            atoms: random.pick(&[100, 300, 1_000, 1_023, 1_024]),
-            nodes: random.pick(&[1, 100, 255, 256]),
-            deepest: 16,
+            operators: random.pick(&[1, 2, MOST_OPERATORS - 1, MOST_OPERATORS]),
+            atoms: random.pick(&[100, 300, 1_000, MOST_ATOMS - 1, MOST_ATOMS]),
+            nodes: random.pick(&[1, 100, MOST_NODES - 1, MOST_NODES]),
+            deepest: DEEPEST,
         }
     }
 
     pub const LARGEST: Size = Size {
-        operators: 32,
-        atoms: 1_024,
-        nodes: 256,
-        deepest: 16,
+        operators: MOST_OPERATORS,
+        atoms: MOST_ATOMS,
+        nodes: MOST_NODES,
+        deepest: DEEPEST,
     };
 }
 
@@ -74,20 +80,22 @@ impl Draft {
         let lawful: Vec<u32> = (0..operators.len() as u32)
             .filter(|index| stock.is_lawful(&operators[*index as usize]))
             .collect();
-        let mut nodes: Vec<[u32; 5]> = child_counts(random, size.nodes, size.deepest)
+        let mut nodes: Vec<Node> = child_counts(random, size.nodes, size.deepest)
             .into_iter()
-            .map(|children| {
-                let inner = random.pick(&lawful);
-                let parent = random.below(operators.len()) as u32;
-                let sibling = random.pick(&lawful);
-                [inner, parent, sibling, 0, children]
+            .map(|children| Node {
+                inner: random.pick(&lawful),
+                parent: random.below(operators.len()) as u32,
+                sibling: random.pick(&lawful),
+                atoms: 0,
+                children,
             })
             .collect();
         for _ in 0..size.atoms {
             let owner = random.below(nodes.len());
-            nodes[owner][3] += 1;
+            nodes[owner].atoms += 1;
         }
         Draft {
+            edition: stock.edition,
             operators,
             atoms: (0..size.atoms).map(|_| world.atom(random)).collect(),
             nodes,
@@ -95,19 +103,25 @@ impl Draft {
     }
 
     pub fn words(&self) -> Vec<u32> {
-        let mut words = vec![self.operators.len() as u32];
+        let mut words = self.edition.header().to_vec();
+        words.push(self.operators.len() as u32);
         words.extend(self.operators.iter().flatten());
         words.push(self.atoms.len() as u32);
-        words.extend(self.atoms.iter().flatten());
+        let atoms = self.atoms.iter();
+        words.extend(atoms.flat_map(|atom| atom.words(self.edition)));
         words.push(self.nodes.len() as u32);
-        words.extend(self.nodes.iter().flatten());
+        words.extend(self.nodes.iter().flat_map(Node::words));
         words
     }
 
-    /// Where the three counts stand.
-    pub fn count_words(&self) -> [usize; 3] {
-        let atoms = 1 + 9 * self.operators.len();
-        [0, atoms, atoms + 1 + 11 * self.atoms.len()]
+    /// Where the words before the first count stand, and the three counts.
+    pub fn count_words(&self) -> Vec<usize> {
+        let (edition, operators) = (self.edition, self.operators.len());
+        let mut places: Vec<usize> = (0..edition.operator_count_at()).collect();
+        places.push(edition.operator_count_at());
+        places.push(edition.atom_count_at(operators));
+        places.push(edition.node_count_at(operators, self.atoms.len()));
+        places
     }
 }
 

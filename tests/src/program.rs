@@ -5,7 +5,7 @@ use std::path::{Path, PathBuf};
 use std::process::{Command, Stdio};
 use std::thread;
 
-use crate::calls::{text_of_answer, to_bytes, to_words, Call};
+use crate::calls::{text_of_answer, to_bytes, to_words, Call, WORD_BYTES};
 use crate::model::answers::answer;
 
 /// What answers the calls: a program of its own, or the model itself.
@@ -134,7 +134,7 @@ fn split(calls: &[Call], bytes: &[u8]) -> Answers {
     }
     if answers.len() < calls.len() {
         trouble = Some("an answer is missing".to_string());
-    } else if !rest.is_empty() || !bytes.len().is_multiple_of(4) {
+    } else if !rest.is_empty() || !bytes.len().is_multiple_of(WORD_BYTES) {
         trouble = Some("there is output after the last answer".to_string());
     }
     Answers { answers, trouble }
@@ -164,16 +164,19 @@ pub fn compare(call: &Call, expected: &[u32], got: &[u32]) -> String {
     )
 }
 
+/// How many of an answer's first words are always shown.
+const HEAD: usize = 12;
+
 /// An answer's first words, and some around the one that matters.
 fn show(call: &Call, answer: &[u32], around: usize) -> String {
     if let Call::Listing { .. } = call {
         let text = text_of_answer(answer);
-        let from = (4 * around).saturating_sub(60);
+        let from = (WORD_BYTES * around).saturating_sub(60);
         let near: String = text.chars().skip(from).take(200).collect();
         return format!("{} bytes, from byte {from}: {near:?}", text.len());
     }
-    let head = &answer[..answer.len().min(12)];
-    if around < 12 {
+    let head = &answer[..answer.len().min(HEAD)];
+    if around < HEAD {
         return format!("{head:?} of {} words", answer.len());
     }
     let from = (around - 4).min(answer.len());

@@ -1,21 +1,25 @@
 //! Properties, each by means of its own: nothing here asks the model what a row
 //! meets, which rows overlap or how long a chain is.
 
-use crate::calls::Call;
+use crate::calls::{Call, PLACED_WORDS, REFUSAL_WORDS, TRIED_AT};
 use crate::cases::Maker;
-use crate::model::priorities::overlap;
-use crate::model::rows::read_table;
+use crate::model::action::DONT_CARE;
+use crate::model::edition::{DEEPEST, MOST_OPERATORS, NEWEST, ROW_WORDS};
+use crate::model::fields::Packet;
+use crate::model::record::RawRow;
+use crate::numberings::{action_words, meets, numbering_fault};
 use crate::policies::Size;
 use crate::program::{Difference, Program};
 use crate::random::Random;
+use crate::tables::table_words;
 use crate::tally::Tally;
 use crate::world::World;
 
 /// A table, the packets that can tell its rows apart, and its policy if it has one.
-struct Subject {
-    world: World,
+pub struct Subject {
+    pub world: World,
     file: Option<Vec<u32>>,
-    rows: Vec<Vec<u32>>,
+    pub rows: Vec<RawRow>,
 }
 
 /// Room for the compiles: small policies make at most 63 rows.
@@ -53,8 +57,8 @@ fn compiled(
     for _ in 0..policies {
         let world = World::tiny(&mut maker.random);
         let mut size = Size::small(&mut maker.random);
-        size.deepest = size.deepest.min(16);
-        size.operators = size.operators.min(32);
+        size.deepest = size.deepest.min(DEEPEST);
+        size.operators = size.operators.min(MOST_OPERATORS);
         files.push(maker.draft(&world, size).words());
         worlds.push(world);
     }
@@ -62,8 +66,8 @@ fn compiled(
         .iter()
         .map(|file| Call::Compile {
             file: file.clone(),
-            table: maker.random.words(11 * ROOM),
-            scratch: maker.random.words(11 * ROOM),
+            table: maker.random.words(ROW_WORDS * ROOM),
+            scratch: maker.random.words(ROW_WORDS * ROOM),
         })
         .collect();
     let answers = ask(program, &calls, tally)?;
@@ -72,15 +76,20 @@ fn compiled(
         if answer[0] != 0 {
             return Err(broken(call, "a right policy was refused"));
         }
-        let count = answer[9] as usize;
-        let rows = answer[10..10 + 11 * count].chunks(11).map(<[u32]>::to_vec);
         subjects.push(Subject {
             world,
-            rows: rows.collect(),
+            rows: compiled_rows(&answer),
             file: Some(file),
         });
     }
     Ok(subjects)
+}
+
+/// The rows in the answer of a compile.
+fn compiled_rows(answer: &[u32]) -> Vec<RawRow> {
+    let count = answer[REFUSAL_WORDS] as usize;
+    let table = answer[REFUSAL_WORDS + 1..].chunks(ROW_WORDS).take(count);
+    table.map(|row| RawRow::from_words(row, NEWEST)).collect()
 }
 
 /// Tables of drawn rows.
@@ -93,7 +102,7 @@ fn drawn(maker: &mut Maker, tables: usize) -> Vec<Subject> {
         subjects.push(Subject {
             world,
             file: None,
-            rows: rows.iter().map(|row| row.to_vec()).collect(),
+            rows,
         });
     }
     subjects
@@ -114,13 +123,13 @@ fn scans_agree(
             let packet = subject.world.packet(random);
             asked.push((subject, packet));
             calls.push(Call::Scan {
-                table: subject.rows.concat(),
-                packet: packet.to_vec(),
+                table: table_words(&subject.rows),
+                packet: packet.words(NEWEST),
             });
             calls.push(match &subject.file {
                 Some(file) => Call::Action {
                     file: file.clone(),
-                    packet: packet.to_vec(),
+                    packet: packet.words(NEWEST),
                 },
                 None => calls[calls.len() - 1].clone(),
             });
@@ -128,19 +137,31 @@ fn scans_agree(
     }
     let answers = ask(program, &calls, tally)?;
     for ((pair, calls), (subject, packet)) in answers.chunks(2).zip(calls.chunks(2)).zip(asked) {
-        let first = subject.rows.iter().position(|row| meets(row, &packet));
-        let (action, tried) = match first {
-            Some(place) => (&subject.rows[place][9..], place + 1),
-            None => (&[0, 0][..], subject.rows.len()),
-        };
-        if pair[0][2..4] != *action || pair[0][4] as usize != tried {
-            return Err(broken(calls[0].clone(), "the scan is not the first match"));
-        }
-        if subject.file.is_some() && pair[1][9..11] != *action {
-            let what = "the tree's action is not the compiled table's";
-            return Err(broken(calls[1].clone(), what));
-        }
+        scan_agrees(subject, &packet, calls, pair)?;
         tally.properties += 1;
+    }
+    Ok(())
+}
+
+/// The answers of a scan and of the tree's action for one packet.
+fn scan_agrees(
+    subject: &Subject,
+    packet: &Packet,
+    calls: &[Call],
+    answers: &[Vec<u32>],
+) -> Result<(), Difference> {
+    let first = subject.rows.iter().position(|row| meets(row, packet));
+    let (action, tried) = match first {
+        Some(place) => (action_words(&subject.rows[place]), place + 1),
+        None => ([DONT_CARE, 0], subject.rows.len()),
+    };
+    let (scan, tree) = (&answers[0], &answers[1]);
+    if scan[PLACED_WORDS..TRIED_AT] != action || scan[TRIED_AT] as usize != tried {
+        return Err(broken(calls[0].clone(), "the scan is not the first match"));
+    }
+    if subject.file.is_some() && tree[REFUSAL_WORDS..] != action {
+        let what = "the tree's action is not the compiled table's";
+        return Err(broken(calls[1].clone(), what));
     }
     Ok(())
 }
@@ -154,15 +175,15 @@ fn numberings_hold(
     let calls: Vec<Call> = subjects
         .iter()
         .map(|subject| Call::Number {
-            table: subject.rows.concat(),
+            table: table_words(&subject.rows),
             priorities: vec![0; subject.rows.len()],
             chain: vec![0; subject.rows.len()],
         })
         .collect();
     let answers = ask(program, &calls, tally)?;
     for ((subject, answer), call) in subjects.iter().zip(answers).zip(calls) {
-        let levels = answer[2] as usize;
-        let (priorities, chain) = answer[3..].split_at(subject.rows.len());
+        let levels = answer[PLACED_WORDS] as usize;
+        let (priorities, chain) = answer[PLACED_WORDS + 1..].split_at(subject.rows.len());
         let fault = numbering_fault(
             subject,
             levels,
@@ -175,112 +196,6 @@ fn numberings_hold(
         tally.properties += 1;
     }
     Ok(())
-}
-
-fn numbering_fault(
-    subject: &Subject,
-    levels: usize,
-    priorities: &[u32],
-    chain: &[u32],
-) -> Option<&'static str> {
-    let rows = &subject.rows;
-    let packets = subject.world.packets();
-    let meeting: Vec<Vec<u64>> = rows.iter().map(|row| packets_met(row, &packets)).collect();
-    let overlaps = |one: usize, two: usize| common_packet(&meeting[one], &meeting[two]);
-
-    if !model_agrees(rows, overlaps) {
-        return Some("the model's overlap test is not the one by packets");
-    }
-    for later in 0..rows.len() {
-        for earlier in 0..later {
-            if overlaps(earlier, later) && priorities[earlier] <= priorities[later] {
-                return Some("an earlier overlapping row has no higher priority");
-            }
-        }
-    }
-    if priorities.iter().any(|p| *p == 0 || *p as usize > levels) {
-        return Some("a priority lies outside 1 to their count");
-    }
-    if longest_chain(rows.len(), overlaps) != levels {
-        return Some("the priority count is not the longest chain");
-    }
-    if chain.len() != levels {
-        return Some("the chain is not as long as the priority count");
-    }
-    for step in chain.windows(2) {
-        if step[0] >= step[1] || !overlaps(step[0] as usize, step[1] as usize) {
-            return Some("the chain does not go down overlapping rows");
-        }
-    }
-    for packet in &packets {
-        if !switch_obeys_scan(rows, priorities, packet) {
-            return Some("a switch does not do what the scan does");
-        }
-    }
-    None
-}
-
-fn model_agrees(rows: &[Vec<u32>], overlaps: impl Fn(usize, usize) -> bool) -> bool {
-    let table = read_table(&rows.concat()).expect("right rows");
-    (0..rows.len()).all(|one| {
-        (0..rows.len()).all(|two| overlap(&table[one], &table[two]) == overlaps(one, two))
-    })
-}
-
-/// The most rows in a chain of overlapping rows, each from a row downwards:
-/// worked out from the last row back, and not from the first row on.
-fn longest_chain(rows: usize, overlaps: impl Fn(usize, usize) -> bool) -> usize {
-    let mut from = vec![1; rows];
-    for row in (0..rows).rev() {
-        for later in row + 1..rows {
-            if overlaps(row, later) {
-                from[row] = from[row].max(1 + from[later]);
-            }
-        }
-    }
-    from.into_iter().max().unwrap_or(0)
-}
-
-/// Every matching row of highest priority has the first matching row's action.
-fn switch_obeys_scan(rows: &[Vec<u32>], priorities: &[u32], packet: &[u32; 6]) -> bool {
-    let matching: Vec<usize> = (0..rows.len())
-        .filter(|row| meets(&rows[*row], packet))
-        .collect();
-    let Some(highest) = matching.iter().map(|row| priorities[*row]).max() else {
-        return true;
-    };
-    matching
-        .iter()
-        .filter(|row| priorities[**row] == highest)
-        .all(|row| rows[*row][9..] == rows[matching[0]][9..])
-}
-
-/// One bit for each packet that meets the row.
-fn packets_met(row: &[u32], packets: &[[u32; 6]]) -> Vec<u64> {
-    let mut bits = vec![0; packets.len().div_ceil(64)];
-    for (place, packet) in packets.iter().enumerate() {
-        if meets(row, packet) {
-            bits[place / 64] |= 1 << (place % 64);
-        }
-    }
-    bits
-}
-
-fn common_packet(one: &[u64], two: &[u64]) -> bool {
-    one.iter().zip(two).any(|(a, b)| a & b != 0)
-}
-
-/// Whether a packet meets a row, straight from the words and bit by bit.
-fn meets(row: &[u32], packet: &[u32; 6]) -> bool {
-    let flags = [(0, 1), (3, 2), (4, 4), (5, 8)];
-    let values = flags
-        .iter()
-        .all(|(word, flag)| row[8] & flag == 0 || row[*word] == packet[*word]);
-    let bit = |word: u32, place: u32| word >> (31 - place) & 1;
-    let prefix = |word: usize, length: u32| {
-        (0..length).all(|place| bit(row[word], place) == bit(packet[word], place))
-    };
-    values && prefix(1, row[6]) && prefix(2, row[7])
 }
 
 fn broken(call: Call, what: &str) -> Difference {

@@ -36,8 +36,8 @@ impl Random {
         self.below(100) < chance
     }
 
-    pub fn pick<T: Copy>(&mut self, items: &[T]) -> T {
-        items[self.below(items.len())]
+    pub fn pick<T: Clone>(&mut self, items: &[T]) -> T {
+        items[self.below(items.len())].clone()
     }
 
     /// Any words: what a lent buffer may hold before a call.

@@ -2,24 +2,31 @@
 
 use std::collections::HashSet;
 
-use crate::calls::{text_of_answer, Call, NAMES};
+use crate::calls::{
+    text_of_answer, Call, ATOMS_AT, FUNCTIONS, LAW_AT, NAMES, PLACED_WORDS, REFUSAL_WORDS, TRIED_AT,
+};
+use crate::model::action::DONT_CARE;
+use crate::model::edition::ROW_WORDS;
+use crate::model::numbers::{BROKEN_LAW, LAST, RATE_OUTSIDE};
 
-/// Every refusal that must be met this often; 14 cannot be reached.
+/// Every refusal that can be reached must be met this often.
 const LEAST: usize = 100;
-const NUMBERS: usize = 18;
-const UNREACHABLE: usize = 14;
+const NUMBERS: usize = LAST as usize;
+const UNREACHABLE: usize = RATE_OUTSIDE as usize;
+/// No law, commutativity and associativity.
+const LAWS: usize = 3;
 
 #[derive(Default)]
 pub struct Tally {
     /// By call code less 1, then by refusal number; 0 is a success.
-    numbers: [[usize; NUMBERS + 1]; 6],
+    numbers: [[usize; NUMBERS + 1]; FUNCTIONS],
     /// Successes with a size over 0, and the largest size, by call.
-    sized: [usize; 6],
-    largest: [usize; 6],
+    sized: [usize; FUNCTIONS],
+    largest: [usize; FUNCTIONS],
     /// Different places of each refusal.
     places: [HashSet<u32>; NUMBERS + 1],
     /// Refusals 10 by law.
-    laws: [usize; 3],
+    laws: [usize; LAWS],
     most_priorities: u32,
     pub properties: usize,
 }
@@ -31,21 +38,25 @@ impl Tally {
         let number = (number as usize).min(NUMBERS);
         self.numbers[function][number] += 1;
         self.places[number].insert(place);
-        if number == 10 && function < 3 {
-            self.laws[answer[2] as usize % 3] += 1;
+        let of_file = matches!(
+            call,
+            Call::Read { .. } | Call::Action { .. } | Call::Compile { .. }
+        );
+        if number == BROKEN_LAW as usize && of_file {
+            self.laws[answer[LAW_AT] as usize % LAWS] += 1;
         }
         if number == 0 {
             let size = size(call, answer);
             self.sized[function] += usize::from(size > 0);
             self.largest[function] = self.largest[function].max(size);
             if let Call::Number { .. } = call {
-                self.most_priorities = self.most_priorities.max(answer[2]);
+                self.most_priorities = self.most_priorities.max(answer[PLACED_WORDS]);
             }
         }
     }
 
     pub fn merge(&mut self, other: Tally) {
-        for function in 0..6 {
+        for function in 0..FUNCTIONS {
             for number in 0..=NUMBERS {
                 self.numbers[function][number] += other.numbers[function][number];
             }
@@ -124,11 +135,11 @@ fn number_and_place(call: &Call, answer: &[u32]) -> (u32, u32) {
 /// the tree's action 1 or 0, whether it is anything but don't care.
 fn size(call: &Call, answer: &[u32]) -> usize {
     match call {
-        Call::Read { .. } => answer[10] as usize,
-        Call::Action { .. } => usize::from(answer[9] != 0),
-        Call::Compile { .. } => answer[9] as usize,
-        Call::Scan { .. } => answer[4] as usize,
-        Call::Number { table, .. } => table.len() / 11,
+        Call::Read { .. } => answer[ATOMS_AT] as usize,
+        Call::Action { .. } => usize::from(answer[REFUSAL_WORDS] != DONT_CARE),
+        Call::Compile { .. } => answer[REFUSAL_WORDS] as usize,
+        Call::Scan { .. } => answer[TRIED_AT] as usize,
+        Call::Number { table, .. } => table.len() / ROW_WORDS,
         Call::Listing { .. } => text_of_answer(answer).lines().count() - 1,
     }
 }

@@ -7,10 +7,14 @@ use std::thread;
 use crate::calls::Call;
 use crate::cases::Maker;
 use crate::known::known;
+use crate::model::edition::NEWEST;
+use crate::model::operator::Cells;
+use crate::model::record::Node;
+use crate::policies::Draft;
 use crate::program::{Difference, Program};
 use crate::properties;
 use crate::random::Random;
-use crate::stock::{operator, Stock, ALL};
+use crate::stock::{all, operator, sample_size, Stock};
 use crate::tally::Tally;
 
 const THREADS: usize = 2;
@@ -23,11 +27,15 @@ const BIG_PARTS: usize = 14;
 const TABLES: usize = 150;
 const PROPERTY_PARTS: usize = 8;
 const OPERATORS: usize = 32_768;
+/// The stream of the sample of operators, which no other part comes to.
+const SAMPLE: usize = usize::MAX;
 
 enum Part {
     Known,
-    /// Every operator from here on, named as inner and sibling.
-    Operators(usize),
+    /// Operators from one index up to another, named as inner and sibling.
+    Operators(usize, usize),
+    /// A sample of operators, named as inner and sibling.
+    Sample(u64),
     Small(u64, usize, usize),
     Big(u64, usize),
     Properties(u64, usize),
@@ -47,7 +55,7 @@ impl Plan {
         }
         Plan {
             parts,
-            stock: Stock::new(),
+            stock: Stock::new(NEWEST),
         }
     }
 
@@ -60,9 +68,12 @@ impl Plan {
             let small = (0..each.div_ceil(SMALL))
                 .map(|part| Part::Small(seed, part, SMALL.min(each - part * SMALL)));
             plan.parts.extend(big.chain(small));
+            plan.parts.push(Part::Sample(seed));
         }
-        let operators = (0..ALL).step_by(OPERATORS).map(Part::Operators);
-        plan.parts.extend(operators);
+        if let Some(all) = all(NEWEST) {
+            let part = |from: usize| Part::Operators(from, all.min(from + OPERATORS));
+            plan.parts.extend((0..all).step_by(OPERATORS).map(part));
+        }
         plan
     }
 }
@@ -107,27 +118,31 @@ fn run_part(
         stock,
     };
     // Streams of one seed must differ between the kinds of parts.
-    match *part {
-        Part::Known => run_known(program, tally),
-        Part::Operators(from) => {
-            let calls: Vec<Call> = (from..from + OPERATORS).map(operator_call).collect();
-            run_calls(program, &calls, tally)
+    let calls: Vec<Call> = match *part {
+        Part::Known => return run_known(program, tally),
+        Part::Operators(from, to) => {
+            let operators = (from..to).map(|index| operator(NEWEST, index));
+            operators.map(operator_call).collect()
+        }
+        Part::Sample(seed) => {
+            let mut random = maker(seed, SAMPLE).random;
+            let operators = (0..sample_size(NEWEST)).map(|_| stock.sampled(&mut random));
+            operators.map(operator_call).collect()
         }
         Part::Small(seed, part, count) => {
             let mut maker = maker(seed, 3 * part);
-            let calls: Vec<Call> = (0..count).map(|_| maker.small()).collect();
-            run_calls(program, &calls, tally)
+            (0..count).map(|_| maker.small()).collect()
         }
         Part::Big(seed, part) => {
             let mut maker = maker(seed, 3 * part + 1);
-            let calls: Vec<Call> = (0..BIG).map(|kind| maker.big(kind)).collect();
-            run_calls(program, &calls, tally)
+            (0..BIG).map(|kind| maker.big(kind)).collect()
         }
         Part::Properties(seed, part) => {
             let mut maker = maker(seed, 3 * part + 2);
-            properties::check(program, &mut maker, TABLES, tally)
+            return properties::check(program, &mut maker, TABLES, tally);
         }
-    }
+    };
+    run_calls(program, &calls, tally)
 }
 
 fn run_calls(program: &Program, calls: &[Call], tally: &mut Tally) -> Result<(), Difference> {
@@ -154,9 +169,14 @@ fn run_known(program: &Program, tally: &mut Tally) -> Result<(), Difference> {
 }
 
 /// One node without atoms whose three operators are all this one.
-fn operator_call(index: usize) -> Call {
-    let mut file = vec![1];
-    file.extend(operator(index));
-    file.extend([0, 1, 0, 0, 0, 0, 0]);
-    Call::Read { file }
+fn operator_call(cells: Cells) -> Call {
+    let draft = Draft {
+        edition: NEWEST,
+        operators: vec![cells],
+        atoms: vec![],
+        nodes: vec![Node::default()],
+    };
+    Call::Read {
+        file: draft.words(),
+    }
 }

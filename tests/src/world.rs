@@ -1,17 +1,15 @@
 //! A world is a few values for each field. Rows and packets drawn from one world
 //! are near each other, so that matches nest, overlap and miss.
 
+use crate::model::action::{Action, MOST_RATE};
+use crate::model::fields::{Fields, Kind, Packet, FIELD_COUNT, KINDS, MOST_PORT, MOST_PROTOCOL};
+use crate::model::matches::{Match, Prefix, WORD_BITS};
+use crate::model::record::RawRow;
+use crate::model::rows::Row;
 use crate::random::Random;
 
-pub type Row = [u32; 11];
-
 pub struct World {
-    pub in_ports: Vec<u32>,
-    pub sources: Vec<u32>,
-    pub destinations: Vec<u32>,
-    pub protocols: Vec<u32>,
-    pub source_ports: Vec<u32>,
-    pub destination_ports: Vec<u32>,
+    pools: Fields<Vec<u32>>,
     lengths: Vec<u32>,
     rates: Vec<u32>,
     /// Chance in percent that a row constrains a field.
@@ -21,12 +19,14 @@ pub struct World {
 impl World {
     pub fn tiny(random: &mut Random) -> World {
         World {
-            in_ports: some(random, &[0, 1, 2, 65_534, 65_535], 2),
-            sources: near_addresses(random, 3),
-            destinations: near_addresses(random, 4),
-            protocols: some(random, &[0, 1, 6, 17, 254, 255], 2),
-            source_ports: some(random, &[0, 1, 80, 65_534, 65_535], 2),
-            destination_ports: some(random, &[0, 22, 80, 443, 65_535], 2),
+            pools: Fields {
+                in_port: some(random, &[0, 1, 2, MOST_PORT - 1, MOST_PORT], 2),
+                source: near_addresses(random, 3),
+                destination: near_addresses(random, 4),
+                protocol: some(random, &[0, 1, 6, 17, MOST_PROTOCOL - 1, MOST_PROTOCOL], 2),
+                source_port: some(random, &[0, 1, 80, MOST_PORT - 1, MOST_PORT], 2),
+                destination_port: some(random, &[0, 22, 80, 443, MOST_PORT], 2),
+            },
             lengths: some_lengths(random),
             rates: some_rates(random),
             constrained: random.pick(&[0, 15, 30, 50, 80]),
@@ -37,12 +37,14 @@ impl World {
     pub fn wide(random: &mut Random) -> World {
         let addresses = random.words(3_000);
         World {
-            in_ports: (0..3_000).collect(),
-            sources: addresses.clone(),
-            destinations: addresses,
-            protocols: (0..=255).collect(),
-            source_ports: vec![0, 80, 65_535],
-            destination_ports: vec![0, 443],
+            pools: Fields {
+                in_port: (0..3_000).collect(),
+                source: addresses.clone(),
+                destination: addresses,
+                protocol: (0..=MOST_PROTOCOL).collect(),
+                source_port: vec![0, 80, MOST_PORT],
+                destination_port: vec![0, 443],
+            },
             lengths: vec![24, 31, 32],
             rates: some_rates(random),
             constrained: random.pick(&[97, 99, 100]),
@@ -59,103 +61,72 @@ impl World {
 
     /// A right row.
     pub fn row(&self, random: &mut Random) -> Row {
-        let (source, source_length) = self.prefix(random, &self.sources);
-        let (destination, destination_length) = self.prefix(random, &self.destinations);
-        let mut row = [0; 11];
-        row[1] = source;
-        row[2] = destination;
-        row[6] = source_length;
-        row[7] = destination_length;
-        let values = [
-            (0, 1, &self.in_ports),
-            (3, 2, &self.protocols),
-            (4, 4, &self.source_ports),
-            (5, 8, &self.destination_ports),
-        ];
-        for (word, flag, pool) in values {
-            if random.percent(self.constrained) {
-                row[word] = random.pick(pool);
-                row[8] |= flag;
+        let mut matching = Match {
+            source: self.prefix(random, &self.pools.source),
+            destination: self.prefix(random, &self.pools.destination),
+            ..Match::default()
+        };
+        for (place, (kind, pool)) in KINDS.pairs(&self.pools).enumerate() {
+            if *kind != Kind::Address && random.percent(self.constrained) {
+                matching = matching.with(place, Prefix::exactly(random.pick(pool)));
             }
         }
-        [row[9], row[10]] = self.action(random);
-        row
+        let action = self.action(random);
+        Row { matching, action }
     }
 
     /// A right atom: a row, or sometimes the empty match.
-    pub fn atom(&self, random: &mut Random) -> Row {
-        let mut atom = self.row(random);
+    pub fn atom(&self, random: &mut Random) -> RawRow {
+        let atom = self.row(random).raw();
         if random.percent(4) {
-            atom[..9].copy_from_slice(&[0, 0, 0, 0, 0, 0, 0, 0, 16]);
+            return atom.emptied();
         }
         atom
     }
 
-    pub fn rows(&self, random: &mut Random, count: usize) -> Vec<Row> {
-        (0..count).map(|_| self.row(random)).collect()
+    pub fn rows(&self, random: &mut Random, count: usize) -> Vec<RawRow> {
+        (0..count).map(|_| self.row(random).raw()).collect()
     }
 
-    fn prefix(&self, random: &mut Random, pool: &[u32]) -> (u32, u32) {
+    fn prefix(&self, random: &mut Random, pool: &[u32]) -> Prefix {
         if !random.percent(self.constrained) {
-            return (0, 0);
+            return Prefix::default();
         }
         let length = random.pick(&self.lengths);
-        (cut(random.pick(pool), length), length)
+        Prefix::of(cut(random.pick(pool), length), length)
     }
 
-    fn action(&self, random: &mut Random) -> [u32; 2] {
+    fn action(&self, random: &mut Random) -> Action {
         match random.below(8) {
-            0 => [0, 0],
-            1 | 2 => [1, 0],
-            3 | 4 => [2, 0],
-            _ => [3, random.pick(&self.rates)],
+            0 => Action::DontCare,
+            1 | 2 => Action::Allow,
+            3 | 4 => Action::Deny,
+            _ => Action::Gmb(random.pick(&self.rates)),
         }
     }
 
     /// A right packet, mostly of this world's values.
-    pub fn packet(&self, random: &mut Random) -> [u32; 6] {
-        let mut packet = [
-            random.pick(&self.in_ports),
-            random.pick(&self.sources),
-            random.pick(&self.destinations),
-            random.pick(&self.protocols),
-            random.pick(&self.source_ports),
-            random.pick(&self.destination_ports),
-        ];
-        if random.percent(25) {
-            let word = random.below(6);
-            packet[word] = match word {
-                1 | 2 => packet[word] ^ 1 << random.below(32),
-                3 => random.word() % 256,
-                _ => random.word() % 65_536,
-            };
+    pub fn packet(&self, random: &mut Random) -> Packet {
+        let packet = Packet::from_list(self.pools.list().map(|pool| random.pick(pool)));
+        if !random.percent(25) {
+            return packet;
         }
-        packet
+        let place = random.below(FIELD_COUNT);
+        let value = match KINDS.list()[place] {
+            Kind::Address => packet.list()[place] ^ 1 << random.below(32),
+            Kind::Number { most, .. } => random.word() % (most + 1),
+        };
+        packet.with(place, value)
     }
 
     /// Every packet of the world's values. Two rows of a tiny world overlap
     /// exactly if one of these meets both: a constrained value is in its pool,
     /// and the longer of two nested prefixes was cut from an address in its pool.
-    pub fn packets(&self) -> Vec<[u32; 6]> {
-        let mut packets = vec![[0; 6]];
-        let pools = [
-            &self.in_ports,
-            &self.sources,
-            &self.destinations,
-            &self.protocols,
-            &self.source_ports,
-            &self.destination_ports,
-        ];
-        for (word, pool) in pools.into_iter().enumerate() {
-            let with = |packet: [u32; 6], value: u32| {
-                let mut packet = packet;
-                packet[word] = value;
-                packet
-            };
-            packets = packets
-                .iter()
-                .flat_map(|packet| pool.iter().map(|value| with(*packet, *value)))
-                .collect();
+    pub fn packets(&self) -> Vec<Packet> {
+        let mut packets = vec![Packet::default()];
+        for (place, pool) in self.pools.list().into_iter().enumerate() {
+            let each = |packet: Packet| pool.iter().map(move |value| packet.with(place, *value));
+            packets = packets.into_iter().flat_map(each).collect();
         }
         packets
     }
@@ -184,12 +155,12 @@ fn near_addresses(random: &mut Random, count: usize) -> Vec<u32> {
 
 fn some_lengths(random: &mut Random) -> Vec<u32> {
     let mut lengths = some(random, &[0, 1, 8, 16, 24, 31, 32], 3);
-    lengths.push(random.word() % 33);
+    lengths.push(random.word() % (WORD_BITS + 1));
     lengths
 }
 
 fn some_rates(random: &mut Random) -> Vec<u32> {
-    let mut rates = some(random, &[1, 2, 3, 4, 40_000, 99_999_999, 100_000_000], 3);
-    rates.push(1 + random.word() % 100_000_000);
+    let mut rates = some(random, &[1, 2, 3, 4, 40_000, MOST_RATE - 1, MOST_RATE], 3);
+    rates.push(1 + random.word() % MOST_RATE);
     rates
 }

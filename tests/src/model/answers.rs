@@ -1,8 +1,11 @@
 //! The public functions, from lent words to every word of the answer.
 
-use super::fields::{Action, Packet};
+use super::action::Action;
+use super::edition::{NEWEST, ROW_WORDS};
+use super::fields::Packet;
 use super::file::Policy;
 use super::listing::listing;
+use super::numbers::{MORE_ROWS, SHORT_BUFFER, SHORT_SCRATCH, WRONG_PACKET};
 use super::operator::Law;
 use super::priorities::number;
 use super::rows::{compile, read_table, scan, Row, MOST_ROWS};
@@ -29,7 +32,7 @@ pub fn answer(call: &Call) -> Vec<u32> {
 }
 
 fn read(file: &[u32]) -> Vec<u32> {
-    let policy = Policy::read(file);
+    let policy = Policy::read(file, NEWEST);
     let counts = match &policy {
         Ok(policy) => [
             policy.operators.len(),
@@ -44,8 +47,8 @@ fn read(file: &[u32]) -> Vec<u32> {
 }
 
 fn tree_action(file: &[u32], packet: &[u32]) -> Vec<u32> {
-    let result = Policy::read(file).and_then(|policy| {
-        let packet = Packet::read(packet).map_err(|_| refusal(11, 0))?;
+    let result = Policy::read(file, NEWEST).and_then(|policy| {
+        let packet = Packet::read(packet, NEWEST).map_err(|_| refusal(WRONG_PACKET, 0))?;
         Ok(policy.tree().action(&packet))
     });
     let action = result.unwrap_or(Action::DontCare);
@@ -58,7 +61,7 @@ fn compiled(file: &[u32], table: &[u32], scratch: &[u32]) -> Vec<u32> {
     let result = compile_lent(file, table.len(), scratch.len());
     let zeroed = match &result {
         Ok(_) => true,
-        Err(refusal) => refusal.number == 12,
+        Err(refusal) => refusal.number == MORE_ROWS,
     };
     let (mut table, mut scratch) = (table.to_vec(), scratch.to_vec());
     if zeroed {
@@ -66,8 +69,8 @@ fn compiled(file: &[u32], table: &[u32], scratch: &[u32]) -> Vec<u32> {
         scratch.fill(0);
     }
     let rows = result.as_ref().map_or(&[][..], |rows| &rows[..]);
-    for (place, row) in rows.iter().enumerate() {
-        table[11 * place..11 * place + 11].copy_from_slice(&row.words());
+    for (words, row) in table.chunks_mut(ROW_WORDS).zip(rows) {
+        words.copy_from_slice(&row.raw().words(NEWEST));
     }
     let count = rows.len() as u32;
     let mut words = refusal_words(result.err());
@@ -78,17 +81,17 @@ fn compiled(file: &[u32], table: &[u32], scratch: &[u32]) -> Vec<u32> {
 }
 
 fn compile_lent(file: &[u32], table: usize, scratch: usize) -> Result<Vec<Row>, Refusal> {
-    let tree = Policy::read(file)?.tree();
-    let room = (table / 11).min(MOST_ROWS);
-    if scratch < 11 * room {
-        return Err(refusal(13, 0));
+    let tree = Policy::read(file, NEWEST)?.tree();
+    let room = (table / ROW_WORDS).min(MOST_ROWS);
+    if scratch < ROW_WORDS * room {
+        return Err(refusal(SHORT_SCRATCH, 0));
     }
-    compile(&tree, room).map_err(|_| refusal(12, 0))
+    compile(&tree, room).map_err(|_| refusal(MORE_ROWS, 0))
 }
 
 fn scanned(table: &[u32], packet: &[u32]) -> Vec<u32> {
-    let result = Packet::read(packet)
-        .map_err(|_| refusal(11, 0))
+    let result = Packet::read(packet, NEWEST)
+        .map_err(|_| refusal(WRONG_PACKET, 0))
         .and_then(|packet| Ok(scan(&read_table(table)?, &packet)));
     let (action, tried) = result.unwrap_or((Action::DontCare, 0));
     let (number, place) = number_and_place(result.err());
@@ -99,7 +102,7 @@ fn scanned(table: &[u32], packet: &[u32]) -> Vec<u32> {
 fn numbered(table: &[u32], priorities: &[u32], chain: &[u32]) -> Vec<u32> {
     let result = read_table(table).and_then(|rows| {
         if priorities.len() < rows.len() || chain.len() < rows.len() {
-            return Err(refusal(17, 0));
+            return Err(refusal(SHORT_BUFFER, 0));
         }
         Ok(number(&rows))
     });

@@ -2,28 +2,26 @@
 
 use std::ops::RangeInclusive;
 
-use super::fields::{Action, Match};
-use super::operator::{right_code, Operator};
+use super::action::Action;
+use super::edition::{
+    Edition, COUNT_WORDS, DEEPEST, MOST_ATOMS, MOST_CHILDREN, MOST_NODES, MOST_OPERATORS,
+    NODE_WORDS,
+};
+use super::matches::Match;
+use super::numbers::{
+    ATOMS_LEFT, BROKEN_LAW, COUNT_BEYOND, ENDS_EARLY, NOT_ONE_TREE, WORDS_AFTER, WRONG_ACTION,
+    WRONG_CELL, WRONG_MATCH, WRONG_NODE,
+};
+use super::operator::Operator;
+use super::record::{Node, RawRow};
 use super::tree::Tree;
 use super::{refusal, Refusal};
-
-pub const DEEPEST: usize = 16;
 
 /// An atom; `None` is the empty match.
 #[derive(Clone, Copy, Debug)]
 pub struct Atom {
     pub matching: Option<Match>,
     pub action: Action,
-}
-
-/// A node as its five words give it.
-#[derive(Clone, Copy, Debug)]
-pub struct Node {
-    pub inner: usize,
-    pub parent: usize,
-    pub sibling: usize,
-    pub atoms: usize,
-    pub children: usize,
 }
 
 #[derive(Debug)]
@@ -34,25 +32,20 @@ pub struct Policy {
 }
 
 impl Policy {
-    pub fn read(file: &[u32]) -> Result<Policy, Refusal> {
-        let (operator_start, operator_words) = section(file, 0, 1..=32, 9)?;
-        let operators = read_operators(operator_start, operator_words)?;
-
-        let atom_count = operator_start + operator_words.len();
-        let (atom_start, atom_words) = section(file, atom_count, 0..=1_024, 11)?;
-        let atoms = read_atoms(atom_start, atom_words)?;
-
-        let node_count = atom_start + atom_words.len();
-        let (node_start, node_words) = section(file, node_count, 1..=256, 5)?;
-        let nodes = read_nodes(node_start, node_words, operators.len())?;
-
-        let end = node_start + node_words.len();
+    pub fn read(file: &[u32], edition: Edition) -> Result<Policy, Refusal> {
+        for (at, word) in edition.header().iter().enumerate() {
+            count(file, at, *word as usize..=*word as usize)?;
+        }
+        let operators = read_operators(file, edition)?;
+        let atoms = read_atoms(file, edition, operators.len())?;
+        let nodes = read_nodes(file, edition, operators.len(), atoms.len())?;
+        let end = edition.end_at(operators.len(), atoms.len(), nodes.len());
         if file.len() > end {
-            return Err(refusal(7, end));
+            return Err(refusal(WORDS_AFTER, end));
         }
         one_tree(&nodes)?;
-        if nodes.iter().map(|node| node.atoms).sum::<usize>() != atoms.len() {
-            return Err(refusal(9, 0));
+        if nodes.iter().map(|node| node.atoms as usize).sum::<usize>() != atoms.len() {
+            return Err(refusal(ATOMS_LEFT, 0));
         }
         keep_laws(&operators, &nodes)?;
         Ok(Policy {
@@ -67,60 +60,79 @@ impl Policy {
     }
 }
 
-/// A section whose count stands at word `at`: its first word and all its words.
+/// The count that stands at a word.
+fn count(file: &[u32], at: usize, limits: RangeInclusive<usize>) -> Result<usize, Refusal> {
+    let count = *file.get(at).ok_or(refusal(ENDS_EARLY, file.len()))? as usize;
+    if limits.contains(&count) {
+        Ok(count)
+    } else {
+        Err(refusal(COUNT_BEYOND, at))
+    }
+}
+
+/// The records of the section whose count stands at a word, each with its place.
 /// The count is tested first, then whether the whole section is there.
 fn section(
     file: &[u32],
     at: usize,
-    limits: RangeInclusive<u32>,
+    limits: RangeInclusive<usize>,
     record: usize,
-) -> Result<(usize, &[u32]), Refusal> {
-    let ends_early = refusal(1, file.len());
-    let count = *file.get(at).ok_or(ends_early)?;
-    if !limits.contains(&count) {
-        return Err(refusal(2, at));
-    }
-    let start = at + 1;
-    let words = file.get(start..start + count as usize * record);
-    Ok((start, words.ok_or(ends_early)?))
+) -> Result<Vec<(usize, &[u32])>, Refusal> {
+    let count = count(file, at, limits)?;
+    let start = at + COUNT_WORDS;
+    let words = file.get(start..start + count * record);
+    let words = words.ok_or(refusal(ENDS_EARLY, file.len()))?;
+    let places = (start..).step_by(record);
+    Ok(places.zip(words.chunks(record)).collect())
 }
 
-fn read_operators(start: usize, words: &[u32]) -> Result<Vec<Operator>, Refusal> {
-    for (offset, code) in words.iter().enumerate() {
-        if !right_code(offset % 9, *code) {
-            return Err(refusal(3, start + offset));
+fn read_operators(file: &[u32], edition: Edition) -> Result<Vec<Operator>, Refusal> {
+    let mut operators = Vec::new();
+    let at = edition.operator_count_at();
+    for (place, cells) in section(file, at, 1..=MOST_OPERATORS, edition.operator_words())? {
+        for (cell, code) in cells.iter().enumerate() {
+            if !edition.codes(cell).contains(code) {
+                return Err(refusal(WRONG_CELL, place + cell));
+            }
         }
+        operators.push(Operator::new(cells, edition));
     }
-    let operator = |cells: &[u32]| Operator(cells.try_into().expect("nine cells"));
-    Ok(words.chunks(9).map(operator).collect())
+    Ok(operators)
 }
 
-fn read_atoms(start: usize, words: &[u32]) -> Result<Vec<Atom>, Refusal> {
+fn read_atoms(file: &[u32], edition: Edition, operators: usize) -> Result<Vec<Atom>, Refusal> {
     let mut atoms = Vec::new();
-    for (index, atom) in words.chunks(11).enumerate() {
-        let place = start + 11 * index;
-        atoms.push(Atom {
-            matching: Match::read(&atom[..9]).map_err(|_| refusal(4, place))?,
-            action: Action::read(&atom[9..]).map_err(|_| refusal(5, place))?,
-        });
+    let at = edition.atom_count_at(operators);
+    for (place, words) in section(file, at, 0..=MOST_ATOMS, edition.atom_words())? {
+        let raw = RawRow::from_words(words, edition);
+        let matching = Match::read(&raw, edition).map_err(|_| refusal(WRONG_MATCH, place))?;
+        let action = Action::read(raw.kind, raw.rate, edition);
+        let action = action.map_err(|_| refusal(WRONG_ACTION, place))?;
+        atoms.push(Atom { matching, action });
     }
     Ok(atoms)
 }
 
-fn read_nodes(start: usize, words: &[u32], operators: usize) -> Result<Vec<Node>, Refusal> {
+fn read_nodes(
+    file: &[u32],
+    edition: Edition,
+    operators: usize,
+    atoms: usize,
+) -> Result<Vec<Node>, Refusal> {
     let mut nodes = Vec::new();
-    for (index, node) in words.chunks(5).enumerate() {
-        let indexes_fit = node[..3].iter().all(|name| (*name as usize) < operators);
-        if !indexes_fit || node[3] > 1_024 || node[4] > 255 {
-            return Err(refusal(6, start + 5 * index));
+    let at = edition.node_count_at(operators, atoms);
+    for (place, words) in section(file, at, 1..=MOST_NODES, NODE_WORDS)? {
+        let node = Node::from_words(words);
+        let known = |index: u32| (index as usize) < operators;
+        let right = [node.inner, node.parent, node.sibling]
+            .into_iter()
+            .all(known)
+            && node.atoms as usize <= MOST_ATOMS
+            && node.children as usize <= MOST_CHILDREN;
+        if !right {
+            return Err(refusal(WRONG_NODE, place));
         }
-        nodes.push(Node {
-            inner: node[0] as usize,
-            parent: node[1] as usize,
-            sibling: node[2] as usize,
-            atoms: node[3] as usize,
-            children: node[4] as usize,
-        });
+        nodes.push(node);
     }
     Ok(nodes)
 }
@@ -128,18 +140,18 @@ fn read_nodes(start: usize, words: &[u32], operators: usize) -> Result<Vec<Node>
 /// Refusal 8. `waiting` has, for each node from the root down to the last one
 /// seen, how many of its children are still to come.
 fn one_tree(nodes: &[Node]) -> Result<(), Refusal> {
-    let mut waiting: Vec<usize> = Vec::new();
+    let mut waiting: Vec<u32> = Vec::new();
     for (index, node) in nodes.iter().enumerate() {
         drop_served(&mut waiting);
         if index > 0 {
             let Some(children) = waiting.last_mut() else {
-                return Err(refusal(8, index));
+                return Err(refusal(NOT_ONE_TREE, index));
             };
             *children -= 1;
         }
         let depth = waiting.len() + 1;
         if depth > DEEPEST {
-            return Err(refusal(8, index));
+            return Err(refusal(NOT_ONE_TREE, index));
         }
         waiting.push(node.children);
     }
@@ -147,12 +159,12 @@ fn one_tree(nodes: &[Node]) -> Result<(), Refusal> {
     if waiting.is_empty() {
         Ok(())
     } else {
-        Err(refusal(8, nodes.len()))
+        Err(refusal(NOT_ONE_TREE, nodes.len()))
     }
 }
 
 /// Nodes at the end that wait for no more children are done.
-fn drop_served(waiting: &mut Vec<usize>) {
+fn drop_served(waiting: &mut Vec<u32>) {
     while waiting.last() == Some(&0) {
         waiting.pop();
     }
@@ -161,14 +173,14 @@ fn drop_served(waiting: &mut Vec<usize>) {
 /// Refusal 10: the operators that some node names as inner or sibling, by index.
 fn keep_laws(operators: &[Operator], nodes: &[Node]) -> Result<(), Refusal> {
     for (index, operator) in operators.iter().enumerate() {
-        let named = |node: &Node| node.inner == index || node.sibling == index;
+        let named = |node: &Node| [node.inner, node.sibling].contains(&(index as u32));
         if !nodes.iter().any(named) {
             continue;
         }
         if let Some(failure) = operator.first_failure() {
             return Err(Refusal {
                 failure: Some(failure),
-                ..refusal(10, index)
+                ..refusal(BROKEN_LAW, index)
             });
         }
     }

@@ -1,13 +1,20 @@
 //! The listing program as a function from its input bytes to its output text.
 
-use super::fields::{Action, Prefix};
+use super::action::Action;
+use super::edition::NEWEST;
+use super::fields::{Kind, KINDS};
 use super::file::Policy;
+use super::matches::Prefix;
+use super::numbers::{MORE_ROWS, WRONG_BYTES};
 use super::priorities::number;
 use super::rows::{compile, Row};
 use super::{refusal, Refusal};
+use crate::calls::{to_words, WORD_BYTES};
 
-const MOST_BYTES: usize = 51_340;
-const ROOM: usize = 1_024;
+/// The longest file's bytes, which is also what is read at most.
+pub const MOST_BYTES: usize = WORD_BYTES * NEWEST.most_words();
+/// Rows that are listed at most.
+pub const ROOM: usize = 1_024;
 
 pub fn listing(bytes: &[u8]) -> String {
     match rows(bytes) {
@@ -17,13 +24,11 @@ pub fn listing(bytes: &[u8]) -> String {
 }
 
 fn rows(bytes: &[u8]) -> Result<Vec<Row>, Refusal> {
-    if !bytes.len().is_multiple_of(4) || bytes.len() > MOST_BYTES {
-        return Err(refusal(18, 0));
+    if !bytes.len().is_multiple_of(WORD_BYTES) || bytes.len() > MOST_BYTES {
+        return Err(refusal(WRONG_BYTES, 0));
     }
-    let word = |four: &[u8]| u32::from_le_bytes(four.try_into().expect("four bytes"));
-    let file: Vec<u32> = bytes.chunks(4).map(word).collect();
-    let tree = Policy::read(&file)?.tree();
-    compile(&tree, ROOM).map_err(|_| refusal(12, 0))
+    let tree = Policy::read(&to_words(bytes), NEWEST)?.tree();
+    compile(&tree, ROOM).map_err(|_| refusal(MORE_ROWS, 0))
 }
 
 fn text(rows: &[Row]) -> String {
@@ -36,27 +41,20 @@ fn text(rows: &[Row]) -> String {
 }
 
 fn line(row: &Row, priority: u32) -> String {
-    let m = &row.matching;
-    let fields = [
-        priority.to_string(),
-        value(m.in_port),
-        prefix(m.source),
-        prefix(m.destination),
-        value(m.protocol),
-        value(m.source_port),
-        value(m.destination_port),
-        action(row.action),
-    ];
+    let mut fields = vec![priority.to_string()];
+    let values = KINDS.pairs(&row.matching);
+    fields.extend(values.map(|(kind, prefix)| value(*kind, *prefix)));
+    fields.push(action(row.action));
     fields.join(" ") + "\n"
 }
 
-fn value(value: Option<u32>) -> String {
-    value.map_or("*".to_string(), |value| value.to_string())
-}
-
-fn prefix(prefix: Prefix) -> String {
-    let [a, b, c, d] = prefix.address.to_be_bytes();
-    format!("{a}.{b}.{c}.{d}/{}", prefix.length)
+fn value(kind: Kind, prefix: Prefix) -> String {
+    let [a, b, c, d] = prefix.value.to_be_bytes();
+    match kind {
+        Kind::Address => format!("{a}.{b}.{c}.{d}/{}", prefix.length),
+        Kind::Number { .. } if prefix.constrains() => prefix.value.to_string(),
+        Kind::Number { .. } => "*".to_string(),
+    }
 }
 
 fn action(action: Action) -> String {

@@ -1,13 +1,24 @@
 //! Operators and their laws.
 
-use super::fields::Action::{self, Allow, Deny, DontCare, Gmb};
+use super::action::Action::{self, Allow, Deny, DontCare};
+use super::edition::Edition;
 
-/// Nine cells, the left action's kind slowest.
-#[derive(Clone, Copy, PartialEq, Eq, Debug)]
-pub struct Operator(pub [u32; 9]);
+/// The codes of cells, by what they give. The last two are of rates.
+pub const GIVE_ALLOW: u32 = 1;
+pub const GIVE_DENY: u32 = 2;
+pub const GIVE_LEFT: u32 = 3;
+pub const GIVE_RIGHT: u32 = 4;
+pub const GIVE_LARGER: u32 = 5;
+pub const GIVE_SMALLER: u32 = 6;
 
-pub const SIBLING: [u32; 9] = [1, 2, 4, 2, 2, 2, 3, 2, 5];
-pub const PARENT: [u32; 9] = [1, 2, 4, 1, 2, 4, 3, 2, 5];
+/// The codes of an operator's cells, the left action's kind slowest.
+pub type Cells = Vec<u32>;
+
+#[derive(Clone, PartialEq, Eq, Debug)]
+pub struct Operator {
+    edition: Edition,
+    cells: Cells,
+}
 
 #[derive(Clone, Copy, PartialEq, Eq, Debug)]
 pub enum Law {
@@ -22,35 +33,28 @@ pub struct Failure {
     pub actions: [Action; 3],
 }
 
-/// The actions that failures are looked for in.
-const SHOWING: [Action; 5] = [Allow, Deny, Gmb(1), Gmb(2), Gmb(3)];
-
-/// Whether a code may stand in this cell: 5 and 6 only in the ninth.
-pub fn right_code(cell: usize, code: u32) -> bool {
-    (1..=4).contains(&code) || (cell == 8 && (5..=6).contains(&code))
-}
-
 impl Operator {
+    /// An operator of right codes.
+    pub fn new(cells: &[u32], edition: Edition) -> Operator {
+        let cells = cells.to_vec();
+        Operator { edition, cells }
+    }
+
     pub fn join(&self, left: Action, right: Action) -> Action {
-        let (row, rate) = match left {
-            DontCare => return right,
-            Allow => (0, 0),
-            Deny => (1, 0),
-            Gmb(rate) => (2, rate),
-        };
-        let (column, other_rate) = match right {
-            DontCare => return left,
-            Allow => (0, 0),
-            Deny => (1, 0),
-            Gmb(rate) => (2, rate),
-        };
-        match self.0[3 * row + column] {
-            1 => Allow,
-            2 => Deny,
-            3 => left,
-            4 => right,
-            5 => Gmb(rate.max(other_rate)),
-            6 => Gmb(rate.min(other_rate)),
+        if left == DontCare {
+            return right;
+        }
+        if right == DontCare {
+            return left;
+        }
+        let ([kind, rate], [other_kind, other_rate]) = (left.words(), right.words());
+        match self.cells[self.edition.cell(kind, other_kind)] {
+            GIVE_ALLOW => Allow,
+            GIVE_DENY => Deny,
+            GIVE_LEFT => left,
+            GIVE_RIGHT => right,
+            GIVE_LARGER => left.with_rate(rate.max(other_rate)),
+            GIVE_SMALLER => left.with_rate(rate.min(other_rate)),
             code => unreachable!("cell code {code} was let through"),
         }
     }
@@ -61,8 +65,9 @@ impl Operator {
     }
 
     fn unequal_pair(&self) -> Option<Failure> {
-        for a in SHOWING {
-            for b in SHOWING {
+        let showing = self.edition.showing();
+        for &a in showing {
+            for &b in showing {
                 if !self.commutes(a, b) {
                     return Some(Failure {
                         law: Law::Commutativity,
@@ -75,9 +80,10 @@ impl Operator {
     }
 
     fn unequal_triple(&self) -> Option<Failure> {
-        for a in SHOWING {
-            for b in SHOWING {
-                for c in SHOWING {
+        let showing = self.edition.showing();
+        for &a in showing {
+            for &b in showing {
+                for &c in showing {
                     if !self.associates(a, b, c) {
                         return Some(Failure {
                             law: Law::Associativity,

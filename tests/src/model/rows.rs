@@ -1,7 +1,12 @@
 //! Tables of rows: joining, compiling, reading and scanning them.
 
-use super::fields::{Action, Match, Packet};
+use super::action::Action;
+use super::edition::{NEWEST, ROW_WORDS};
+use super::fields::Packet;
+use super::matches::Match;
+use super::numbers::{NOT_A_TABLE, WRONG_ROW};
 use super::operator::Operator;
+use super::record::RawRow;
 use super::tree::Tree;
 use super::{refusal, Refusal};
 
@@ -14,11 +19,8 @@ pub struct Row {
 }
 
 impl Row {
-    pub fn words(&self) -> [u32; 11] {
-        let mut words = [0; 11];
-        words[..9].copy_from_slice(&self.matching.words());
-        words[9..].copy_from_slice(&self.action.words());
-        words
+    pub fn raw(&self) -> RawRow {
+        self.matching.raw(self.action)
     }
 }
 
@@ -68,14 +70,16 @@ pub fn compile(tree: &Tree, room: usize) -> Result<Vec<Row>, Full> {
 
 /// A lent table: refusals 15 and 16.
 pub fn read_table(words: &[u32]) -> Result<Vec<Row>, Refusal> {
-    if !words.len().is_multiple_of(11) || words.len() / 11 > MOST_ROWS {
-        return Err(refusal(15, 0));
+    if !words.len().is_multiple_of(ROW_WORDS) || words.len() / ROW_WORDS > MOST_ROWS {
+        return Err(refusal(NOT_A_TABLE, 0));
     }
     let mut rows = Vec::new();
-    for (place, row) in words.chunks(11).enumerate() {
-        match (Match::read(&row[..9]), Action::read(&row[9..])) {
+    for (place, words) in words.chunks(ROW_WORDS).enumerate() {
+        let raw = RawRow::from_words(words, NEWEST);
+        let action = Action::read(raw.kind, raw.rate, NEWEST);
+        match (Match::read(&raw, NEWEST), action) {
             (Ok(Some(matching)), Ok(action)) => rows.push(Row { matching, action }),
-            _ => return Err(refusal(16, place)),
+            _ => return Err(refusal(WRONG_ROW, place)),
         }
     }
     Ok(rows)

@@ -1,6 +1,7 @@
 //! A policy as a real tree, and the tree's action.
 
-use super::fields::{Action, Packet};
+use super::action::Action;
+use super::fields::Packet;
 use super::file::{Atom, Policy};
 use super::operator::Operator;
 
@@ -38,16 +39,18 @@ impl Tree {
 fn build(policy: &Policy, next_node: &mut usize, next_atom: &mut usize) -> Tree {
     let node = policy.nodes[*next_node];
     *next_node += 1;
-    let atoms = policy.atoms[*next_atom..*next_atom + node.atoms].to_vec();
-    *next_atom += node.atoms;
+    let end = *next_atom + node.atoms as usize;
+    let atoms = policy.atoms[*next_atom..end].to_vec();
+    *next_atom = end;
     let mut children = Vec::new();
     for _ in 0..node.children {
         children.push(build(policy, next_node, next_atom));
     }
+    let operator = |index: u32| policy.operators[index as usize].clone();
     Tree {
-        inner: policy.operators[node.inner],
-        parent: policy.operators[node.parent],
-        sibling: policy.operators[node.sibling],
+        inner: operator(node.inner),
+        parent: operator(node.parent),
+        sibling: operator(node.sibling),
         atoms,
         children,
     }

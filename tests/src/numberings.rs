@@ -1,0 +1,136 @@
+//! What a numbering must be, by the packets that the rows of a world can be told
+//! apart by. Nothing here asks the model what a row meets.
+
+use crate::model::action::ACTION_WORDS;
+use crate::model::fields::{Kind, Packet, KINDS};
+use crate::model::matches::WORD_BITS;
+use crate::model::priorities::overlap;
+use crate::model::record::RawRow;
+use crate::model::rows::read_table;
+use crate::properties::Subject;
+use crate::tables::table_words;
+
+/// What is amiss with a numbering of the table.
+pub fn numbering_fault(
+    subject: &Subject,
+    levels: usize,
+    priorities: &[u32],
+    chain: &[u32],
+) -> Option<&'static str> {
+    let rows = &subject.rows;
+    let packets = subject.world.packets();
+    let meeting: Vec<Vec<u64>> = rows.iter().map(|row| packets_met(row, &packets)).collect();
+    let overlaps = |one: usize, two: usize| common_packet(&meeting[one], &meeting[two]);
+
+    if !model_agrees(rows, overlaps) {
+        return Some("the model's overlap test is not the one by packets");
+    }
+    if priorities.iter().any(|p| *p == 0 || *p as usize > levels) {
+        return Some("a priority lies outside 1 to their count");
+    }
+    for later in 0..rows.len() {
+        for earlier in 0..later {
+            if overlaps(earlier, later) && priorities[earlier] <= priorities[later] {
+                return Some("an earlier overlapping row has no higher priority");
+            }
+        }
+    }
+    let obeys = |packet| switch_obeys_scan(rows, priorities, packet);
+    if !packets.iter().all(obeys) {
+        return Some("a switch does not do what the scan does");
+    }
+    if longest_chain(rows.len(), overlaps) != levels {
+        return Some("the priority count is not the longest chain");
+    }
+    chain_fault(levels, chain, overlaps)
+}
+
+fn chain_fault(
+    levels: usize,
+    chain: &[u32],
+    overlaps: impl Fn(usize, usize) -> bool,
+) -> Option<&'static str> {
+    if chain.len() != levels {
+        return Some("the chain is not as long as the priority count");
+    }
+    for step in chain.windows(2) {
+        if step[0] >= step[1] || !overlaps(step[0] as usize, step[1] as usize) {
+            return Some("the chain does not go down overlapping rows");
+        }
+    }
+    None
+}
+
+fn model_agrees(rows: &[RawRow], overlaps: impl Fn(usize, usize) -> bool) -> bool {
+    let table = read_table(&table_words(rows)).expect("right rows");
+    (0..rows.len()).all(|one| {
+        (0..rows.len()).all(|two| overlap(&table[one], &table[two]) == overlaps(one, two))
+    })
+}
+
+/// The most rows in a chain of overlapping rows, each from a row downwards:
+/// worked out from the last row back, and not from the first row on.
+fn longest_chain(rows: usize, overlaps: impl Fn(usize, usize) -> bool) -> usize {
+    let mut from = vec![1; rows];
+    for row in (0..rows).rev() {
+        for later in row + 1..rows {
+            if overlaps(row, later) {
+                from[row] = from[row].max(1 + from[later]);
+            }
+        }
+    }
+    from.into_iter().max().unwrap_or(0)
+}
+
+/// Every matching row of highest priority has the first matching row's action.
+fn switch_obeys_scan(rows: &[RawRow], priorities: &[u32], packet: &Packet) -> bool {
+    let matching: Vec<usize> = (0..rows.len())
+        .filter(|row| meets(&rows[*row], packet))
+        .collect();
+    let Some(highest) = matching.iter().map(|row| priorities[*row]).max() else {
+        return true;
+    };
+    matching
+        .iter()
+        .filter(|row| priorities[**row] == highest)
+        .all(|row| action_words(&rows[*row]) == action_words(&rows[matching[0]]))
+}
+
+/// One bit for each packet that meets the row.
+fn packets_met(row: &RawRow, packets: &[Packet]) -> Vec<u64> {
+    let mut bits = vec![0; packets.len().div_ceil(64)];
+    for (place, packet) in packets.iter().enumerate() {
+        if meets(row, packet) {
+            bits[place / 64] |= 1 << (place % 64);
+        }
+    }
+    bits
+}
+
+fn common_packet(one: &[u64], two: &[u64]) -> bool {
+    one.iter().zip(two).any(|(a, b)| a & b != 0)
+}
+
+pub fn action_words(row: &RawRow) -> [u32; ACTION_WORDS] {
+    [row.kind, row.rate]
+}
+
+/// Whether a packet meets a row, straight from what is written and bit by bit.
+pub fn meets(row: &RawRow, packet: &Packet) -> bool {
+    let values = KINDS.pairs(&row.values).zip(packet.list());
+    let numbers = values.into_iter().all(|((kind, given), value)| match kind {
+        Kind::Number { flag, .. } => row.flags & flag == 0 || given == value,
+        Kind::Address => true,
+    });
+    let bit = |word: u32, place: u32| word >> (WORD_BITS - 1 - place) & 1;
+    let prefix = |given: u32, value: u32, length: u32| {
+        (0..length).all(|place| bit(given, place) == bit(value, place))
+    };
+    numbers
+        && prefix(row.values.source, packet.source, row.source_length)
+        && prefix(
+            row.values.destination,
+            packet.destination,
+            row.destination_length,
+        )
+}

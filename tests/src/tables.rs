@@ -1,0 +1,76 @@
+//! Cases about tables: scans and numberings of right and damaged ones.
+
+use crate::calls::Call;
+use crate::cases::Maker;
+use crate::damage::spoil_row;
+use crate::model::edition::{NEWEST, ROW_WORDS};
+use crate::model::record::RawRow;
+use crate::world::World;
+
+/// The words of a table.
+pub fn table_words(rows: &[RawRow]) -> Vec<u32> {
+    rows.iter().flat_map(|row| row.words(NEWEST)).collect()
+}
+
+impl Maker<'_> {
+    /// Words of a table with this many rows, right three times in four.
+    fn table(&mut self, world: &World, rows: usize) -> Vec<u32> {
+        let mut rows = world.rows(&mut self.random, rows);
+        if self.random.percent(18) {
+            self.spoil_rows(&mut rows);
+        }
+        let mut words = table_words(&rows);
+        if self.random.percent(7) {
+            words.extend(vec![0; self.random.within(1, ROW_WORDS - 1)]);
+        } else if self.random.percent(4) {
+            words.pop();
+        }
+        words
+    }
+
+    fn spoil_rows(&mut self, rows: &mut [RawRow]) {
+        if rows.is_empty() {
+            return;
+        }
+        for _ in 0..self.random.within(1, 2) {
+            let row = match self.random.below(4) {
+                0 => rows.len() - 1,
+                _ => self.random.below(rows.len()),
+            };
+            if self.random.percent(15) {
+                rows[row] = rows[row].emptied();
+            } else {
+                spoil_row(&mut self.random, &mut rows[row], NEWEST);
+            }
+        }
+    }
+
+    pub fn scan(&mut self, world: &World, rows: usize) -> Call {
+        Call::Scan {
+            table: self.table(world, rows),
+            packet: self.packet(world, 90),
+        }
+    }
+
+    pub fn number(&mut self, world: &World, rows: usize) -> Call {
+        let table = self.table(world, rows);
+        let priorities = self.buffer(rows);
+        let chain = self.buffer(rows);
+        Call::Number {
+            table,
+            priorities,
+            chain,
+        }
+    }
+
+    /// A buffer that is exact, longer, or sometimes too short.
+    fn buffer(&mut self, rows: usize) -> Vec<u32> {
+        let words = match self.random.below(12) {
+            0..=5 => rows,
+            6..=9 => rows + self.random.within(1, 5),
+            10 => rows.saturating_sub(1),
+            _ => self.random.within(0, rows),
+        };
+        self.random.words(words)
+    }
+}
