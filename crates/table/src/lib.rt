@@ -1,8 +1,10 @@
 // Tables: rows that stand one behind the other, which tables are right, and the scan.
 ghost use mathlib.Core.Path.{_≡_};
-ghost use Rattle.table.specs.Table.{rowsIn, rightLength, checkRows, checkOf};
+ghost use lib.ListN.{getD};
+ghost use Rattle.table.specs.Table.{rowsIn, past, rightLength, checkRows, checkOf};
 ghost use Rattle.table.specs.Scan.{found, scanOf};
 use action::Action;
+use flow::Match;
 use flow::Packet;
 use flow::WRONG_PACKET;
 use flow::meets;
@@ -61,7 +63,7 @@ pub fn check(table: &[u32]) -> Checked
 }
 
 // The first matching row's action and its place plus 1; don't care and the row count if none matches.
-fn first_match(table: &[u32], p: Packet) -> Scanned
+pub fn first_match(table: &[u32], p: Packet) -> Scanned
     ensures { λ r. ⌜ r ≡ found 0 (rowsIn (now (table .entry))) p ⌝ }
 {
     let rows = table.len() / ROW_WORDS;
@@ -83,6 +85,18 @@ fn first_match(table: &[u32], p: Packet) -> Scanned
         action: Action::DONT_CARE,
         tried,
     }
+}
+
+// The match of row i; past the last row, that of no words.
+pub fn match_at(table: &[u32], i: usize) -> Match
+    ensures { λ r. ⌜ r ≡ getD (rowsIn (now (table .entry))) i past .match ⌝ }
+{
+    if i < table.len() / ROW_WORDS {
+        let from = i * ROW_WORDS;
+        let end = from + ROW_WORDS;
+        return read_match(&table[from..end]);
+    }
+    read_match(&table[..0])
 }
 
 // Whether the words of a table are rows, and not too many.
