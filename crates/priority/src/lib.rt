@@ -83,6 +83,7 @@ fn put_levels(table: &[u32], levels: &mut [u32]) -> u32
 {
     let mut count = 0;
     let mut i = 0;
+    // The first i words are the levels of the first i rows, and count is how many levels these have.
     while i < levels.len() {
         let l = level(table, levels, i, count);
         levels[i] = l;
@@ -101,6 +102,7 @@ fn level(table: &[u32], levels: &[u32], i: usize, count: u32) -> u32
     let m = row_match(table, i);
     let mut best = 0;
     let mut j = i;
+    // The level is the larger of best and what the first j rows ask for.
     while 0 < j {
         if count <= best {
             return best;
@@ -136,6 +138,7 @@ fn put_chain(table: &[u32], levels: &[u32], count: u32, chain: &mut [u32])
     }
     let mut l = count - 1;
     let mut at = first_of_level(levels, l);
+    // The places of the chain behind step l are stored, and at is the one of step l.
     while 0 < l {
         put_place(chain, l, at);
         l -= 1;
@@ -149,6 +152,7 @@ fn first_of_level(levels: &[u32], l: u32) -> Place
     ensures { λ r. ⌜ r .0 ≡ firstOfLevel (now (levels .entry)) l ⌝ }
 {
     let mut at = 0;
+    // None of the first at rows has the level.
     while at < levels.len() {
         if levels[at] == l {
             return Place(at);
@@ -166,6 +170,7 @@ fn step_back(table: &[u32], levels: &[u32], at: Place, l: u32) -> Place
     let end = at.0;
     let m = row_match(table, end);
     let mut i = 0;
+    // None of the first i rows overlaps the row and has the level.
     while i < end {
         if overlaps_at(table, m, i, levels[i] == l) {
             return Place(i);
@@ -192,6 +197,7 @@ fn put_priorities(priorities: &mut [u32], count: u32)
     ensures { λ _. ⌜ now (priorities .exit) ≡ map (λ l. count - l) (now (priorities .entry)) ⌝ }
 {
     let mut i = 0;
+    // The first i words are priorities, and the others are still levels.
     while i < priorities.len() {
         let l = priorities[i];
         put_priority(priorities, Place(i), Priority(count - l));

@@ -69,6 +69,7 @@ pub fn first_match(table: &[u32], p: Packet) -> Scanned
     let rows = table.len() / ROW_WORDS;
     let mut at = 0;
     let mut tried = 0;
+    // None of the first tried rows matches; at is where the next one starts.
     while tried < rows {
         let end = at + ROW_WORDS;
         let row = &table[at..end];
@@ -113,6 +114,7 @@ fn check_rows(table: &[u32]) -> Checked
     let rows = table.len() / ROW_WORDS;
     let mut from = 0;
     let mut i = 0;
+    // The first i rows are right; from is where the next one starts.
     while i < rows {
         let end = from + ROW_WORDS;
         if !right_row(&table[from..end]) {
