@@ -212,6 +212,7 @@ fn first_pair(cells: &[u32]) -> Lawful
     ensures { λ r. ⌜ r ≡ firstPair (now (cells .entry)) ⌝ }
 {
     let mut k = 0;
+    // The first k pairs commute.
     while k < PAIRS {
         let a = showing(k / SHOWN);
         let b = showing(k % SHOWN);
@@ -228,6 +229,7 @@ fn first_triple(cells: &[u32]) -> Lawful
     ensures { λ r. ⌜ r ≡ firstTriple (now (cells .entry)) ⌝ }
 {
     let mut k = 0;
+    // The first k pairs associate with every showing action.
     while k < PAIRS {
         let found = with_third(cells, showing(k / SHOWN), showing(k % SHOWN));
         if let Lawful::Broken(_, _, _, _) = found {
@@ -244,6 +246,7 @@ fn with_third(cells: &[u32], a: Action, b: Action) -> Lawful
 {
     let ab = join(cells, a, b);
     let mut k = 0;
+    // The two associate with the first k showing actions.
     while k < SHOWN {
         let c = showing(k);
         if !same(join(cells, ab, c), join(cells, a, join(cells, b, c))) {

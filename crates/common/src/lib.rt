@@ -36,6 +36,7 @@ pub fn common_rows(
 {
     let mut done = at;
     let mut i = 0;
+    // From at up to done stand the common rows of the rows in the first i words of the left and those of the right.
     while i + ROW_WORDS <= left.len() {
         let made = common_with(operator, &left[i..i + ROW_WORDS], right, out, done);
         let Made::Words(end) = made else {
@@ -62,6 +63,7 @@ pub fn common_with(
     let a = row_action(row);
     let mut done = at;
     let mut i = 0;
+    // From at up to done stand the common rows of the row and the rows in the first i words of the table.
     while i + ROW_WORDS <= table.len() {
         let made = add_common(operator, m, a, &table[i..i + ROW_WORDS], out, done);
         let Made::Words(end) = made else {

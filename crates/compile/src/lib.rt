@@ -92,6 +92,7 @@ fn rates_right(rows: &[u32]) -> bool
     ensures { λ r. ⌜ r ≡ fineWords (now (rows .entry)) ⌝ }
 {
     let mut i = 0;
+    // The first i words are rows, and the rate of each lies in its range.
     while i + ROW_WORDS <= rows.len() {
         if right_row_action(&rows[i..i + ROW_WORDS]) {
             i += ROW_WORDS;

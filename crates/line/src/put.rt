@@ -92,6 +92,7 @@ pub(crate) fn put(out: &mut [u8], at: usize, text: &[u8]) -> usize
 {
     let mut to = at;
     let mut i = 0;
+    // The first i bytes of the text are put, as far as they fit; to is where the next one goes.
     while i < text.len() {
         to = put_byte(out, to, text[i]);
         i += 1;

@@ -1,26 +1,17 @@
 -- A row's level, going back over the rows before it: the best so far together with what the rows still to come give is the level. Assumes nothing.
-use Prim.Native.Nat.{ℕ, zero, suc, _+_, _*_, _-_, _≤_, _<_, max}
+use Prim.Native.Nat.{ℕ, zero, suc, _+_, _-_, _≤_, _<_, max}
 use native.Mathlib.Omega.{arith}
 use mathlib.Core.Path.{_≡_}
 use mathlib.Core.Bool.{Bool, true, false, cond}
 use mathlib.Core.List.{List, [], _∷_, _++_}
-use lib.ListN.{getD, take, drop}
+use lib.ListN.{getD}
 use Rattle.logic.proofs.Tests.{by-test}
 use Rattle.theory.specs.Number.{above, levels, levelCount}
 use Rattle.theory.proofs.Levels.{level-below, length-levels}
-use Rattle.flow.specs.Match.{matchOf, overlap}
+use Rattle.flow.specs.Match.{overlap}
 use Rattle.flow.specs.declared.Match.{Match}
-use Rattle.row.specs.Row.{rowLength}
-use Rattle.table.specs.Table.{rowCount, rowsIn, past}
-use Rattle.table.proofs.Tables.{row-at}
+use Rattle.table.specs.Table.{rowsIn, past}
 use Rattle.priority.specs.Numbering.{over}
-
--- the match of row i, as its words are read
-pub match-at : (ws : List ℕ) (i : ℕ) → i < rowCount ws
-    → matchOf (take (i * rowLength + rowLength - i * rowLength) (drop (i * rowLength) ws)) ≡ getD (rowsIn ws) i past .match
-match-at ws i h =
-    let e : i * rowLength + rowLength - i * rowLength ≡ rowLength = omega arith in
-    rw (e, row-at ws i h)
 
 -- what a row of a level makes of the best so far, by whether it overlaps
 pub raised-low : (best level : ℕ) (b : Bool) → level < best → best ≡ max best (cond b (suc level) 0)

@@ -10,17 +10,21 @@
 --   stored r F buffer             a buffer with the words F at its start, unless the answer r is a refusal
 --   prioritiesAfter, chainAfter   the priority buffer and the chain buffer afterwards
 --   Answered                      the answer and both buffers, together
+--   NumbersFit ws ps cs           what the numbering of a table needs: a word for each row, and room for the chain
+--   LevelsBefore ws ls i count    what the level of row i needs: the levels of the rows before it, all below count
+--   ChainFits ws ls count cs      what the chain needs: the rows' levels, how many there are, and as many words
 --   answerNumber, answerPlace     the number and the place of an answer; both are 0 where it is no refusal
 --   answerCount                   how many priorities an answer counts; 0 where it is a refusal
-use Prim.Native.Nat.{ℕ}
+use Prim.Native.Nat.{ℕ, _≤_, _<_}
 use mathlib.Core.Path.{_≡_}
 use mathlib.Core.Bool.{Bool, cond, _&&_}
 use mathlib.Core.List.{List}
 use lib.Dec.{leb}
-use lib.ListN.{length}
+use lib.ListN.{length, getD}
 use Rattle.words.specs.Words.{laid}
 use Rattle.theory.specs.Number.{rowsOverlap, levels, levelCount, priorities, chain}
 use Rattle.flow.specs.Match.{overlap}
+use Rattle.row.specs.Row.{mostRows}
 use Rattle.table.specs.Table.{rowCount, rowsIn, past, checkOf}
 use Rattle.table.specs.declared.Checked.{Checked}
 use Rattle.table.specs.declared.Checked.the-variants.{Rows, Wrong}
@@ -72,6 +76,20 @@ chainAfter ws ps cs = stored (numberOf ws (length ps) (length cs)) (chainOf ws) 
 -- what the numbering leaves: the answer, the priority buffer and the chain buffer
 abbrev pub Answered : List ℕ → List ℕ → List ℕ → Numbered → List ℕ → List ℕ → Type 0
 Answered ws ps cs r ps′ cs′ = (r ≡ numberOf ws (length ps) (length cs)) × (ps′ ≡ prioritiesAfter ws ps cs) × (cs′ ≡ chainAfter ws ps cs)
+
+-- a table of few enough rows, a word for each row's priority, and room for a chain of all rows
+abbrev pub NumbersFit : List ℕ → List ℕ → List ℕ → Type 0
+NumbersFit ws ps cs = (length ps ≡ rowCount ws) × (rowCount ws ≤ mostRows) × (rowCount ws ≤ length cs)
+
+-- i is a row, and the rows before it have levels below a count of levels, which is not too large
+abbrev pub LevelsBefore : List ℕ → List ℕ → ℕ → ℕ → Type 0
+LevelsBefore ws ls i count = (i < rowCount ws) × (i ≤ length ls) × (count ≤ mostRows)
+    × ((j : ℕ) → j < i → getD ls j 0 < count)
+
+-- each row of a table of few enough rows has its level, and there is room for as many places as there are levels
+abbrev pub ChainFits : List ℕ → List ℕ → ℕ → List ℕ → Type 0
+ChainFits ws ls count cs = (length ls ≡ rowCount ws) × (count ≡ levelCount ls) × (rowCount ws ≤ mostRows)
+    × (count ≤ length cs)
 
 -- the number of an answer, 0 where it is no refusal
 abbrev pub answerNumber : Numbered → ℕ

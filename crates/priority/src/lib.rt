@@ -11,6 +11,7 @@ ghost use Rattle.row.specs.Row.{mostRows};
 ghost use Rattle.table.specs.Table.{rowCount, rowsIn, past};
 ghost use Rattle.table.specs.Theorems.{RightTable};
 ghost use Rattle.priority.specs.Numbering.{over, levelsOf, prioritiesOf, chainOf, Answered};
+ghost use Rattle.priority.specs.Numbering.{NumbersFit, LevelsBefore, ChainFits};
 use flow::Match;
 use flow::overlap;
 use flow::read_match;
@@ -35,7 +36,8 @@ pub enum Numbered {
 
 // Numbers a table: row i's priority goes to word i of one buffer, the chain to the first words of the other.
 pub fn number(table: &[u32], priorities: &mut [u32], chain: &mut [u32]) -> Numbered
-    ensures { λ r. ⌜ Answered (now (table .entry)) (now (priorities .entry)) (now (chain .entry)) r (now (priorities .exit)) (now (chain .exit)) ⌝ }
+    ensures { λ r. ⌜ Answered (now (table .entry)) (now (priorities .entry)) (now (chain .entry))
+        r (now (priorities .exit)) (now (chain .exit)) ⌝ }
 {
     match check(table) {
         Checked::Rows(rows) => number_right(table, rows, priorities, chain),
@@ -46,7 +48,8 @@ pub fn number(table: &[u32], priorities: &mut [u32], chain: &mut [u32]) -> Numbe
 // Numbers a right table, where neither buffer is shorter than its row count.
 fn number_right(table: &[u32], rows: usize, priorities: &mut [u32], chain: &mut [u32]) -> Numbered
     requires { ⌜ RightTable (now table) × (rows ≡ rowCount (now table)) ⌝ }
-    ensures { λ r. ⌜ Answered (now (table .entry)) (now (priorities .entry)) (now (chain .entry)) r (now (priorities .exit)) (now (chain .exit)) ⌝ }
+    ensures { λ r. ⌜ Answered (now (table .entry)) (now (priorities .entry)) (now (chain .entry))
+        r (now (priorities .exit)) (now (chain .exit)) ⌝ }
 {
     if (rows <= priorities.len()) & (rows <= chain.len()) {
         let count = put_numbers(table, &mut priorities[..rows], chain);
@@ -58,9 +61,10 @@ fn number_right(table: &[u32], rows: usize, priorities: &mut [u32], chain: &mut 
     }
 }
 
-// Leaves the priorities in a buffer of a word for each row, first as levels, and the chain; answers how many priorities there are.
+// Leaves the priorities in a buffer of a word for each row, first as levels, and the chain; answers how many priorities
+// there are.
 fn put_numbers(table: &[u32], priorities: &mut [u32], chain: &mut [u32]) -> u32
-    requires { ⌜ (length (now priorities) ≡ rowCount (now table)) × (rowCount (now table) ≤ mostRows) × (rowCount (now table) ≤ length (now chain)) ⌝ }
+    requires { ⌜ NumbersFit (now table) (now priorities) (now chain) ⌝ }
     ensures { λ r. ⌜ (r ≡ levelCount (levelsOf (now (table .entry))))
         × (now (priorities .exit) ≡ prioritiesOf (now (table .entry)))
         × (now (chain .exit) ≡ laid 0 (chainOf (now (table .entry))) (now (chain .entry))) ⌝ }
@@ -74,10 +78,12 @@ fn put_numbers(table: &[u32], priorities: &mut [u32], chain: &mut [u32]) -> u32
 // Stores each row's level, and answers how many levels there are.
 fn put_levels(table: &[u32], levels: &mut [u32]) -> u32
     requires { ⌜ (length (now levels) ≡ rowCount (now table)) × (rowCount (now table) ≤ mostRows) ⌝ }
-    ensures { λ r. ⌜ (r ≡ levelCount (levelsOf (now (table .entry)))) × (now (levels .exit) ≡ levelsOf (now (table .entry))) ⌝ }
+    ensures { λ r. ⌜ (r ≡ levelCount (levelsOf (now (table .entry))))
+        × (now (levels .exit) ≡ levelsOf (now (table .entry))) ⌝ }
 {
     let mut count = 0;
     let mut i = 0;
+    // The first i words are the levels of the first i rows, and count is how many levels these have.
     while i < levels.len() {
         let l = level(table, levels, i, count);
         levels[i] = l;
@@ -87,14 +93,16 @@ fn put_levels(table: &[u32], levels: &mut [u32]) -> u32
     count
 }
 
-// The level of row i, from those of the rows before it, which are below count. It goes back, and stops where no row can raise it.
+// The level of row i, from those of the rows before it, which are below count. It goes back, and stops where no row can
+// raise it.
 fn level(table: &[u32], levels: &[u32], i: usize, count: u32) -> u32
-    requires { ⌜ (i < rowCount (now table)) × (i ≤ length (now levels)) × (count ≤ mostRows) × ((j : ℕ) → j < i → getD (now levels) j 0 < count) ⌝ }
+    requires { ⌜ LevelsBefore (now table) (now levels) i count ⌝ }
     ensures { λ r. ⌜ (r ≡ above (over (now (table .entry))) (now (levels .entry)) i i) × (r ≤ count) ⌝ }
 {
     let m = row_match(table, i);
     let mut best = 0;
     let mut j = i;
+    // The level is the larger of best and what the first j rows ask for.
     while 0 < j {
         if count <= best {
             return best;
@@ -105,10 +113,12 @@ fn level(table: &[u32], levels: &[u32], i: usize, count: u32) -> u32
     best
 }
 
-// What row j, of a level, makes of the best level so far; a level below that cannot raise it, whether the row overlaps or not.
+// What row j, of a level, makes of the best level so far; a level below that cannot raise it, whether the row overlaps
+// or not.
 fn raised(table: &[u32], m: Match, j: usize, level: u32, best: u32) -> u32
     requires { ⌜ (j < rowCount (now table)) × (level < mostRows) ⌝ }
-    ensures { λ r. ⌜ r ≡ max best (cond (overlap (getD (rowsIn (now (table .entry))) j past .match) m) (suc level) 0) ⌝ }
+    ensures { λ r. ⌜ r ≡ max best
+        (cond (overlap (getD (rowsIn (now (table .entry))) j past .match) m) (suc level) 0) ⌝ }
 {
     if level < best {
         return best;
@@ -119,14 +129,16 @@ fn raised(table: &[u32], m: Match, j: usize, level: u32, best: u32) -> u32
 
 // Stores the chain from its end back to its start.
 fn put_chain(table: &[u32], levels: &[u32], count: u32, chain: &mut [u32])
-    requires { ⌜ (length (now levels) ≡ rowCount (now table)) × (count ≡ levelCount (now levels)) × (rowCount (now table) ≤ mostRows) × (count ≤ length (now chain)) ⌝ }
-    ensures { λ _. ⌜ now (chain .exit) ≡ laid 0 (chainUnder (over (now (table .entry))) (now (levels .entry)) count) (now (chain .entry)) ⌝ }
+    requires { ⌜ ChainFits (now table) (now levels) count (now chain) ⌝ }
+    ensures { λ _. ⌜ now (chain .exit)
+        ≡ laid 0 (chainUnder (over (now (table .entry))) (now (levels .entry)) count) (now (chain .entry)) ⌝ }
 {
     if count == 0 {
         return;
     }
     let mut l = count - 1;
     let mut at = first_of_level(levels, l);
+    // The places of the chain behind step l are stored, and at is the one of step l.
     while 0 < l {
         put_place(chain, l, at);
         l -= 1;
@@ -140,6 +152,7 @@ fn first_of_level(levels: &[u32], l: u32) -> Place
     ensures { λ r. ⌜ r .0 ≡ firstOfLevel (now (levels .entry)) l ⌝ }
 {
     let mut at = 0;
+    // None of the first at rows has the level.
     while at < levels.len() {
         if levels[at] == l {
             return Place(at);
@@ -157,6 +170,7 @@ fn step_back(table: &[u32], levels: &[u32], at: Place, l: u32) -> Place
     let end = at.0;
     let m = row_match(table, end);
     let mut i = 0;
+    // None of the first i rows overlaps the row and has the level.
     while i < end {
         if overlaps_at(table, m, i, levels[i] == l) {
             return Place(i);
@@ -183,6 +197,7 @@ fn put_priorities(priorities: &mut [u32], count: u32)
     ensures { λ _. ⌜ now (priorities .exit) ≡ map (λ l. count - l) (now (priorities .entry)) ⌝ }
 {
     let mut i = 0;
+    // The first i words are priorities, and the others are still levels.
     while i < priorities.len() {
         let l = priorities[i];
         put_priority(priorities, Place(i), Priority(count - l));

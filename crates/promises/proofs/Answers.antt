@@ -56,6 +56,8 @@ use Rattle.nodes.proofs.join_at.Reads as join-at
 use Rattle.tree.proofs.tree_action.Reads as tree-action
 use Rattle.table.proofs.scan.Reads as scan
 use Rattle.table.proofs.check.Reads as check
+use Rattle.table.proofs.first_match.Reads as first-match
+use Rattle.table.proofs.match_at.Reads as match-at
 use Rattle.priority.proofs.number.Reads as number
 use Rattle.compile.proofs.compile.Reads as compile
 use Rattle.line.proofs.put_line.Reads as put-line
@@ -245,6 +247,12 @@ scan-one = fixed (λ κ a r s p. p)
 
 check-one : OneAnswer check.Pre check.Post (λ κ r s. r)
 check-one = fixed (λ κ a r s p. p)
+
+first-match-one : OneAnswer first-match.Pre first-match.Post (λ κ r s. r)
+first-match-one = fixed (λ κ a r s p. p)
+
+match-at-one : OneAnswer match-at.Pre match-at.Post (λ κ r s. r)
+match-at-one = fixed (λ κ a r s p. p)
 
 -- priority
 number-one : OneAnswer number.Pre number.Post (λ κ r s. answerAnd r (now (s .1 .0)) (now (s .1 .1 .0)))

@@ -62,6 +62,7 @@ pub fn own_rows(
 {
     let mut i = atoms.len();
     let mut first = scratch.len();
+    // Scratch from first on is the table of the atoms from word i on; the words before i are whole atoms.
     while ROW_WORDS <= i {
         let from = i - ROW_WORDS;
         let made = join_atom(operator, &atoms[from..i], table, scratch, start, first);

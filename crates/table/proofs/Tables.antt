@@ -1,11 +1,11 @@
 -- Tables against their rows: each row by its place, what the check passes, and rows written and read; by induction over the rows. Assumes nothing.
-use Prim.Native.Nat.{ℕ, zero, suc, _+_, _*_, _%_, _<_}
+use Prim.Native.Nat.{ℕ, zero, suc, _+_, _*_, _-_, _%_, _≤_, _<_}
 use native.Mathlib.Omega.{arith}
 use mathlib.Core.Path.{_≡_, refl, sym, ap, ap₂, _∙_}
 use mathlib.Core.Bool.{Bool, true, not, _&&_}
 use mathlib.Core.List.{List, [], _∷_, _++_, map}
 use lib.Dec.{eqb, leb}
-use lib.ListN.{length, getD, take, drop, length-drop, length-map, take-append-drop, List·getD-map}
+use lib.ListN.{length, getD, take, drop, length-drop, length-map, take-append-drop, List·getD-map, List·getD-eq-default}
 use lib.Seq.{drop-drop, take-at, drop-at, length-take-le}
 use borrow.Author.Tests.{eqb-true, eq-eqb, leb-true, le-leb, not-true, not-false}
 use Rattle.logic.proofs.Tests.{by-test, and-left, and-right, and-both}
@@ -41,6 +41,16 @@ length-rows ws = length-map (records (rowCount ws) rowLength ws) rowOf ∙ lengt
 pub row-at : (ws : List ℕ) (i : ℕ) → i < rowCount ws → getD (rowsIn ws) i past ≡ rowOf (rowAt ws i)
 unfolding rowsOf
 row-at ws i h = List·getD-map rowOf (records (rowCount ws) rowLength ws) i [] ∙ ap rowOf (records-at (rowCount ws) rowLength i ws h)
+
+-- the match of row i, as its words are read, and past the last row
+pub match-at : (ws : List ℕ) (i : ℕ) → i < rowCount ws
+    → matchOf (take (i * rowLength + rowLength - i * rowLength) (drop (i * rowLength) ws)) ≡ getD (rowsIn ws) i past .match
+match-at ws i h =
+    let e : i * rowLength + rowLength - i * rowLength ≡ rowLength = omega arith in
+    rw (e, row-at ws i h)
+
+pub match-past : (ws : List ℕ) (i : ℕ) → rowCount ws ≤ i → past .match ≡ getD (rowsIn ws) i past .match
+match-past ws i h = ap (λ r. r .match) (sym (List·getD-eq-default (rowsIn ws) past (omega (arith, length-rows ws))))
 
 -- a row whose words are right is right, and a right row has right words
 pub row-right : (ws : List ℕ) → rightRow ws ≡ true → RightRow (rowOf ws)

@@ -1,8 +1,10 @@
 // Tables: rows that stand one behind the other, which tables are right, and the scan.
 ghost use mathlib.Core.Path.{_≡_};
-ghost use Rattle.table.specs.Table.{rowsIn, rightLength, checkRows, checkOf};
+ghost use lib.ListN.{getD};
+ghost use Rattle.table.specs.Table.{rowsIn, past, rightLength, checkRows, checkOf};
 ghost use Rattle.table.specs.Scan.{found, scanOf};
 use action::Action;
+use flow::Match;
 use flow::Packet;
 use flow::WRONG_PACKET;
 use flow::meets;
@@ -61,12 +63,13 @@ pub fn check(table: &[u32]) -> Checked
 }
 
 // The first matching row's action and its place plus 1; don't care and the row count if none matches.
-fn first_match(table: &[u32], p: Packet) -> Scanned
+pub fn first_match(table: &[u32], p: Packet) -> Scanned
     ensures { λ r. ⌜ r ≡ found 0 (rowsIn (now (table .entry))) p ⌝ }
 {
     let rows = table.len() / ROW_WORDS;
     let mut at = 0;
     let mut tried = 0;
+    // None of the first tried rows matches; at is where the next one starts.
     while tried < rows {
         let end = at + ROW_WORDS;
         let row = &table[at..end];
@@ -85,6 +88,18 @@ fn first_match(table: &[u32], p: Packet) -> Scanned
     }
 }
 
+// The match of row i; past the last row, that of no words.
+pub fn match_at(table: &[u32], i: usize) -> Match
+    ensures { λ r. ⌜ r ≡ getD (rowsIn (now (table .entry))) i past .match ⌝ }
+{
+    if i < table.len() / ROW_WORDS {
+        let from = i * ROW_WORDS;
+        let end = from + ROW_WORDS;
+        return read_match(&table[from..end]);
+    }
+    read_match(&table[..0])
+}
+
 // Whether the words of a table are rows, and not too many.
 fn right_length(table: &[u32]) -> bool
     ensures { λ r. ⌜ r ≡ rightLength (now (table .entry)) ⌝ }
@@ -99,6 +114,7 @@ fn check_rows(table: &[u32]) -> Checked
     let rows = table.len() / ROW_WORDS;
     let mut from = 0;
     let mut i = 0;
+    // The first i rows are right; from is where the next one starts.
     while i < rows {
         let end = from + ROW_WORDS;
         if !right_row(&table[from..end]) {

@@ -108,6 +108,7 @@ fn put_lines(out: &mut [u8], at: usize, priorities: &[u32], table: &[u32]) -> us
     let mut to = at;
     let mut from = 0;
     let mut i = 0;
+    // The lines of the first i rows are put, as far as they fit; to is where the next one goes, from where its row is.
     while i < priorities.len() {
         let end = from + ROW_WORDS;
         to = put_line(out, to, priorities[i], &table[from..end]);

@@ -108,6 +108,7 @@ pub fn take_bytes(words: &mut [u32], out: &mut [u8]) -> Taken
 // Writes words. False where not all could be written.
 pub fn give(words: &[u32]) -> bool {
     let mut at = 0;
+    // The first at words are written.
     while at < words.len() {
         let end = at + least(words.len() - at, BLOCK);
         if !give_block(&words[at..end]) {
@@ -145,6 +146,7 @@ fn take_first(out: &mut [u32], n: usize) -> Taken
 // Reads words until a buffer is full. False where the input ends before.
 fn take(out: &mut [u32]) -> bool {
     let mut at = 0;
+    // The first at words are read.
     while at < out.len() {
         let end = at + least(out.len() - at, BLOCK);
         if !take_block(&mut out[at..end]) {

@@ -34,6 +34,7 @@ pub fn clear_from(out: &mut [u32], at: usize)
     ensures { λ _. ⌜ now (out .exit) ≡ cleared at (now (out .entry)) ⌝ }
 {
     let mut i = at;
+    // The words from at up to i are 0, and the others are as they were.
     while i < out.len() {
         out[i] = 0;
         i += 1;
@@ -66,6 +67,7 @@ fn lay(out: &mut [u32], at: usize, words: &[u32])
     ensures { λ _. ⌜ now (out .exit) ≡ laid at (now (words .entry)) (now (out .entry)) ⌝ }
 {
     let mut i = 0;
+    // The first i words are stored.
     while i < words.len() {
         out[at + i] = words[i];
         i += 1;
@@ -80,6 +82,7 @@ fn lay_words(out: &mut [u32], bytes: &[u8])
     let count = bytes.len() / WORD_BYTES;
     let mut from = 0;
     let mut i = 0;
+    // The first i words are stored; from is where the next one's bytes start.
     while i < count {
         let end = from + WORD_BYTES;
         out[i] = word_of(&bytes[from..end]);
@@ -109,6 +112,7 @@ fn lay_bytes(out: &mut [u8], words: &[u32])
 {
     let mut at = 0;
     let mut i = 0;
+    // The bytes of the first i words are stored; at is where those of the next one go.
     while i < words.len() {
         lay_word(out, at, words[i]);
         at += WORD_BYTES;

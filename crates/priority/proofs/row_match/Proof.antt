@@ -2,7 +2,7 @@
 -- Assumes nothing.
 use borrow.Author.Needs.{needs}
 use mathlib.Core.Path.{_∙_}
-use Rattle.priority.proofs.Back.{match-at}
+use Rattle.table.proofs.Tables.{match-at}
 use Rattle.priority.proofs.row_match.Statement.{statement}
 use Rattle.priority.proofs.row_match.Tie as tie
 
