@@ -9,7 +9,9 @@
 --   shapeFault             the nodes are one tree, no deeper than allowed (8)
 --   sumFault               the own-atom counts add up to the atoms (9)
 --   lawsFault              the operators that some node names as inner or sibling keep the laws (10)
---   stages, answer         all stages in order, with words after the last node (7) before the tree
+--   behind                 where a section ends: the next one's count stands there
+--   wholeStages            once the sections are good: words after the last node (7), then the tree, the sum and the laws
+--   stages, answer         all stages in order
 --   readOf                 the answer
 --   numbered               the answer's number, place, law and actions
 use Prim.Native.Nat.{ℕ, zero, suc, _+_, _*_, pred}
