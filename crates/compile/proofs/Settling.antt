@@ -20,15 +20,14 @@ use Rattle.action.specs.declared.Action.{Action}
 use Rattle.action.proofs.Words.{right-words}
 use Rattle.row.specs.Row.{rowLength, rowOf, rowWords, rightRowAction}
 use Rattle.row.proofs.Rows.{row-back, row-long}
-use Rattle.policy.specs.Numbers.{mostOperators}
 use Rattle.policy.specs.Read.{plain, readOf}
-use Rattle.policy.specs.Read as read
 use Rattle.policy.specs.File.{treeOf}
 use Rattle.policy.specs.declared.Layout.{Layout}
 use Rattle.policy.specs.declared.Reading.{Reading}
 use Rattle.policy.specs.declared.Reading.the-variants as reading
 use Rattle.policy.specs.declared.Refusal.{Refusal}
-use Rattle.policy.proofs.Accepted.{accepted-exactly, accepted-tree}
+use Rattle.policy.proofs.Accepted.{accepted-tree}
+use Rattle.nodes.specs.Nodes.{rootSpot}
 use Rattle.nodes.specs.Walk.{listOf, nodeIndex, Reached}
 use Rattle.nodes.specs.declared.Spot.{Spot}
 use Rattle.nodes.proofs.Places.{reached-start}
@@ -88,18 +87,15 @@ pub words-count : (N : List (Row Match Action)) → length (wordsOf N) ≡ lengt
 words-count N = length-flat rowLength rowOf some-words rowWords row-long row-back N
 
 -- the tree that the walk starts at is the file's
-module _ (f : List ℕ) (l : Layout) (e : readOf f ≡ reading.Accepted l) where
-  pub few-operators : l .operators ≤ mostOperators
-  few-operators = accepted-exactly f l .0 e .otherwise .operators .most
+module _ (f : List ℕ) (l : Layout) (e : readOf f ≡ reading.Accepted l) (at : Spot) (start : at ≡ rootSpot l) where
+  pub start-reached : Reached f at × (0 < at .left)
+  start-reached = let r = reached-start f l e at start in (r .0, r .1)
 
-  pub start-reached : Reached f (record { left = l .nodes; atom = read.atomsAt (l .operators) + 1 }) × (0 < l .nodes)
-  start-reached = let r = reached-start f l e (record { left = l .nodes; atom = read.atomsAt (l .operators) + 1 }) refl refl in (r .0, r .1)
-
-  pub root-words : treeWords f (record { left = l .nodes; atom = read.atomsAt (l .operators) + 1 }) ≡ wordsOf (compiledRows f l)
+  pub root-words : treeWords f at ≡ wordsOf (compiledRows f l)
   unfolding treeWords grown compiledRows
   root-words =
-      let r = reached-start f l e (record { left = l .nodes; atom = read.atomsAt (l .operators) + 1 }) refl refl in
-      let first : nodeIndex f (record { left = l .nodes; atom = read.atomsAt (l .operators) + 1 }) ≡ 0 = r .2 in
+      let r = reached-start f l e at start in
+      let first : nodeIndex f at ≡ 0 = r .2 in
       let planted : plant (listOf f) ≡ treeOf f l ▸ bare = ap (λ (x : Layout). plant (Rattle.policy.specs.File.fileNodes f x)) (sym (r .3)) ∙ accepted-tree f l e .planted in
       ap (λ i. wordsOf (firstRows (plant (drop i (listOf f))))) first ∙ ap (λ G. wordsOf (firstRows G)) planted
 
@@ -142,17 +138,17 @@ no-scratch f l {t} {s} {n} {r} q h a =
     record { answer = rw c a; table = rw c; scratch = rw c }
 
 -- and from what was built in the room of the table, and settled
-module _ (f : List ℕ) (l : Layout) (e : readOf f ≡ reading.Accepted l) (t s : List ℕ) (n : ℕ) (is : n ≡ room (length t)) (enough : rowLength * n ≤ length s)
+module _ (f : List ℕ) (l : Layout) (e : readOf f ≡ reading.Accepted l) (root : Spot) (start : root ≡ rootSpot l) (t s : List ℕ) (n : ℕ) (is : n ≡ room (length t)) (enough : rowLength * n ≤ length s)
     (new mid clean t′ s′ : List ℕ) (r : Compiled) (at : mid ≡ new ++ drop (rowLength * n) t) (same : length new ≡ length (take (rowLength * n) t)) (alike : length clean ≡ length s) where
   N : List (Row Match Action)
   N = compiledRows f l
 
   F : List ℕ
-  F = treeWords f (record { left = l .nodes; atom = read.atomsAt (l .operators) + 1 })
+  F = treeWords f root
 
   are : F ≡ wordsOf N
   unfolding N F
-  are = root-words f l e
+  are = root-words f l e root start
 
   count : length F ≡ length N * rowLength
   count = ap length are ∙ words-count N
@@ -204,7 +200,7 @@ module _ (f : List ℕ) (l : Layout) (e : readOf f ≡ reading.Accepted l) (t s 
       either true = refl
       either false = refl
 
-  pub accepted-settles : (b : Built) → TreeBuilt f (record { left = l .nodes; atom = read.atomsAt (l .operators) + 1 }) 0 (take (rowLength * n) t) new b
+  pub accepted-settles : (b : Built) → TreeBuilt f root 0 (take (rowLength * n) t) new b
       → Settles mid clean t′ s′ b r → AcceptedCompiles f l t s t′ s′ r
   unfolding F
   accepted-settles (built.Done p) k g = some (k .is .0) (g .is) (g .scratch)

@@ -10,9 +10,8 @@ use action::Action;
 use action::Law;
 use build::Built;
 use build::subtree;
-use nodes::Spot;
+use nodes::root;
 use policy::Layout;
-use policy::OPERATOR_WORDS;
 use policy::Reading;
 use policy::Refusal;
 use policy::read;
@@ -59,10 +58,7 @@ fn compile_accepted(
     if scratch.len() < words {
         return refused(NO_SCRATCH);
     }
-    let start = Spot {
-        left: layout.nodes,
-        atom: 1 + OPERATOR_WORDS * layout.operators + 1,
-    };
+    let start = root(layout);
     let built = subtree(file, start, &mut table[..words], &mut scratch[..words], 0);
     settle(table, scratch, built)
 }

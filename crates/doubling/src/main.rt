@@ -4,6 +4,7 @@ use compile::Compiled;
 use compile::compile;
 use libc::STDOUT_FILENO;
 use policy::ATOM_WORDS;
+use policy::FIRST_OPERATOR;
 use policy::NODE_WORDS;
 use policy::OPERATOR_WORDS;
 use row::MOST_ROWS;
@@ -11,7 +12,7 @@ use row::ROW_WORDS;
 use words::copy;
 
 // The words before the first atom: the operator count, an operator and the atom count.
-const BEFORE: usize = 1 + OPERATOR_WORDS + 1;
+const BEFORE: usize = FIRST_OPERATOR + OPERATOR_WORDS + 1;
 
 // Those behind the last: the node count and a node.
 const BEHIND: usize = 1 + NODE_WORDS;

@@ -14,7 +14,7 @@ use Rattle.theory.specs.Nodes.{Listed}
 use Rattle.row.specs.Row.{rowLength, rowOf}
 use Rattle.flow.specs.declared.Match.{Match}
 use Rattle.action.specs.declared.Action.{Action}
-use Rattle.policy.specs.Numbers.{operatorLength, atomLength, nodeLength}
+use Rattle.policy.specs.Numbers.{operatorLength, atomLength, nodeLength, mostOperators}
 use Rattle.policy.specs.Read.{innerOf, parentOf, siblingOf, ownOf, childrenOf, ownAtoms, nodesAt, endOf, operatorRecords, readOf}
 use Rattle.policy.specs.Read as read
 use Rattle.policy.specs.File.{PolicyNode, operatorAt, nodeOf, held, atomsOf}
@@ -23,7 +23,7 @@ use Rattle.policy.specs.declared.Layout.{Layout}
 use Rattle.policy.specs.declared.Reading.the-variants.{Accepted}
 use Rattle.policy.proofs.Accepted.{accepted-exactly}
 use Rattle.logic.proofs.Tests.{by-le}
-use Rattle.nodes.specs.Nodes.{nodePlace, nodeAt, cellsAt, atomsAt}
+use Rattle.nodes.specs.Nodes.{nodePlace, nodeAt, cellsAt, atomsAt, firstAtom, rootSpot}
 use Rattle.nodes.specs.Walk.{layoutOf, listOf, recordsOf, nodeIndex, Reached, nextSpot}
 use Rattle.nodes.specs.declared.NodeWords.{NodeWords}
 use Rattle.nodes.specs.declared.Spot.{Spot}
@@ -229,11 +229,15 @@ here f s reached h d =
     same-node a b c d = rw (a, b, c, d)
 
 -- the walk starts at the root, with all nodes left
-pub reached-start : (f : List ℕ) (l : Layout) → readOf f ≡ Accepted l → (s : Spot) → s .left ≡ l .nodes → s .atom ≡ read.atomsAt (l .operators) + 1
+pub reached-start : (f : List ℕ) (l : Layout) → readOf f ≡ Accepted l → (s : Spot) → s ≡ rootSpot l
     → Reached f s × (0 < s .left) × (nodeIndex f s ≡ 0) × (l ≡ layoutOf f)
-reached-start f l e s p q =
+unfolding rootSpot firstAtom
+reached-start f l e s start =
     let w : WellFormed f l = accepted-exactly f l .0 e in
     let o : Otherwise f (l .operators) (l .atoms) (l .nodes) = w .otherwise in
+    let p : s .left ≡ l .nodes = ap (λ (x : Spot). x .left) start in
+    let q : s .atom ≡ read.atomsAt (l .operators) + 1 =
+    ap (λ (x : Spot). x .atom) start ∙ rw (le-ltb mostOperators (l .operators) (o .operators .most)) in
     let a : getD f 0 0 ≡ l .operators = o .operators .count in
     let b : getD f (read.atomsAt (l .operators)) 0 ≡ l .atoms = o .atoms .count in
     let c : getD f (nodesAt (l .operators) (l .atoms)) 0 ≡ l .nodes = o .nodes .count in

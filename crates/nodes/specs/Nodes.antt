@@ -4,8 +4,19 @@ use mathlib.Core.Bool.{cond}
 use mathlib.Core.List.{List, [], _∷_}
 use lib.Dec.{leb, ltb}
 use lib.ListN.{getD, length, take, drop}
-use Rattle.policy.specs.Numbers.{operatorLength, atomLength, nodeLength}
+use Rattle.policy.specs.Numbers.{firstOperator, operatorLength, atomLength, nodeLength, mostOperators}
+use Rattle.policy.specs.Read as read
+use Rattle.policy.specs.declared.Layout.{Layout}
 use Rattle.nodes.specs.declared.NodeWords.{NodeWords}
+use Rattle.nodes.specs.declared.Spot.{Spot}
+
+-- the word where the first atom stands, behind a operators and the count of the atoms; 0 if no file has so many
+unfoldable pub firstAtom : ℕ → ℕ
+firstAtom a = cond (ltb mostOperators a) 0 (read.atomsAt a + 1)
+
+-- the place of the root: all nodes are left, and the first atom is the next
+unfoldable pub rootSpot : Layout → Spot
+rootSpot l = record { left = l .nodes; atom = firstAtom (l .operators) }
 
 -- the word where the node stands that has so many nodes left from it on; the end of the file if it has not so many
 unfoldable pub nodePlace : ℕ → ℕ → ℕ
@@ -20,7 +31,7 @@ nodeAt f left =
 -- the nine cells of the operator of an index
 unfoldable pub cellsAt : List ℕ → ℕ → List ℕ
 cellsAt f i =
-    let at : ℕ = 1 + operatorLength * i in
+    let at : ℕ = firstOperator + operatorLength * i in
     getD f at 0
     ∷ getD f (at + 1) 0
     ∷ getD f (at + 2) 0

@@ -2,12 +2,15 @@
 ghost use mathlib.Core.Path.{_≡_};
 ghost use Prim.Native.Nat.{_≤_};
 ghost use Rattle.action.specs.Operator.{join};
-ghost use Rattle.nodes.specs.Nodes.{nodePlace, nodeAt, cellsAt, atomsAt};
+ghost use Rattle.nodes.specs.Nodes.{nodePlace, nodeAt, cellsAt, atomsAt, firstAtom, rootSpot};
 use action::Action;
 use action::Operator;
 use policy::ATOM_WORDS;
 use policy::CHILDREN;
+use policy::FIRST_OPERATOR;
 use policy::INNER;
+use policy::Layout;
+use policy::MOST_OPERATORS;
 use policy::NODE_WORDS;
 use policy::OPERATOR_WORDS;
 use policy::OWN;
@@ -30,6 +33,16 @@ pub struct NodeWords {
     pub children: u32,
 }
 
+// The place of the root, where a walk starts: all nodes are left, and the first atom is the next.
+pub fn root(layout: Layout) -> Spot
+    ensures { λ r. ⌜ r ≡ rootSpot layout ⌝ }
+{
+    Spot {
+        left: layout.nodes,
+        atom: first_atom(layout.operators),
+    }
+}
+
 // The node that has so many nodes left from it on.
 pub fn node_at(file: &[u32], left: usize) -> NodeWords
     ensures { λ r. ⌜ r ≡ nodeAt (now (file .entry)) left ⌝ }
@@ -48,7 +61,7 @@ pub fn node_at(file: &[u32], left: usize) -> NodeWords
 pub fn operator_at(file: &[u32], index: u32) -> Operator
     ensures { λ r. ⌜ r .cells ≡ cellsAt (now (file .entry)) index ⌝ }
 {
-    let at = 1 + OPERATOR_WORDS * (index as usize);
+    let at = FIRST_OPERATOR + OPERATOR_WORDS * (index as usize);
     Operator {
         cells: [
             word(file, at),
@@ -90,6 +103,16 @@ pub fn atoms_at(file: &[u32], from: usize, count: u32) -> &[u32]
     }
     let end = from + words;
     &file[from..end]
+}
+
+// The word where the first atom stands, behind so many operators and the count of the atoms; 0 if no file has so many.
+fn first_atom(operators: usize) -> usize
+    ensures { λ r. ⌜ r ≡ firstAtom operators ⌝ }
+{
+    if MOST_OPERATORS < operators {
+        return 0;
+    }
+    FIRST_OPERATOR + OPERATOR_WORDS * operators + 1
 }
 
 // The word where the node stands, or the end of the file.

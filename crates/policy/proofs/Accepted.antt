@@ -15,7 +15,7 @@ use Rattle.row.specs.Row.{rowOf}
 use Rattle.flow.specs.declared.Match.{Match}
 use Rattle.action.specs.declared.Action.{Action}
 use Rattle.policy.specs.Numbers.{operatorLength, atomLength, extraWords, wrongSum}
-use Rattle.policy.specs.Read.{unless, sectionFault, childrenOf, ownOf, shape, shapeFault, ownAtoms, sumFault, lawsFault, atomsAt, nodesAt, endOf, operatorRecords, atomRecords, nodeRecords, stages, layout, answer, readOf}
+use Rattle.policy.specs.Read.{unless, sectionFault, childrenOf, ownOf, shape, shapeFault, ownAtoms, sumFault, lawsFault, atomsAt, nodesAt, endOf, operatorRecords, atomRecords, nodeRecords, wholeStages, stages, layout, answer, readOf}
 use Rattle.policy.specs.File.{held, atomsOf, fileNodes, firstTree, treeOf, allAtoms}
 use Rattle.policy.specs.WellFormed.{OneTree, Otherwise, WellFormed}
 use Rattle.policy.specs.Order.{GoodSections}
@@ -52,7 +52,7 @@ all-passed (Failed r ∷ ts) l m e = let z : _≡_ {A = ℕ} 0 1 = cc in absurd 
 
 answer-passed : (f : List ℕ) (a b c : ℕ) (m : Layout) → answer (stages f a b c) (layout a b c) ≡ Accepted m
     → Stages f a b c × (lawsFault (nodeRecords f a b c) (operatorRecords f a) ≡ Passed) × (layout a b c ≡ m)
-unfolding stages
+unfolding stages wholeStages
 answer-passed f a b c m e =
     let r : AllPassed (stages f a b c) × (layout a b c ≡ m) = all-passed (stages f a b c) (layout a b c) m e in
     let p : AllPassed (stages f a b c) = r .0 in
@@ -60,7 +60,7 @@ answer-passed f a b c m e =
 
 passed-answer : (f : List ℕ) (a b c : ℕ) → Stages f a b c → lawsFault (nodeRecords f a b c) (operatorRecords f a) ≡ Passed
     → answer (stages f a b c) (layout a b c) ≡ Accepted (layout a b c)
-unfolding stages answer
+unfolding stages wholeStages answer
 passed-answer f a b c s laws = rw (s .operators, s .atoms, s .nodes, s .extra, s .tree, s .sum, laws)
 
 -- the child counts of the nodes are those of their records

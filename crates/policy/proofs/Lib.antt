@@ -7,5 +7,5 @@ pub mod Trees
 pub mod Passed
 pub mod Accepted
 pub mod Refused
-pub mod Places
+pub mod Depths
 pub mod Order

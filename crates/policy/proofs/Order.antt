@@ -17,8 +17,8 @@ use Rattle.policy.specs.Numbers.{operatorLength, nodeLength, mostAtoms, 
 use Rattle.policy.specs.Read.{plain, unless, each, recordLength, least, most}
 use Rattle.policy.specs.Read.{countFault, cellsFrom, cellsFault, atomFault, nodeFault, recordFault, sectionFault}
 use Rattle.policy.specs.Read.{innerOf, parentOf, siblingOf, ownOf, childrenOf, shape, shapeFault, ownAtoms, sumFault, lawsFrom}
-use Rattle.policy.specs.Read.{atomsAt, nodesAt, endOf, operatorRecords, nodeRecords, stages, layout, answer, readOf, numbered}
-use Rattle.policy.specs.Steps.{fromStage}
+use Rattle.policy.specs.Read.{atomsAt, nodesAt, endOf, operatorRecords, nodeRecords, wholeStages, stages, layout, answer, readOf, numbered}
+use Rattle.policy.specs.Steps.{withWhole}
 use Rattle.policy.specs.File.{fileNodes}
 use Rattle.policy.specs.WellFormed.{Present, RightNode, OneTree, Otherwise, WellFormed}
 use Rattle.policy.specs.Order.{FirstWrong, RightRecord, recordAt, Good, RecordDue, cell, match, action, node, SectionDue, no-count, beyond, cut, wrong-record}
@@ -33,7 +33,7 @@ use Rattle.policy.proofs.Passed.{node-fault, fault-node, right-record, 
 use Rattle.policy.proofs.Trees.{shape-one-tree, one-tree-shape}
 use Rattle.policy.proofs.Accepted.{children-shape, good-otherwise, accepted-exactly}
 use Rattle.policy.proofs.Refused.{refused-law, broken-refused}
-use Rattle.policy.proofs.Places.{shape-first, shape-places, has-place}
+use Rattle.policy.proofs.Depths.{shape-first, shape-places, has-place}
 use Rattle.logic.proofs.Tests.{by-test, by-le}
 
 -- of some places all are right, or there is a first wrong one
@@ -171,24 +171,24 @@ module _ (f : List ℕ) (at : ℕ) (s : Section) where
 
 -- THE FILE. Once all three sections are good the other stages answer.
 module _ (f : List ℕ) (a b c : ℕ) where
-  sections-read : GoodSections f a b c → readOf f ≡ fromStage 3 f a b c
-  unfolding readOf fromStage stages answer
+  sections-read : GoodSections f a b c → readOf f ≡ withWhole f a b c (nodesAt a b)
+  unfolding readOf withWhole stages answer
   sections-read g =
       rw (g .operators .present .count, g .atoms .present .count, g .nodes .present .count)
       (rw (good-passed f 0 Operators a (g .operators), good-passed f (atomsAt a) Atoms b (g .atoms), good-passed f (nodesAt a b) (Nodes a) c (g .nodes)))
 
-  extra-read : endOf a b c < length f → fromStage 3 f a b c ≡ Refused (plain extraWords (endOf a b c))
-  unfolding fromStage stages answer
+  extra-read : endOf a b c < length f → withWhole f a b c (nodesAt a b) ≡ Refused (plain extraWords (endOf a b c))
+  unfolding withWhole wholeStages answer
   extra-read h = rw (lt-leb (length f) (endOf a b c) h)
 
   shape-read : length f ≡ endOf a b c → (i : ℕ) → shape (childCounts f a b c) (1 ∷ []) 0 ≡ Failed (plain noTree i)
-      → fromStage 3 f a b c ≡ Refused (plain noTree i)
-  unfolding fromStage stages answer shapeFault
+      → withWhole f a b c (nodesAt a b) ≡ Refused (plain noTree i)
+  unfolding withWhole wholeStages answer shapeFault
   shape-read h i e = rw (le-leb (length f) (endOf a b c) (omega arith), e)
 
   sum-read : length f ≡ endOf a b c → shape (childCounts f a b c) (1 ∷ []) 0 ≡ Passed → ¬ (ownAtoms (nodeRecords f a b c) ≡ b)
-      → fromStage 3 f a b c ≡ Refused (plain wrongSum 0)
-  unfolding fromStage stages answer shapeFault sumFault
+      → withWhole f a b c (nodesAt a b) ≡ Refused (plain wrongSum 0)
+  unfolding withWhole wholeStages answer shapeFault sumFault
   sum-read h e n = rw (le-leb (length f) (endOf a b c) (omega arith), e, ne-eqb (ownAtoms (nodeRecords f a b c)) b n)
 
   nodes-many : length (childCounts f a b c) ≡ c

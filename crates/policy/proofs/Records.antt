@@ -13,7 +13,7 @@ use Rattle.words.specs.Records.{records}
 use Rattle.words.proofs.Records.{records-next, records-none}
 use Rattle.action.specs.Operator.{rightCell}
 use Rattle.policy.specs.Numbers.{short, wrongCount, wrongCell, atomLength, mostAtoms}
-use Rattle.policy.specs.Read.{unless, _else_, each, recordLength, least, most, countFault, cellsFrom, recordFault, sectionFault}
+use Rattle.policy.specs.Read.{unless, _else_, each, recordLength, least, most, countFault, cellsFrom, recordFault, behind, sectionFault}
 use Rattle.policy.specs.declared.Refusal.{Refusal}
 use Rattle.policy.specs.declared.Section.{Section}
 use Rattle.policy.specs.declared.Section.the-variants.{Operators, Atoms, Nodes}
@@ -121,26 +121,26 @@ section-passed f at s e =
       all = g .1;
     }
 
--- the ways through a section, as the code has it: k words a record, and a count n that is the file's word
-module _ (f : List ℕ) (at : ℕ) (s : Section) (x : Test) (e : x ≡ countFault f at s) where
-  pub count-fails : (r : Refusal) → x ≡ Failed r → x ≡ sectionFault f at s
+-- the ways through a section, as the code has it: a count n that is the file's word, and an end x
+module _ (f : List ℕ) (at : ℕ) (s : Section) (t : Test) (e : t ≡ countFault f at s) where
+  pub count-fails : (r : Refusal) → t ≡ Failed r → t ≡ sectionFault f at s
   unfolding sectionFault
   count-fails r g = rw (← e, g)
 
-  module _ (passes : x ≡ Passed) (k n m : ℕ) (p : k ≡ recordLength s) (q : n ≡ m) (w : m ≡ getD f at 0) where
-    pub words-few : k * n ≤ atomLength * mostAtoms
-    words-few = rw (p, q, w) (section-small s (getD f at 0) (counted f at s (sym e ∙ passes) .many))
+  module _ (passes : t ≡ Passed) (n m : ℕ) (q : n ≡ m) (w : m ≡ getD f at 0) where
+    pub words-few : behind at s n ≤ at + 1 + atomLength * mostAtoms
+    words-few = rw (q, w) (omega (arith, section-small s (getD f at 0) (counted f at s (sym e ∙ passes) .many)))
 
-    module _ (y : Test) (d : y ≡ unless (leb (at + 1 + k * n) (length f)) short (length f)) where
-      present : y ≡ unless (leb (at + 1 + recordLength s * getD f at 0) (length f)) short (length f)
+    module _ (x : ℕ) (p : x ≡ behind at s n) (y : Test) (d : y ≡ unless (leb x (length f)) short (length f)) where
+      present : y ≡ unless (leb (behind at s (getD f at 0)) (length f)) short (length f)
       present = d ∙ rw (p, q, w)
 
       pub section-short : (r : Refusal) → y ≡ Failed r → y ≡ sectionFault f at s
       unfolding sectionFault
       section-short r g = rw (← e, passes, ← present, g)
 
-      pub section-whole : y ≡ Passed → at + 1 + recordLength s * n ≤ length f
-      section-whole g = leb-true _ _ (unless-true (leb (at + 1 + recordLength s * n) (length f)) short (length f) (rw (← p) (sym d ∙ g)))
+      pub section-whole : y ≡ Passed → behind at s n ≤ length f
+      section-whole g = leb-true _ _ (unless-true (leb (behind at s n) (length f)) short (length f) (rw (← p) (sym d ∙ g)))
 
       pub section-records : (z : Test) → y ≡ Passed
           → z ≡ each (recordFault s) (at + 1) (recordLength s) (records n (recordLength s) (drop (at + 1) f)) → z ≡ sectionFault f at s
@@ -149,7 +149,7 @@ module _ (f : List ℕ) (at : ℕ) (s : Section) (x : Test) (e : x ≡ countFaul
 
 -- what a caller learns of a count n, the file's word, where the section passed
 pub section-bounds : (f : List ℕ) (at : ℕ) (s : Section) (x : Test) → x ≡ sectionFault f at s → x ≡ Passed → (n m : ℕ) → n ≡ m → m ≡ getD f at 0
-    → (n ≤ most s) × (at + 1 + recordLength s * n ≤ length f)
+    → (n ≤ most s) × (behind at s n ≤ length f)
 section-bounds f at s x e g n m p q =
     let h : Section-passed f at s = section-passed f at s (sym e ∙ g) in
     rw (p, q) (h .count .many, h .whole)

@@ -16,7 +16,7 @@ use Rattle.action.specs.declared.Lawful.{Lawful}
 use Rattle.action.specs.declared.Lawful.the-variants.{Yes, Broken}
 use Rattle.action.proofs.Exact.{search-exact, search-shows}
 use Rattle.policy.specs.Numbers.{operatorLength, mostAtoms, mostChildren, deepest, short, wrongCount, wrongCell, wrongMatch, wrongAction, wrongNode, extraWords, noTree, wrongSum, lawBroken}
-use Rattle.policy.specs.Read.{plain, unless, _else_, each, recordLength, least, most, countFault, cellsFrom, cellsFault, atomFault, nodeFault, recordFault, sectionFault, innerOf, parentOf, siblingOf, ownOf, childrenOf, waitingNodes, oneLess, shape, shapeFault, ownAtoms, sumFault, named, broken, cellsOf, operatorFault, lawsFrom, lawsFault, atomsAt, nodesAt, endOf, operatorRecords, nodeRecords, stages, layout, answer, readOf}
+use Rattle.policy.specs.Read.{plain, unless, _else_, each, recordLength, least, most, countFault, cellsFrom, cellsFault, atomFault, nodeFault, recordFault, sectionFault, innerOf, parentOf, siblingOf, ownOf, childrenOf, waitingNodes, oneLess, shape, shapeFault, ownAtoms, sumFault, named, broken, cellsOf, operatorFault, lawsFrom, lawsFault, atomsAt, nodesAt, endOf, operatorRecords, nodeRecords, wholeStages, stages, layout, answer, readOf}
 use Rattle.policy.specs.File.{operatorAt}
 use Rattle.policy.specs.WellFormed.{Otherwise}
 use Rattle.policy.specs.Theorems.{RefusedLaw, BrokenRefused, RefusedPlain}
@@ -140,7 +140,7 @@ module _ (f : List ℕ) (a b c : ℕ) where
   laws = lawsFault (nodeRecords f a b c) (operatorRecords f a)
 
   split : (r : Refusal) → answer (stages f a b c) (layout a b c) ≡ Refused r → PlainRefusal r ⊎ (Stages f a b c × (laws ≡ Failed r))
-  unfolding stages before laws
+  unfolding stages wholeStages before laws
   split r e =
       ⊎-elim
       (λ h. inl h)
@@ -251,7 +251,7 @@ last-answer (Failed r) l n = (r, refl, refl)
 
 -- A BROKEN LAW IS REFUSED
 pub broken-refused : BrokenRefused
-unfolding readOf stages answer lawsFault
+unfolding readOf stages wholeStages answer lawsFault
 broken-refused f a b c o n =
     let os : List (List ℕ) = operatorRecords f a in
     let ns : List (List ℕ) = nodeRecords f a b c in

@@ -4,6 +4,14 @@ use Prim.Native.Nat.{ℕ, _+_, _*_}
 use Rattle.action.specs.Operator.{cellCount}
 use Rattle.row.specs.Row.{rowLength}
 
+-- the words before the first count
+abbrev pub headerLength : ℕ
+headerLength = 0
+
+-- where the first operator stands, behind the count of the operators
+abbrev pub firstOperator : ℕ
+firstOperator = headerLength + 1
+
 -- the words of an operator: its cells
 abbrev pub operatorLength : ℕ
 operatorLength = cellCount
@@ -34,7 +42,7 @@ mostChildren = 255
 
 -- the words of the longest file: three counts, and three full sections
 abbrev pub longestFile : ℕ
-longestFile = 3 + operatorLength * mostOperators + atomLength * mostAtoms + nodeLength * mostNodes
+longestFile = headerLength + 3 + operatorLength * mostOperators + atomLength * mostAtoms + nodeLength * mostNodes
 
 -- the deepest that a node may stand; the root has depth 1
 abbrev pub deepest : ℕ

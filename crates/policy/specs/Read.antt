@@ -9,7 +9,9 @@
 --   shapeFault             the nodes are one tree, no deeper than allowed (8)
 --   sumFault               the own-atom counts add up to the atoms (9)
 --   lawsFault              the operators that some node names as inner or sibling keep the laws (10)
---   stages, answer         all stages in order, with words after the last node (7) before the tree
+--   behind                 where a section ends: the next one's count stands there
+--   wholeStages            once the sections are good: words after the last node (7), then the tree, the sum and the laws
+--   stages, answer         all stages in order
 --   readOf                 the answer
 --   numbered               the answer's number, place, law and actions
 use Prim.Native.Nat.{ℕ, zero, suc, _+_, _*_, pred}
@@ -25,7 +27,8 @@ use Rattle.action.specs.declared.Action.the-variants.{DontCare}
 use Rattle.action.specs.declared.Law.the-variants.{Unnamed}
 use Rattle.action.specs.declared.Lawful.{Lawful}
 use Rattle.action.specs.declared.Lawful.the-variants.{Yes, Broken}
-use Rattle.policy.specs.Numbers.{operatorLength, atomLength, nodeLength, mostOperators, mostAtoms, mostNodes, mostChildren, deepest}
+use Rattle.policy.specs.Numbers.{headerLength, firstOperator, operatorLength, atomLength, nodeLength}
+use Rattle.policy.specs.Numbers.{mostOperators, mostAtoms, mostNodes, mostChildren, deepest}
 use Rattle.policy.specs.Numbers.{short, wrongCount, wrongCell, wrongMatch, wrongAction, wrongNode, extraWords, noTree, wrongSum, lawBroken}
 use Rattle.policy.specs.declared.Layout.{Layout}
 use Rattle.policy.specs.declared.Reading.{Reading}
@@ -125,13 +128,17 @@ recordFault Operators at r = cellsFault at r
 recordFault Atoms at r = atomFault at r
 recordFault (Nodes n) at r = nodeFault n at r
 
+-- where a section of n records ends, whose count stands at a place
+abbrev pub behind : ℕ → Section → ℕ → ℕ
+behind at s n = at + 1 + recordLength s * n
+
 -- a section: its count, then the whole section, then its records in order
 unfoldable pub sectionFault : List ℕ → ℕ → Section → Test
 sectionFault f at s =
     let k : ℕ = recordLength s in
     let n : ℕ = getD f at 0 in
     _else_ (countFault f at s)
-    (_else_ (unless (leb (at + 1 + k * n) (length f)) short (length f))
+    (_else_ (unless (leb (behind at s n) (length f)) short (length f))
     (each (recordFault s) (at + 1) k (records n k (drop (at + 1) f))))
 
 -- of the children still to come of each open node, the innermost first: those that wait for one
@@ -199,15 +206,15 @@ lawsFault ns os = lawsFrom ns 0 os
 
 -- where the count of the atoms stands in a file of a operators
 abbrev pub atomsAt : ℕ → ℕ
-atomsAt a = 1 + operatorLength * a
+atomsAt a = behind headerLength Operators a
 
 -- where the count of the nodes stands in a file of a operators and b atoms
 abbrev pub nodesAt : ℕ → ℕ → ℕ
-nodesAt a b = 2 + operatorLength * a + atomLength * b
+nodesAt a b = behind (atomsAt a) Atoms b
 
 -- the operators of a file, each by its words
 abbrev pub operatorRecords : List ℕ → ℕ → List (List ℕ)
-operatorRecords f a = records a operatorLength (drop 1 f)
+operatorRecords f a = records a operatorLength (drop firstOperator f)
 
 -- the atoms
 abbrev pub atomRecords : List ℕ → ℕ → ℕ → List (List ℕ)
@@ -219,19 +226,26 @@ nodeRecords f a b c = records c nodeLength (drop (nodesAt a b + 1) f)
 
 -- where a file of a operators, b atoms and c nodes ends
 abbrev pub endOf : ℕ → ℕ → ℕ → ℕ
-endOf a b c = nodesAt a b + 1 + nodeLength * c
+endOf a b c = behind (nodesAt a b) (Nodes a) c
+
+-- what is tested once all three sections are good: the count of the nodes stands at q
+unfoldable pub wholeStages : List ℕ → ℕ → ℕ → ℕ → ℕ → List Test
+wholeStages f a b c q =
+    let end : ℕ = behind q (Nodes a) c in
+    let ns : List (List ℕ) = records c nodeLength (drop (q + 1) f) in
+    unless (leb (length f) end) extraWords end
+    ∷ shapeFault ns
+    ∷ sumFault ns b
+    ∷ lawsFault ns (operatorRecords f a)
+    ∷ []
 
 -- the stages of reading a file of a operators, b atoms and c nodes, in order
 unfoldable pub stages : List ℕ → ℕ → ℕ → ℕ → List Test
 stages f a b c =
-    sectionFault f 0 Operators
+    sectionFault f headerLength Operators
     ∷ sectionFault f (atomsAt a) Atoms
     ∷ sectionFault f (nodesAt a b) (Nodes a)
-    ∷ unless (leb (length f) (endOf a b c)) extraWords (endOf a b c)
-    ∷ shapeFault (nodeRecords f a b c)
-    ∷ sumFault (nodeRecords f a b c) b
-    ∷ lawsFault (nodeRecords f a b c) (operatorRecords f a)
-    ∷ []
+    ∷ wholeStages f a b c (nodesAt a b)
 
 -- the layout of a file of a operators, b atoms and c nodes
 abbrev pub layout : ℕ → ℕ → ℕ → Layout
@@ -246,7 +260,7 @@ answer (Failed r ∷ ts) l = Refused r
 -- WHAT READING ANSWERS: the three counts are the words that stand in their places
 unfoldable pub readOf : List ℕ → Reading
 readOf f =
-    let a : ℕ = getD f 0 0 in
+    let a : ℕ = getD f headerLength 0 in
     let b : ℕ = getD f (atomsAt a) 0 in
     let c : ℕ = getD f (nodesAt a b) 0 in
     answer (stages f a b c) (layout a b c)

@@ -3,8 +3,10 @@ ghost use mathlib.Core.Path.{_≡_};
 ghost use Prim.Native.Nat.{_+_, _*_, _≤_};
 ghost use lib.ListN.{length, drop};
 ghost use Rattle.words.specs.Records.{records};
-ghost use Rattle.policy.specs.Numbers.{operatorLength, nodeLength};
+ghost use Rattle.policy.specs.Numbers.{nodeLength, mostOperators};
 ghost use Rattle.policy.specs.Read.{cellsOf, names, named, broken, operatorFault, lawsFault};
+ghost use Rattle.policy.specs.Read.{atomsAt, operatorRecords};
+use crate::FIRST_OPERATOR;
 use crate::INNER;
 use crate::LAW_BROKEN;
 use crate::NODE_WORDS;
@@ -19,11 +21,13 @@ use words::word;
 
 // The first operator, by index, that some node names and that breaks a law. The nodes stand at a place.
 pub(crate) fn laws_fault(file: &[u32], operators: usize, at: usize, count: usize) -> Test
-    requires { ⌜ (1 + operatorLength * operators ≤ length (now file)) × (at + nodeLength * count ≤ length (now file)) ⌝ }
-    ensures { λ r. ⌜ r ≡ lawsFault (records count nodeLength (drop at (now (file .entry)))) (records operators operatorLength (drop 1 (now (file .entry)))) ⌝ }
+    requires { ⌜ (operators ≤ mostOperators) × (atomsAt operators ≤ length (now file))
+        × (at + nodeLength * count ≤ length (now file)) ⌝ }
+    ensures { λ r. ⌜ r ≡ lawsFault (records count nodeLength (drop at (now (file .entry))))
+        (operatorRecords (now (file .entry)) operators) ⌝ }
 {
     let mut i = 0;
-    let mut from = 1;
+    let mut from = FIRST_OPERATOR;
     let mut left = operators;
     while 0 < left {
         let end = from + OPERATOR_WORDS;

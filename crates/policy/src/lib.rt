@@ -1,10 +1,12 @@
 // Reading a policy file: every list of words gets its layout or one refusal.
 ghost use mathlib.Core.Path.{_≡_};
-ghost use Prim.Native.Nat.{_+_, _*_, _≤_};
+ghost use Prim.Native.Nat.{_≤_};
 ghost use lib.ListN.{length};
-ghost use Rattle.policy.specs.Numbers.{nodeLength, mostOperators, mostAtoms, mostNodes};
-ghost use Rattle.policy.specs.Read.{atomsAt, nodesAt, readOf};
-ghost use Rattle.policy.specs.Steps.{fromStage, withNodes, withAtoms};
+ghost use Rattle.policy.specs.Numbers.{mostOperators, mostNodes};
+ghost use Rattle.policy.specs.Read.{behind, atomsAt, readOf};
+ghost use Rattle.policy.specs.Steps.{withWhole, withNodes, withAtoms};
+use crate::places::HEADER_WORDS;
+use crate::places::behind;
 use action::Action;
 use action::CELLS;
 use action::Law;
@@ -12,6 +14,7 @@ use row::ROW_WORDS;
 use words::word;
 
 mod laws;
+mod places;
 mod sections;
 mod shape;
 
@@ -22,9 +25,16 @@ pub const ATOM_WORDS: usize = ROW_WORDS;
 
 pub const NODE_WORDS: usize = 5;
 
+// Where the first operator stands, behind the count of the operators.
+pub const FIRST_OPERATOR: usize = HEADER_WORDS + 1;
+
+// How many operators a file has at most.
+pub const MOST_OPERATORS: usize = sections::MOST_OPERATORS as usize;
+
 // How many words the longest file has: three counts, and three full sections.
-pub const LONGEST_FILE: usize = 3
-    + OPERATOR_WORDS * (sections::MOST_OPERATORS as usize)
+pub const LONGEST_FILE: usize = HEADER_WORDS
+    + 3
+    + OPERATOR_WORDS * MOST_OPERATORS
     + ATOM_WORDS * (sections::MOST_ATOMS as usize)
     + NODE_WORDS * (sections::MOST_NODES as usize);
 
@@ -99,59 +109,60 @@ pub enum Section {
 pub fn read(file: &[u32]) -> Reading
     ensures { λ r. ⌜ r ≡ readOf (now (file .entry)) ⌝ }
 {
-    let found = sections::section_fault(file, 0, Section::Operators);
+    let found = sections::section_fault(file, HEADER_WORDS, Section::Operators);
     if let Test::Failed(r) = found {
         return Reading::Refused(r);
     }
-    read_atoms(file, sections::wide(word(file, 0)))
+    let a = sections::wide(word(file, HEADER_WORDS));
+    read_atoms(file, a, behind(HEADER_WORDS, Section::Operators, a))
 }
 
-// The second section and what follows it, in a file of a operators.
-fn read_atoms(file: &[u32], a: usize) -> Reading
-    requires { ⌜ (a ≤ mostOperators) × (atomsAt a ≤ length (now file)) ⌝ }
-    ensures { λ r. ⌜ r ≡ withAtoms 1 (now (file .entry)) a ⌝ }
+// The second section and what follows it, in a file of a operators. The count of the atoms stands at a place.
+fn read_atoms(file: &[u32], a: usize, at: usize) -> Reading
+    requires { ⌜ (a ≤ mostOperators) × (atomsAt a ≤ length (now file)) × (at ≤ length (now file)) ⌝ }
+    ensures { λ r. ⌜ r ≡ withAtoms (now (file .entry)) a at ⌝ }
 {
-    let at = 1 + OPERATOR_WORDS * a;
     let found = sections::section_fault(file, at, Section::Atoms);
     if let Test::Failed(r) = found {
         return Reading::Refused(r);
     }
-    read_nodes(file, a, sections::wide(word(file, at)))
+    let b = sections::wide(word(file, at));
+    read_nodes(file, a, b, behind(at, Section::Atoms, b))
 }
 
 // The third section and what follows it, in a file of a operators and b atoms.
-fn read_nodes(file: &[u32], a: usize, b: usize) -> Reading
-    requires { ⌜ (a ≤ mostOperators) × (b ≤ mostAtoms) × (nodesAt a b ≤ length (now file)) ⌝ }
-    ensures { λ r. ⌜ r ≡ withNodes 2 (now (file .entry)) a b ⌝ }
+fn read_nodes(file: &[u32], a: usize, b: usize, at: usize) -> Reading
+    requires { ⌜ (a ≤ mostOperators) × (atomsAt a ≤ length (now file)) × (at ≤ length (now file)) ⌝ }
+    ensures { λ r. ⌜ r ≡ withNodes (now (file .entry)) a b at ⌝ }
 {
-    let at = 2 + OPERATOR_WORDS * a + ATOM_WORDS * b;
     let found = sections::section_fault(file, at, Section::Nodes(a));
     if let Test::Failed(r) = found {
         return Reading::Refused(r);
     }
-    read_whole(file, a, b, sections::wide(word(file, at)))
+    read_whole(file, a, b, sections::wide(word(file, at)), at)
 }
 
 // What is tested once all three sections are good.
-fn read_whole(file: &[u32], a: usize, b: usize, c: usize) -> Reading
-    requires { ⌜ (a ≤ mostOperators) × (b ≤ mostAtoms) × (c ≤ mostNodes) × (nodesAt a b + 1 + nodeLength * c ≤ length (now file)) ⌝ }
-    ensures { λ r. ⌜ r ≡ fromStage 3 (now (file .entry)) a b c ⌝ }
+fn read_whole(file: &[u32], a: usize, b: usize, c: usize, at: usize) -> Reading
+    requires { ⌜ (a ≤ mostOperators) × (c ≤ mostNodes) × (atomsAt a ≤ length (now file))
+        × (behind at (Section.Nodes a) c ≤ length (now file)) ⌝ }
+    ensures { λ r. ⌜ r ≡ withWhole (now (file .entry)) a b c at ⌝ }
 {
-    let at = 2 + OPERATOR_WORDS * a + ATOM_WORDS * b + 1;
-    let end = at + NODE_WORDS * c;
+    let first = at + 1;
+    let end = first + NODE_WORDS * c;
     let extra = sections::unless(file.len() <= end, EXTRA_WORDS, end);
     if let Test::Failed(r) = extra {
         return Reading::Refused(r);
     }
-    let tree = shape::shape_fault(file, at, c);
+    let tree = shape::shape_fault(file, first, c);
     if let Test::Failed(r) = tree {
         return Reading::Refused(r);
     }
-    let sum = shape::sum_fault(file, at, c, b);
+    let sum = shape::sum_fault(file, first, c, b);
     if let Test::Failed(r) = sum {
         return Reading::Refused(r);
     }
-    let law = laws::laws_fault(file, a, at, c);
+    let law = laws::laws_fault(file, a, first, c);
     if let Test::Failed(r) = law {
         return Reading::Refused(r);
     }

@@ -21,6 +21,7 @@ use crate::WRONG_CELL;
 use crate::WRONG_COUNT;
 use crate::WRONG_MATCH;
 use crate::WRONG_NODE;
+use crate::places::behind;
 use action::Action;
 use action::Law;
 use action::right_cell;
@@ -48,16 +49,12 @@ pub(crate) fn section_fault(file: &[u32], at: usize, section: Section) -> Test
         return counted;
     }
     let count = wide(word(file, at));
-    let first = at + 1;
-    let there = unless(
-        first + record_words(section) * count <= file.len(),
-        SHORT,
-        file.len(),
-    );
+    let end = behind(at, section, count);
+    let there = unless(end <= file.len(), SHORT, file.len());
     if let Test::Failed(_) = there {
         return there;
     }
-    records_fault(file, first, count, section)
+    records_fault(file, at + 1, count, section)
 }
 
 // Whether a count is there and within its limits.
@@ -149,7 +146,7 @@ fn node_fault(node: &[u32], at: usize, operators: usize) -> Test
 }
 
 // How many words a record of a section has.
-fn record_words(section: Section) -> usize
+pub(crate) fn record_words(section: Section) -> usize
     ensures { λ r. ⌜ r ≡ recordLength section ⌝ }
 {
     match section {

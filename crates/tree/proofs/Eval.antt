@@ -1,6 +1,6 @@
 -- The whole walk gives eval of the file's tree, and the answer goes by what reading said. Assumes nothing.
-use Prim.Native.Nat.{ℕ, _+_, _≤_, _<_}
-use mathlib.Core.Path.{_≡_, refl, sym, ap, _∙_}
+use Prim.Native.Nat.{ℕ, _<_}
+use mathlib.Core.Path.{_≡_, sym, ap, _∙_}
 use mathlib.Core.Bool.{Bool, true, false}
 use mathlib.Core.List.{List}
 use lib.ListN.{drop}
@@ -9,16 +9,15 @@ use Rattle.theory.specs.Tree.{_▸_}
 use Rattle.flow.specs.Packet.{packetOf, rightPacketWords, wrongPacket}
 use Rattle.flow.specs.declared.Packet.{Packet}
 use Rattle.action.specs.declared.Action.{Action}
-use Rattle.policy.specs.Numbers.{mostOperators}
 use Rattle.policy.specs.Read.{plain, readOf}
-use Rattle.policy.specs.Read as read
 use Rattle.policy.specs.File.{PolicyTree, firstTree, treeOf}
 use Rattle.policy.specs.declared.Layout.{Layout}
 use Rattle.policy.specs.declared.Reading.{Reading}
 use Rattle.policy.specs.declared.Reading.the-variants.{Accepted, Refused}
 use Rattle.policy.specs.declared.Refusal.{Refusal}
-use Rattle.policy.proofs.Accepted.{accepted-exactly}
 use Rattle.nodes.specs.Walk.{listOf, nodeIndex, Reached}
+use Rattle.nodes.specs.Nodes.{rootSpot}
+use Rattle.nodes.specs.declared.Spot.{Spot}
 use Rattle.nodes.proofs.Places.{reached-start}
 use Rattle.tree.specs.Action.{evalTree, acceptedAction, actionOf}
 use Rattle.tree.specs.Steps.{TreeGave}
@@ -27,20 +26,16 @@ use Rattle.tree.specs.declared.Evaluated.{Evaluated}
 use Rattle.tree.specs.declared.Evaluated.the-variants as evaluated
 use Rattle.tree.specs.declared.Gave.{Gave}
 
--- an accepted file has few operators
-pub few-operators : (f : List ℕ) (l : Layout) → readOf f ≡ Accepted l → l .operators ≤ mostOperators
-few-operators f l e = accepted-exactly f l .0 e .otherwise .operators .most
-
--- the walk's start, as the code makes it
-module _ (f : List ℕ) (l : Layout) (e : readOf f ≡ Accepted l) where
-  pub start-reached : Reached f (record { left = l .nodes; atom = read.atomsAt (l .operators) + 1 }) × (0 < l .nodes)
-  start-reached = let r = reached-start f l e (record { left = l .nodes; atom = read.atomsAt (l .operators) + 1 }) refl refl in (r .0, r .1)
+-- the walk's start, as the code has it
+module _ (f : List ℕ) (l : Layout) (e : readOf f ≡ Accepted l) (at : Spot) (start : at ≡ rootSpot l) where
+  pub start-reached : Reached f at × (0 < at .left)
+  start-reached = let r = reached-start f l e at start in (r .0, r .1)
 
   -- what the walk from the root gives
-  pub root-gave : (p : Packet) {q : Packet} {r : Gave} → q ≡ p → TreeGave f (record { left = l .nodes; atom = read.atomsAt (l .operators) + 1 }) q r → r .action ≡ evalTree (treeOf f l) p
+  pub root-gave : (p : Packet) {q : Packet} {r : Gave} → q ≡ p → TreeGave f at q r → r .action ≡ evalTree (treeOf f l) p
   root-gave p {q} {r} same t =
-      let s = reached-start f l e (record { left = l .nodes; atom = read.atomsAt (l .operators) + 1 }) refl refl in
-      let first : nodeIndex f (record { left = l .nodes; atom = read.atomsAt (l .operators) + 1 }) ≡ 0 = s .2 in
+      let s = reached-start f l e at start in
+      let first : nodeIndex f at ≡ 0 = s .2 in
       let stands : plant (listOf f) ≡ t .tree ▸ plant (drop (nodeIndex f (r .next)) (listOf f)) = rw first at (t .stands .stands) in
       let tree : treeOf f l ≡ t .tree = ap (treeOf f) (s .3) ∙ ap firstTree stands in
       t .answer ∙ ap (evalTree (t .tree)) same ∙ ap (λ (x : PolicyTree). evalTree x p) (sym tree)

@@ -21,9 +21,9 @@ use nodes::Spot;
 use nodes::atoms_at;
 use nodes::join_at;
 use nodes::node_at;
+use nodes::root;
 use policy::ATOM_WORDS;
 use policy::Layout;
-use policy::OPERATOR_WORDS;
 use policy::Reading;
 use policy::Refusal;
 use policy::read;
@@ -58,11 +58,7 @@ fn accepted_action(file: &[u32], layout: Layout, packet: &[u32]) -> Evaluated
     ensures { λ r. ⌜ r ≡ acceptedAction (now (file .entry)) layout (now (packet .entry)) ⌝ }
 {
     if right_packet_words(packet) {
-        let start = Spot {
-            left: layout.nodes,
-            atom: 1 + OPERATOR_WORDS * layout.operators + 1,
-        };
-        let gave = subtree(file, start, read_packet(packet));
+        let gave = subtree(file, root(layout), read_packet(packet));
         let action = gave.action;
         Evaluated::Gives(action)
     } else {

@@ -6,7 +6,7 @@ use Prim.Native.Nat.{_*_}
 use Rattle.row.specs.Row.{rowLength}
 use mathlib.Core.Path.{refl, sym}
 use lib.Seq.{length-take-le}
-use Rattle.compile.proofs.Settling.{few-operators, start-reached, no-scratch, accepted-settles, tree-within, takes-alike}
+use Rattle.compile.proofs.Settling.{start-reached, no-scratch, accepted-settles, tree-within, takes-alike}
 use Rattle.compile.proofs.compile_accepted.Statement.{statement}
 use Rattle.compile.proofs.compile_accepted.Tie as tie
 
@@ -22,14 +22,8 @@ refused-requires c κs = search needs
 returns : tie.Need-returns
 returns c = no-scratch _ _ (c .before .before .room-of .ensures) (c .before .if1 .taken) (c .refused .ensures)
 
-mul-t9 : tie.Need-mul-t9
-mul-t9 c = omega (arith, few-operators _ _ (c .before .before .before .before .before .before .pre))
-
-add-t8 : tie.Need-add-t8
-add-t8 c = omega (arith, few-operators _ _ (c .before .before .before .before .before .before .pre))
-
-add-t11 : tie.Need-add-t11
-add-t11 c = omega (arith, few-operators _ _ (c .before .before .before .before .before .before .pre))
+root-requires : tie.Need-root-requires
+root-requires c κs = search needs
 
 slice-relend-prefix-subtree : tie.Need-slice-relend-prefix-subtree
 slice-relend-prefix-subtree c = omega (arith, c .before .before .room-of .ensures)
@@ -45,7 +39,7 @@ slice-aggregate-subtree-2 c = sym (length-take-le _ _ (omega (arith, c .before .
 
 subtree-requires : tie.Need-subtree-requires
 subtree-requires c κs =
-    let r = start-reached _ _ (c .before .before .before .before .before .before .before .before .pre) in
+    let r = start-reached _ _ (c .before .before .before .before .before .before .before .before .pre) _ (c .before .before .root .ensures) in
     (r .0, r .1, omega arith, takes-alike (rowLength * c .before .before .before .before .room-of .result) (c .before .before .before .before .before .before .before .before .args .scratch .now) (c .before .before .before .before .before .before .before .before .args .table .now) (omega (arith, c .before .before .before .if1 .left)) (omega (arith, c .before .before .before .before .room-of .ensures)))
 
 settle-requires : tie.Need-settle-requires
@@ -58,7 +52,7 @@ same-length-2 : tie.Need-same-length-2
 same-length-2 c = search needs
 
 returns-2 : tie.Need-returns-2
-returns-2 c = accepted-settles _ _ (c .before .before .before .before .before .before .before .before .before .before .before .before .before .before .before .before .before .before .before .before .pre) _ _ _ (c .before .before .before .before .before .before .before .before .before .before .before .before .before .before .before .before .room-of .ensures) (omega (arith, c .before .before .before .before .before .before .before .before .before .before .before .before .before .before .before .if1 .left)) _ _ _ _ _ _ refl (c .before .before .before .before .before .before .before .before .before .before .before .subtree .kept .1 .1 .0) (omega arith) _ (c .before .before .before .before .before .before .before .before .before .before .before .subtree .ensures) (c .before .before .before .before .settle .ensures)
+returns-2 c = accepted-settles _ _ (c .before .before .before .before .before .before .before .before .before .before .before .before .before .before .before .before .before .before .before .before .pre) _ (c .before .before .before .before .before .before .before .before .before .before .before .before .before .before .root .ensures) _ _ _ (c .before .before .before .before .before .before .before .before .before .before .before .before .before .before .before .before .room-of .ensures) (omega (arith, c .before .before .before .before .before .before .before .before .before .before .before .before .before .before .before .if1 .left)) _ _ _ _ _ _ refl (c .before .before .before .before .before .before .before .before .before .before .before .subtree .kept .1 .1 .0) (omega arith) _ (c .before .before .before .before .before .before .before .before .before .before .before .subtree .ensures) (c .before .before .before .before .settle .ensures)
 
 pub compile-accepted-spec : {M : Type 1} → statement M
 compile-accepted-spec =
@@ -68,9 +62,7 @@ compile-accepted-spec =
     mul-words
     refused-requires
     returns
-    mul-t9
-    add-t8
-    add-t11
+    root-requires
     slice-relend-prefix-subtree
     slice-aggregate-subtree
     slice-relend-prefix-subtree-2

@@ -3,9 +3,11 @@
 use borrow.Author.Needs.{needs}
 use native.Mathlib.Omega.{arith}
 use denote.Ref.{now}
-use Rattle.policy.specs.Read.{stages, readOf}
-use Rattle.policy.specs.Steps.{fromStage, withNodes, withAtoms}
-use Rattle.policy.proofs.Chain.{stop, go, carry}
+use Rattle.policy.specs.Numbers.{headerLength}
+use Rattle.policy.specs.Read.{behind, stages, readOf}
+use Rattle.policy.specs.Steps.{fromAtoms, withAtoms, fromOperators}
+use Rattle.policy.specs.declared.Section.the-variants.{Operators}
+use Rattle.policy.proofs.Chain.{stop, go, carry, carry-place}
 use Rattle.policy.proofs.Records.{section-bounds}
 use Rattle.policy.proofs.read.Statement.{statement}
 use Rattle.policy.proofs.read.Tie as tie
@@ -17,7 +19,7 @@ enum-known-found : tie.Need-enum-known-found
 enum-known-found c = search needs
 
 returns : tie.Need-returns
-unfolding readOf stages
+unfolding readOf stages withAtoms fromAtoms fromOperators
 returns c = stop _ _ _ _ (c .before .before .before .section-fault .ensures) _ (c .before .found .given .1)
 
 enum-told : tie.Need-enum-told
@@ -29,15 +31,21 @@ word-requires c κs = search needs
 wide-requires : tie.Need-wide-requires
 wide-requires c κs = search needs
 
+behind-requires : tie.Need-behind-requires
+behind-requires c κs =
+    omega (arith, section-bounds _ _ _ _ (c .before .before .before .before .section-fault .ensures) (c .before .before .enum-told .given .1) _ _ (c .wide .ensures) (c .before .word .ensures))
+
 read-atoms-requires : tie.Need-read-atoms-requires
-read-atoms-requires c κs = omega (arith, section-bounds _ _ _ _ (c .before .before .before .before .section-fault .ensures) (c .before .before .enum-told .given .1) _ _ (c .wide .ensures) (c .before .word .ensures))
+read-atoms-requires c κs =
+    omega (arith, section-bounds _ _ _ _ (c .before .before .before .before .before .section-fault .ensures) (c .before .before .before .enum-told .given .1) _ _ (c .before .wide .ensures) (c .before .before .word .ensures))
 
 returns-2 : tie.Need-returns-2
-unfolding readOf withAtoms withNodes fromStage stages
+unfolding readOf stages withAtoms fromAtoms fromOperators
 returns-2 c =
-    let g = c .before .before .before .before .before .before .before .args in
-    carry (λ n. withAtoms 0 (now (g .file)) n) _ _ _ _ (c .before .wide .ensures) (c .before .before .word .ensures)
-    (go _ _ _ _ (c .before .before .before .before .before .section-fault .ensures) (c .before .before .before .enum-told .given .1) _ (c .read-atoms .ensures))
+    let g = c .before .before .before .before .before .before .before .before .args in
+    carry (λ n. fromOperators (now (g .file)) headerLength n (behind headerLength Operators n)) _ _ _ _ (c .before .before .wide .ensures) (c .before .before .before .word .ensures)
+    (carry-place (λ q. fromOperators (now (g .file)) headerLength (c .before .before .wide .result) q) _ _ _ (c .before .behind .ensures)
+    (go _ _ _ _ (c .before .before .before .before .before .before .section-fault .ensures) (c .before .before .before .before .enum-told .given .1) _ (c .read-atoms .ensures)))
 
 pub read-spec : {M : Type 1} → statement M
 read-spec =
@@ -49,5 +57,6 @@ read-spec =
     enum-told
     word-requires
     wide-requires
+    behind-requires
     read-atoms-requires
     returns-2)

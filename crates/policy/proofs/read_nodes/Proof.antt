@@ -3,24 +3,11 @@
 use borrow.Author.Needs.{needs}
 use native.Mathlib.Omega.{arith}
 use denote.Ref.{now}
-use Rattle.policy.specs.Read.{stages}
-use Rattle.policy.specs.Steps.{fromStage, withNodes}
-use Rattle.policy.proofs.Chain.{stop, go, carry}
+use Rattle.policy.specs.Steps.{withWhole, fromNodes, withNodes}
+use Rattle.policy.proofs.Chain.{stop, go, carry, carry-place}
 use Rattle.policy.proofs.Records.{section-bounds}
 use Rattle.policy.proofs.read_nodes.Statement.{statement}
 use Rattle.policy.proofs.read_nodes.Tie as tie
-
-mul-at : tie.Need-mul-at
-mul-at c = search needs
-
-add-at : tie.Need-add-at
-add-at c = search needs
-
-mul-at-2 : tie.Need-mul-at-2
-mul-at-2 c = search needs
-
-add-at-2 : tie.Need-add-at-2
-add-at-2 c = search needs
 
 section-fault-requires : tie.Need-section-fault-requires
 section-fault-requires c κs = search needs
@@ -29,7 +16,7 @@ enum-known-found : tie.Need-enum-known-found
 enum-known-found c = search needs
 
 returns : tie.Need-returns
-unfolding withNodes fromStage stages
+unfolding withNodes fromNodes withWhole
 returns c = stop _ _ _ _ (c .before .before .before .section-fault .ensures) _ (c .before .found .given .1)
 
 enum-told : tie.Need-enum-told
@@ -42,23 +29,20 @@ wide-requires : tie.Need-wide-requires
 wide-requires c κs = search needs
 
 read-whole-requires : tie.Need-read-whole-requires
-read-whole-requires c κs = omega (arith, section-bounds _ _ _ _ (c .before .before .before .before .section-fault .ensures) (c .before .before .enum-told .given .1) _ _ (c .wide .ensures) (c .before .word .ensures))
+read-whole-requires c κs =
+    omega (arith, section-bounds _ _ _ _ (c .before .before .before .before .section-fault .ensures) (c .before .before .enum-told .given .1) _ _ (c .wide .ensures) (c .before .word .ensures))
 
 returns-2 : tie.Need-returns-2
-unfolding withNodes fromStage stages
+unfolding withNodes fromNodes withWhole
 returns-2 c =
     let g = c .before .before .before .before .before .before .before .args in
-    carry (λ n. fromStage 2 (now (g .file)) (g .a) (g .b) n) _ _ _ _ (c .before .wide .ensures) (c .before .before .word .ensures)
+    carry (λ n. fromNodes (now (g .file)) (g .a) (g .b) (g .at) n) _ _ _ _ (c .before .wide .ensures) (c .before .before .word .ensures)
     (go _ _ _ _ (c .before .before .before .before .before .section-fault .ensures) (c .before .before .before .enum-told .given .1) _ (c .read-whole .ensures))
 
 pub read-nodes-spec : {M : Type 1} → statement M
 read-nodes-spec =
     tie.close
     (tie.spec
-    mul-at
-    add-at
-    mul-at-2
-    add-at-2
     section-fault-requires
     enum-known-found
     returns

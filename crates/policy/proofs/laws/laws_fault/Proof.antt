@@ -7,14 +7,14 @@ use mathlib.Core.Path.{_≡_, refl}
 use denote.Ref.{now}
 use lib.ListN.{length, drop}
 use Rattle.words.specs.Records.{records}
-use Rattle.policy.specs.Numbers.{operatorLength, nodeLength}
-use Rattle.policy.specs.Read.{lawsFrom, lawsFault}
+use Rattle.policy.specs.Numbers.{operatorLength, nodeLength, mostOperators}
+use Rattle.policy.specs.Read.{lawsFrom, lawsFault, operatorRecords}
 use Rattle.policy.proofs.Nodes.{law-broken, law-kept, laws-kept}
 use Rattle.policy.proofs.laws.laws_fault.Statement.{statement}
 use Rattle.policy.proofs.laws.laws_fault.Tie as tie
 
 abbrev Inv-loop : tie.InvT-loop
-Inv-loop file operators at count i₀ from₀ left₀ i from left = ((from + operatorLength * left ≤ length file) × (at + nodeLength * count ≤ length file) × (i + left ≤ operators) × (operators ≤ length file)) × (lawsFrom (records count nodeLength (drop at file)) i (records left operatorLength (drop from file)) ≡ lawsFault (records count nodeLength (drop at file)) (records operators operatorLength (drop 1 file)))
+Inv-loop file operators at count i₀ from₀ left₀ i from left = ((from + operatorLength * left ≤ length file) × (at + nodeLength * count ≤ length file) × (i + left ≤ operators) × (operators ≤ mostOperators)) × (lawsFrom (records count nodeLength (drop at file)) i (records left operatorLength (drop from file)) ≡ lawsFault (records count nodeLength (drop at file)) (operatorRecords file operators))
 
 abbrev μ-loop : tie.MeasureT-loop
 μ-loop file operators at count i₀ from₀ left₀ i from left = left
