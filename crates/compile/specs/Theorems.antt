@@ -11,7 +11,7 @@ use mathlib.Core.Bool.{true}
 use mathlib.Core.List.{List, _++_}
 use mathlib.Core.Logic.{_↔_}
 use lib.ListN.{length, take}
-use Rattle.theory.specs.Rows.{Row, EveryRow}
+use Rattle.theory.specs.Rows.{Row}
 use Rattle.flow.specs.declared.Match.{Match}
 use Rattle.action.specs.Action.{inRange}
 use Rattle.action.specs.declared.Action.{Action}
@@ -22,6 +22,7 @@ use Rattle.policy.specs.declared.Layout.{Layout}
 use Rattle.policy.specs.declared.Reading.the-variants.{Accepted}
 use Rattle.compile.specs.Compile.{noRoom, room, compiledRows, zeros, answerOf, tableAfter, scratchAfter}
 use Rattle.compile.specs.declared.Compiled.the-variants.{Rows, Refused}
+use Rattle.logic.specs.Lists.{All}
 
 -- the words of the first n rows
 abbrev pub tableRows : ℕ → List ℕ → List ℕ
@@ -40,7 +41,7 @@ RoomExactly = (f t s : List ℕ) (l : Layout) → readOf f ≡ Accepted l → ro
 -- stand in the table with zeros behind them, and scratch is zero (rows-answered)
 abbrev pub RowsAnswered : Type 0
 RowsAnswered = (f t s : List ℕ) (l : Layout) → readOf f ≡ Accepted l → rowLength * room (length t) ≤ length s
-    → length (compiledRows f l) ≤ room (length t) → EveryRow InRange (compiledRows f l)
+    → length (compiledRows f l) ≤ room (length t) → All InRange (compiledRows f l)
     → (answerOf f t s ≡ Rows (length (compiledRows f l)))
     × (tableAfter f t s ≡ wordsOf (compiledRows f l) ++ zeros (length t - length (wordsOf (compiledRows f l))))
     × (scratchAfter f t s ≡ zeros (length s))
@@ -52,7 +53,7 @@ pub record Answered (f t s : List ℕ) (n : ℕ) : Type 0 where
   pub accepted : readOf f ≡ Accepted layout
   pub count : n ≡ length (compiledRows f layout)
   pub fits : n ≤ room (length t)
-  pub right : EveryRow RightRow (compiledRows f layout)
+  pub right : All RightRow (compiledRows f layout)
   pub stands : tableRows n (tableAfter f t s) ≡ wordsOf (compiledRows f layout)
 
 -- (answers-rows)

@@ -17,7 +17,7 @@ use mathlib.Core.List.{List}
 use mathlib.Core.Logic.{_↔_}
 use lib.ListN.{length, getD, take, drop}
 use Rattle.words.specs.Records.{flat}
-use Rattle.theory.specs.Rows.{Row, EveryRow, matchesAt}
+use Rattle.theory.specs.Rows.{Row, matchesAt}
 use Rattle.theory.specs.Number.{FirstPlace}
 use Rattle.flow.specs.Packet.{packetOf, rightPacketWords, wrongPacket}
 use Rattle.flow.specs.Match.{meets}
@@ -29,6 +29,7 @@ use Rattle.table.specs.Table.{wrongRow, rowCount, rowsIn, past, rightLen
 use Rattle.table.specs.Scan.{scanOf}
 use Rattle.table.specs.declared.Checked.the-variants.{Rows, Wrong}
 use Rattle.table.specs.declared.Scanned.the-variants.{Found, Refused}
+use Rattle.logic.specs.Lists.{All}
 
 -- the words of row i
 abbrev pub rowAt : List ℕ → ℕ → List ℕ
@@ -52,11 +53,11 @@ CheckFirst =
 
 -- each row of a right table is right
 abbrev pub TableRows : Type 0
-TableRows = (ws : List ℕ) → RightTable ws → EveryRow RightRow (rowsIn ws)
+TableRows = (ws : List ℕ) → RightTable ws → All RightRow (rowsIn ws)
 
 -- the words of right rows, not too many, are a right table
 abbrev pub TableWords : Type 0
-TableWords = (N : List (Row Match Action)) → EveryRow RightRow N → length N ≤ mostRows → RightTable (flat rowWords N)
+TableWords = (N : List (Row Match Action)) → All RightRow N → length N ≤ mostRows → RightTable (flat rowWords N)
 
 -- rows that are written are read again
 abbrev pub RowsRead : Type 0
