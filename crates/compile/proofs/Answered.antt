@@ -19,8 +19,7 @@ use Rattle.flow.proofs.Matches.{common-right}
 use Rattle.action.specs.Action.{inRange}
 use Rattle.action.specs.Operator as operator
 use Rattle.action.specs.declared.Action.{Action}
-use Rattle.row.specs.Row.{rowLength, rowOf, rightRowMatch, RightRow}
-use Rattle.common.specs.Tables.{wordsOf}
+use Rattle.row.specs.Row.{rowLength, rowOf, rightRowMatch, RightRow, wordsOf, InRange}
 use Rattle.policy.specs.Numbers.{atomLength, nodeLength}
 use Rattle.policy.specs.Read.{plain, readOf, ownOf, nodesAt, operatorRecords, atomRecords, nodeRecords}
 use Rattle.policy.specs.Read as read
@@ -32,8 +31,8 @@ use Rattle.policy.specs.declared.Reading.{Reading}
 use Rattle.policy.specs.declared.Reading.the-variants as reading
 use Rattle.policy.proofs.Accepted.{accepted-exactly, accepted-tree}
 use Rattle.compile.specs.Compile.{noRoom, noScratch, wrongRate, room, compiledRows, fine, zeros, acceptedAnswer, afterReading, answerOf, tableAfter}
-use Rattle.compile.specs.Compile.{scratchAfter, numbered}
-use Rattle.compile.specs.Theorems.{tableRows, InRange, RoomExactly, RowsAnswered, Answered, AnswersRows}
+use Rattle.compile.specs.Compile.{scratchAfter, compileRefusal, tableRows}
+use Rattle.compile.specs.Theorems.{RoomExactly, RowsAnswered, AnswerTells, AnswersRows}
 use Rattle.compile.specs.declared.Compiled.{Compiled}
 use Rattle.compile.specs.declared.Compiled.the-variants.{Rows, Refused}
 use Rattle.compile.proofs.Settling.{words-count}
@@ -56,7 +55,8 @@ module _ (K : List ℕ → Type 0) (T : Row Match Action → Type 0) where
       )
 
   -- where the operators and the atoms of an accepted file have them, so do the nodes of its tree
-  pub accepted-good : (f : List ℕ) (l : Layout) → readOf f ≡ reading.Accepted l → ((i : ℕ) → i < l .operators → K (operatorAt (operatorRecords f (l .operators)) i))
+  pub accepted-good : (f : List ℕ) (l : Layout) → readOf f ≡ reading.Accepted l
+      → ((i : ℕ) → i < l .operators → K (operatorAt (operatorRecords f (l .operators)) i))
       → ((i : ℕ) → i < l .atoms → T (rowOf (getD (atomRecords f (l .operators) (l .atoms)) i []))) → EveryNode (GoodNode K T) (treeOf f l)
   accepted-good f l e k t =
       let xs : List (List ℕ) = atomRecords f (l .operators) (l .atoms) in
@@ -97,7 +97,7 @@ no-rows : {X : Type 0} {n : ℕ} {r : Refusal} → Refused r ≡ Rows n → X
 no-rows q = let z : _≡_ {A = ℕ} 0 1 = cc in absurd (omega arith)
 
 -- of an accepted file
-accepted-rows : (f t s : List ℕ) (n : ℕ) (l : Layout) → readOf f ≡ reading.Accepted l → acceptedAnswer (compiledRows f l) t s ≡ Rows n → Answered f t s n
+accepted-rows : (f t s : List ℕ) (n : ℕ) (l : Layout) → readOf f ≡ reading.Accepted l → acceptedAnswer (compiledRows f l) t s ≡ Rows n → AnswerTells f t s n
 unfolding tableAfter
 accepted-rows f t s n l e =
     let N : List (Row Match Action) = compiledRows f l in
@@ -124,7 +124,7 @@ pub answers-rows : AnswersRows
 unfolding answerOf
 answers-rows f t s n = from (readOf f) refl
   where
-    from : (x : Reading) → readOf f ≡ x → afterReading x (λ r. Refused r) (λ l. acceptedAnswer (compiledRows f l) t s) ≡ Rows n → Answered f t s n
+    from : (x : Reading) → readOf f ≡ x → afterReading x (λ r. Refused r) (λ l. acceptedAnswer (compiledRows f l) t s) ≡ Rows n → AnswerTells f t s n
     from (reading.Accepted l) e q = accepted-rows f t s n l e q
     from (reading.Refused r) e q = no-rows q
 
@@ -149,4 +149,4 @@ room-exactly f t s l e enough =
   where
     other : (x : Bool) (n : ℕ) → cond x (Rows n) (Refused (plain wrongRate 0)) ≡ Refused (plain noRoom 0) → ⊥
     other true n q = let z : _≡_ {A = ℕ} 0 1 = cc in absurd (omega arith)
-    other false n q = let z : wrongRate ≡ noRoom = ap (λ (c : Compiled). numbered c .number) q in absurd (omega arith)
+    other false n q = let z : wrongRate ≡ noRoom = ap (λ (c : Compiled). compileRefusal c .number) q in absurd (omega arith)

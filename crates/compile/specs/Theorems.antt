@@ -1,10 +1,8 @@
 -- What is proved of the compile. Each statement is proved in proofs/ under the name given behind it.
 --
---   tableRows n t          the words of the first n rows of a table
---   InRange r              the rate of a row lies in its range
 --   RoomExactly            given its scratch, 12 exactly when the rows outnumber the room
 --   RowsAnswered           given scratch and room, and rates in range, the rows are answered and stand in the table
---   Answered, AnswersRows  a success answers how many rows the file has: they fit, are right, and stand in the table
+--   AnswerTells, AnswersRows  a success answers how many rows the file has: they fit, are right, and stand in the table
 use Prim.Native.Nat.{ℕ, _*_, _-_, _≤_, _<_}
 use mathlib.Core.Path.{_≡_}
 use mathlib.Core.Bool.{true}
@@ -15,22 +13,13 @@ use Rattle.theory.specs.Rows.{Row}
 use Rattle.flow.specs.declared.Match.{Match}
 use Rattle.action.specs.Action.{inRange}
 use Rattle.action.specs.declared.Action.{Action}
-use Rattle.row.specs.Row.{rowLength, RightRow}
-use Rattle.common.specs.Tables.{wordsOf}
+use Rattle.row.specs.Row.{rowLength, RightRow, wordsOf, InRange}
 use Rattle.policy.specs.Read.{plain, readOf}
 use Rattle.policy.specs.declared.Layout.{Layout}
 use Rattle.policy.specs.declared.Reading.the-variants.{Accepted}
-use Rattle.compile.specs.Compile.{noRoom, room, compiledRows, zeros, answerOf, tableAfter, scratchAfter}
+use Rattle.compile.specs.Compile.{noRoom, room, compiledRows, zeros, answerOf, tableAfter, scratchAfter, tableRows}
 use Rattle.compile.specs.declared.Compiled.the-variants.{Rows, Refused}
 use Rattle.logic.specs.Lists.{All}
-
--- the words of the first n rows
-abbrev pub tableRows : ℕ → List ℕ → List ℕ
-tableRows n t = take (n * rowLength) t
-
--- the rate of a row lies in its range
-abbrev pub InRange : Row Match Action → Type 0
-InRange r = inRange (r .action) ≡ true
 
 -- with scratch enough, an accepted file is refused with 12 exactly when its rows outnumber the room (room-exactly)
 abbrev pub RoomExactly : Type 0
@@ -48,7 +37,7 @@ RowsAnswered = (f t s : List ℕ) (l : Layout) → readOf f ≡ Accepted l → r
 
 -- what n rows as an answer tell: the file is accepted, its rows are as many, there is room for them, each is right, and
 -- they stand in the table
-pub record Answered (f t s : List ℕ) (n : ℕ) : Type 0 where
+pub record AnswerTells (f t s : List ℕ) (n : ℕ) : Type 0 where
   pub layout : Layout
   pub accepted : readOf f ≡ Accepted layout
   pub count : n ≡ length (compiledRows f layout)
@@ -58,4 +47,4 @@ pub record Answered (f t s : List ℕ) (n : ℕ) : Type 0 where
 
 -- (answers-rows)
 abbrev pub AnswersRows : Type 0
-AnswersRows = (f t s : List ℕ) (n : ℕ) → answerOf f t s ≡ Rows n → Answered f t s n
+AnswersRows = (f t s : List ℕ) (n : ℕ) → answerOf f t s ≡ Rows n → AnswerTells f t s n

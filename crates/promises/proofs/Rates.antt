@@ -17,7 +17,7 @@ use Rattle.action.specs.Operator.{cellCount, rateCell, largestCode, largestRate
 use Rattle.action.specs.declared.Action.{Action}
 use Rattle.action.specs.declared.Action.the-variants.{DontCare, Allow, Deny, Gmb}
 use Rattle.action.proofs.Words.{words-of-action, right-words}
-use Rattle.row.specs.Row.{kindPlace, ratePlace, rowAction, rightRowAction}
+use Rattle.row.specs.Row.{kindPlace, ratePlace, rowAction, rightRowAction, InRange}
 use Rattle.policy.specs.Read.{readOf, operatorRecords, atomRecords}
 use Rattle.policy.specs.File.{treeOf}
 use Rattle.policy.specs.WellFormed.{WellFormed}
@@ -26,7 +26,6 @@ use Rattle.policy.specs.declared.Reading.the-variants.{Accepted}
 use Rattle.policy.proofs.Passed.{right-codes}
 use Rattle.policy.proofs.Accepted.{accepted-exactly}
 use Rattle.compile.specs.Compile.{compiledRows, fine}
-use Rattle.compile.specs.Theorems.{InRange}
 use Rattle.compile.proofs.Answered.{every-fine, accepted-good}
 use Rattle.logic.specs.Lists.{All}
 

@@ -18,10 +18,10 @@ use Rattle.flow.specs.declared.Match.{Match}
 use Rattle.action.specs.Action.{kindOf, rateOf, actionOf, rightAction}
 use Rattle.action.specs.declared.Action.{Action}
 use Rattle.action.proofs.Words.{words-of-action, right-words}
-use Rattle.row.specs.Row.{rowLength, mostRows, kindPlace, ratePlace, rowOf, rowAction, rowWords, rightRow, rightRowMatch, rightRowAction, RightRow}
+use Rattle.row.specs.Row.{rowLength, mostRows, kindPlace, ratePlace, rowOf, rowAction, rowWords, rightRow, rightRowMatch, rightRowAction, RightRow, rowsIn}
 use Rattle.row.proofs.Rows.{row-back, row-long, words-back}
-use Rattle.table.specs.Table.{wrongTable, wrongRow, rowCount, rowsIn, past, rightLength, checkFrom, checkRows, checkOf}
-use Rattle.table.specs.Theorems.{rowAt, RightTable, CheckExactly, CheckFirst, TableRows, TableWords, RowsRead, RowsWritten}
+use Rattle.table.specs.Table.{wrongTable, wrongRow, rowCount, past, rightLength, checkFrom, checkRows, checkOf, rowAt, RightTable}
+use Rattle.table.specs.Theorems.{CheckExactly, CheckFirst, TableRows, TableWords, RowsRead, RowsWritten}
 use Rattle.table.specs.declared.Checked.the-variants.{Rows, Wrong}
 use Rattle.logic.specs.Lists.{All}
 use Rattle.logic.proofs.Lists.{all-at, all-map}

@@ -1,8 +1,6 @@
 -- What is proved of tables and the scan. A law of the same name in proofs/ proves each statement: check-exactly proves
 -- CheckExactly.
 --
---   rowAt                      the words of a row
---   RightTable                 what makes a table right
 --   CheckExactly               the check passes exactly the right tables
 --   CheckFirst                 a wrong row is named by the first place that has one, also behind a matching row
 --   TableRows, TableWords      the rows of a right table are right, and the words of right rows are a right table
@@ -24,22 +22,12 @@ use Rattle.flow.specs.Match.{meets}
 use Rattle.flow.specs.declared.Match.{Match}
 use Rattle.action.specs.declared.Action.{Action}
 use Rattle.action.specs.declared.Action.the-variants.{DontCare}
-use Rattle.row.specs.Row.{rowLength, mostRows, rowWords, rightRow, RightRow}
-use Rattle.table.specs.Table.{wrongRow, rowCount, rowsIn, past, rightLength, checkOf}
+use Rattle.row.specs.Row.{rowLength, mostRows, rowWords, rightRow, RightRow, rowsIn}
+use Rattle.table.specs.Table.{wrongRow, rowCount, past, rightLength, checkOf, rowAt, RightTable}
 use Rattle.table.specs.Scan.{scanOf}
 use Rattle.table.specs.declared.Checked.the-variants.{Rows, Wrong}
 use Rattle.table.specs.declared.Scanned.the-variants.{Found, Refused}
 use Rattle.logic.specs.Lists.{All}
-
--- the words of row i
-abbrev pub rowAt : List ℕ → ℕ → List ℕ
-rowAt ws i = take rowLength (drop (i * rowLength) ws)
-
--- a right table: a multiple of 11 words, not too many rows, and each row right
-pub record RightTable (ws : List ℕ) : Type 0 where
-  pub whole : length ws % rowLength ≡ 0
-  pub few : rowCount ws ≤ mostRows
-  pub rows : (i : ℕ) → i < rowCount ws → rightRow (rowAt ws i) ≡ true
 
 -- the check passes exactly the right tables, and answers how many rows they have
 abbrev pub CheckExactly : Type 0

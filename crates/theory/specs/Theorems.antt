@@ -23,7 +23,7 @@ use Rattle.theory.specs.Rows.{Row, scan, place, tried, matchesAt, common
 use Rattle.theory.specs.Tree.{Tree, node, bare, _▸_, Node, EveryNode, GoodNode, own, eval, compile}
 use Rattle.theory.specs.Nodes.{Listed, plant, listTree, listTrees, ChildrenFound}
 use Rattle.theory.specs.Number.{rowsOverlap, FirstPlace, levels, levelCount, priorities, chain, Chained, Right}
-use Rattle.theory.specs.Number.{distinct}
+use Rattle.theory.specs.Number.{distinct, Obeyed}
 
 module _ {M P A O : Type 0} (meets : M → P → Bool) (dontCare : A) (joined : O → A → A → A) (common : M → M → M)
     (empty : M → Bool) where
@@ -114,13 +114,6 @@ module _ (over : ℕ → ℕ → Bool) (n : ℕ) where
 -- Where a packet meets two matches, they overlap.
 abbrev pub Overlapping : {M P : Type 0} → (M → P → Bool) → (M → M → Bool) → Type 0
 Overlapping {M} {P} meets overlap = (m n : M) (p : P) → meets m p ≡ true → meets n p ≡ true → overlap m n ≡ true
-
--- A switch with the numbers q may obey row i: it matches, and no matching row has a higher number.
-pub record Obeyed {M P A : Type 0} (meets : M → P → Bool) (d : Row M A) (N : List (Row M A)) (q : ℕ → ℕ) (p : P)
-    (i : ℕ) : Type 0 where
-  pub within : i < length N
-  pub matches : matchesAt meets d N p i ≡ true
-  pub highest : (j : ℕ) → j < length N → matchesAt meets d N p j ≡ true → q j ≤ q i
 
 module _ {M P A : Type 0} (meets : M → P → Bool) (dontCare : A) (overlap : M → M → Bool) where
   -- Under a right numbering, whatever row a switch obeys has the scan's action.
