@@ -17,7 +17,8 @@ use Rattle.row.specs.Row.{rowLength, RightRow, wordsOf, InRange}
 use Rattle.policy.specs.Read.{plain, readOf}
 use Rattle.policy.specs.declared.Layout.{Layout}
 use Rattle.policy.specs.declared.Reading.the-variants.{Accepted}
-use Rattle.compile.specs.Compile.{noRoom, room, compiledRows, zeros, answerOf, tableAfter, scratchAfter, tableRows}
+use Rattle.compile.specs.Compile.{noRoom, room, compiledRows, zeros, answerOf, tableAfter, scratchAfter}
+use Rattle.compile.specs.Compile.{tableRows}
 use Rattle.compile.specs.declared.Compiled.the-variants.{Rows, Refused}
 use Rattle.logic.specs.Lists.{All}
 

@@ -24,7 +24,8 @@ use Rattle.flow.specs.Theorems.{SharedPacket}
 use Rattle.flow.specs.declared.Packet.{Packet}
 use Rattle.table.specs.Table.{rowCount, past, RightTable}
 use Rattle.table.specs.Scan.{scanOf, scanAction}
-use Rattle.priority.specs.Numbering.{over, levelsOf, numberOf, prioritiesAfter, chainAfter, answerCount, Ready, Shared, count, priority, link}
+use Rattle.priority.specs.Numbering.{over, levelsOf, numberOf, prioritiesAfter, chainAfter, answerCount, Ready}
+use Rattle.priority.specs.Numbering.{Shared, count, priority, link}
 use Rattle.priority.specs.declared.Numbered.the-variants.{Priorities, Refused}
 use Rattle.row.specs.Row.{rowsIn}
 

@@ -42,7 +42,8 @@ module _ (f : List ℕ) (n : ℕ) (e : answerOf f blank blank ≡ Rows n) where
   many : n ≡ rowCount (tableRows n (tableAfter f blank blank))
   many = check-exactly (tableRows n (tableAfter f blank blank)) n .0 (table-right f blank blank n e) .1
 
-  numbers : numberOf (tableRows n (tableAfter f blank blank)) listingRoom listingRoom ≡ Priorities (levelCount (levelsOf (tableRows n (tableAfter f blank blank))))
+  numbers : numberOf (tableRows n (tableAfter f blank blank)) listingRoom listingRoom
+      ≡ Priorities (levelCount (levelsOf (tableRows n (tableAfter f blank blank))))
   unfolding numberOf
   numbers = rw (table-right f blank blank n e, le-leb n listingRoom few)
 

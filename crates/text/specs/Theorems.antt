@@ -27,7 +27,8 @@ use Rattle.compile.specs.declared.Compiled.the-variants.{Rows, Refused}
 use Rattle.priority.specs.Numbering.{levelsOf, prioritiesOf}
 use Rattle.line.specs.Text.{ascii, head, refusal, longestLine}
 use Rattle.line.specs.Puts.{Puts}
-use Rattle.text.specs.Listing.{wrongInput, listingRoom, longestInput, rightInput, lines, blank, fileText, listingOf, longestListing, ListedRows}
+use Rattle.text.specs.Listing.{wrongInput, listingRoom, longestInput, rightInput, lines, blank, fileText}
+use Rattle.text.specs.Listing.{listingOf, longestListing, ListedRows}
 use Rattle.row.specs.Row.{rowsIn}
 
 -- the rows that the compile leaves pass the table's check, with as many rows
