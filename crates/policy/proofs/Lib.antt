@@ -1,3 +1,4 @@
+pub mod Editions
 pub mod Records
 pub mod Nodes
 pub mod Stack

@@ -50,21 +50,21 @@ module _ (i from left : ℕ) (f : List ℕ) (v : Bool) (inv : named i (records l
       none-left (suc n) g e = absurd (omega arith)
 
 -- laws
-module _ (ns : List (List ℕ)) (i from left : ℕ) (f : List ℕ) (v : Test) (inv : lawsFrom ns i (records left 9 (drop from f)) ≡ v) where
-  module _ (m : 0 < left) (x : Test) (e : x ≡ operatorFault ns i (take (from + 9 - from) (drop from f))) where
-    next-law : v ≡ _else_ x (lawsFrom ns (i + 1) (records (left - 1) 9 (drop (from + 9) f)))
-    next-law = sym inv ∙ rw (records-next 9 from left f m, e, add-one i)
+module _ (ns : List (List ℕ)) (k i from left : ℕ) (f : List ℕ) (v : Test) (inv : lawsFrom ns i (records left k (drop from f)) ≡ v) where
+  module _ (m : 0 < left) (x : Test) (e : x ≡ operatorFault ns i (take (from + k - from) (drop from f))) where
+    next-law : v ≡ _else_ x (lawsFrom ns (i + 1) (records (left - 1) k (drop (from + k) f)))
+    next-law = sym inv ∙ rw (records-next k from left f m, e, add-one i)
 
     pub law-broken : (r : Refusal) → x ≡ Failed r → x ≡ v
     law-broken r g = cc next-law
 
-    pub law-kept : x ≡ Passed → lawsFrom ns (i + 1) (records (left - 1) 9 (drop (from + 9) f)) ≡ v
+    pub law-kept : x ≡ Passed → lawsFrom ns (i + 1) (records (left - 1) k (drop (from + k) f)) ≡ v
     law-kept g = cc next-law
 
   pub laws-kept : left ≤ 0 → Passed ≡ v
   laws-kept m = none-left left m inv
     where
-      none-left : (n : ℕ) → n ≤ 0 → lawsFrom ns i (records n 9 (drop from f)) ≡ v → Passed ≡ v
+      none-left : (n : ℕ) → n ≤ 0 → lawsFrom ns i (records n k (drop from f)) ≡ v → Passed ≡ v
       none-left zero g e = e
       none-left (suc n) g e = absurd (omega arith)
 

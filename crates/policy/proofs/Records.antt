@@ -12,8 +12,9 @@ use borrow.Author.Tests.{leb-true, ltb-true}
 use Rattle.words.specs.Records.{records}
 use Rattle.words.proofs.Records.{records-next, records-none}
 use Rattle.action.specs.Operator.{rightCell}
-use Rattle.policy.specs.Numbers.{short, wrongCount, wrongCell, atomLength, mostAtoms}
+use Rattle.policy.specs.Numbers.{short, wrongCount, wrongCell}
 use Rattle.policy.specs.Read.{unless, _else_, each, recordLength, least, most, countFault, cellsFrom, recordFault, behind, sectionFault}
+use Rattle.policy.specs.declared.Edition.the-variants.{First}
 use Rattle.policy.specs.declared.Refusal.{Refusal}
 use Rattle.policy.specs.declared.Section.{Section}
 use Rattle.policy.specs.declared.Section.the-variants.{Operators, Atoms, Nodes}
@@ -94,10 +95,13 @@ counted f at s e =
       many = leb-true n (most s) (and-right (leb (least s) n) (leb n (most s)) k);
     }
 
--- no record is longer than an atom, and no section has more records than atoms may be: a section's words are few
-pub section-small : (s : Section) (n : ℕ) → n ≤ most s → recordLength s * n ≤ atomLength * mostAtoms
-section-small Operators n h = omega arith
-section-small Atoms n h = omega arith
+-- more words than any section has
+abbrev pub sectionLimit : ℕ
+sectionLimit = 16384
+
+pub section-small : (s : Section) (n : ℕ) → n ≤ most s → recordLength s * n ≤ sectionLimit
+section-small (Operators First) n h = omega arith
+section-small (Atoms First) n h = omega arith
 section-small (Nodes k) n h = omega arith
 
 -- a section that passes: its count, its whole length and its records
@@ -128,7 +132,7 @@ module _ (f : List ℕ) (at : ℕ) (s : Section) (t : Test) (e : t ≡ countFaul
   count-fails r g = rw (← e, g)
 
   module _ (passes : t ≡ Passed) (n m : ℕ) (q : n ≡ m) (w : m ≡ getD f at 0) where
-    pub words-few : behind at s n ≤ at + 1 + atomLength * mostAtoms
+    pub words-few : behind at s n ≤ at + 1 + sectionLimit
     words-few = rw (q, w) (omega (arith, section-small s (getD f at 0) (counted f at s (sym e ∙ passes) .many)))
 
     module _ (x : ℕ) (p : x ≡ behind at s n) (y : Test) (d : y ≡ unless (leb x (length f)) short (length f)) where

@@ -1,4 +1,5 @@
 pub mod Numbers
+pub mod Atom
 pub mod Read
 pub mod Steps
 pub mod File

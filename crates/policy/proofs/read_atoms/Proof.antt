@@ -32,19 +32,27 @@ wide-requires c κs = search needs
 
 behind-requires : tie.Need-behind-requires
 behind-requires c κs =
-    omega (arith, section-bounds _ _ _ _ (c .before .before .before .before .section-fault .ensures) (c .before .before .enum-told .given .1) _ _ (c .wide .ensures) (c .before .word .ensures))
+    omega (
+      arith,
+      section-bounds _ _ _ _ (c .before .before .before .before .section-fault .ensures) (c .before .before .enum-told .given .1) _ _
+          (c .wide .ensures) (c .before .word .ensures),
+    )
 
 read-nodes-requires : tie.Need-read-nodes-requires
 read-nodes-requires c κs =
-    omega (arith, section-bounds _ _ _ _ (c .before .before .before .before .before .section-fault .ensures) (c .before .before .before .enum-told .given .1) _ _ (c .before .wide .ensures) (c .before .before .word .ensures))
+    let b = section-bounds _ _ _ _ (c .before .before .before .before .before .section-fault .ensures) (c .before .before .before .enum-told .given .1) _ _
+    (c .before .wide .ensures) (c .before .before .word .ensures) in
+    omega (arith, b, c .behind .ensures)
 
 returns-2 : tie.Need-returns-2
 unfolding withAtoms fromAtoms withNodes fromNodes
 returns-2 c =
     let g = c .before .before .before .before .before .before .before .before .args in
-    carry (λ n. fromAtoms (now (g .file)) (g .a) (g .at) n (behind (g .at) Atoms n)) _ _ _ _ (c .before .before .wide .ensures) (c .before .before .before .word .ensures)
-    (carry-place (λ q. fromAtoms (now (g .file)) (g .a) (g .at) (c .before .before .wide .result) q) _ _ _ (c .before .behind .ensures)
-    (go _ _ _ _ (c .before .before .before .before .before .before .section-fault .ensures) (c .before .before .before .before .enum-told .given .1) _ (c .read-nodes .ensures)))
+    carry (λ n. fromAtoms (g .edition) (now (g .file)) (g .h) (g .a) (g .at) n (behind (g .at) (Atoms (g .edition)) n)) _ _ _ _
+    (c .before .before .wide .ensures) (c .before .before .before .word .ensures)
+    (carry-place (λ q. fromAtoms (g .edition) (now (g .file)) (g .h) (g .a) (g .at) (c .before .before .wide .result) q) _ _ _ (c .before .behind .ensures)
+    (go _ _ _ _ (c .before .before .before .before .before .before .section-fault .ensures) (c .before .before .before .before .enum-told .given .1) _
+    (c .read-nodes .ensures)))
 
 pub read-atoms-spec : {M : Type 1} → statement M
 read-atoms-spec =

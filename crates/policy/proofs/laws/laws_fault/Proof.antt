@@ -3,40 +3,50 @@
 use borrow.Author.Needs.{needs}
 use native.Mathlib.Omega.{arith}
 use Prim.Native.Nat.{_+_, _*_, _≤_}
-use mathlib.Core.Path.{_≡_, refl}
+use mathlib.Core.Path.{_≡_, refl, ap, _∙_}
 use denote.Ref.{now}
 use lib.ListN.{length, drop}
 use Rattle.words.specs.Records.{records}
-use Rattle.policy.specs.Numbers.{operatorLength, nodeLength, mostOperators}
-use Rattle.policy.specs.Read.{lawsFrom, lawsFault, operatorRecords}
+use Rattle.policy.specs.Numbers.{nodeLength, mostOperators}
+use Rattle.policy.specs.Read.{lawsFrom, lawsFault}
 use Rattle.policy.proofs.Nodes.{law-broken, law-kept, laws-kept}
+use Rattle.policy.proofs.Records.{fits}
 use Rattle.policy.proofs.laws.laws_fault.Statement.{statement}
 use Rattle.policy.proofs.laws.laws_fault.Tie as tie
 
 abbrev Inv-loop : tie.InvT-loop
-Inv-loop file operators at count i₀ from₀ left₀ i from left = ((from + operatorLength * left ≤ length file) × (at + nodeLength * count ≤ length file) × (i + left ≤ operators) × (operators ≤ mostOperators)) × (lawsFrom (records count nodeLength (drop at file)) i (records left operatorLength (drop from file)) ≡ lawsFault (records count nodeLength (drop at file)) (operatorRecords file operators))
+Inv-loop file h operators at count step i₀ from₀ left₀ i from left =
+    ((from + step * left ≤ length file) × (at + nodeLength * count ≤ length file) × (i + left ≤ operators) × (operators ≤ mostOperators))
+    × (lawsFrom (records count nodeLength (drop at file)) i (records left step (drop from file))
+    ≡ lawsFault (records count nodeLength (drop at file)) (records operators step (drop (h + 1) file)))
 
 abbrev μ-loop : tie.MeasureT-loop
-μ-loop file operators at count i₀ from₀ left₀ i from left = left
+μ-loop file h operators at count step i₀ from₀ left₀ i from left = left
+
+operator-words-requires : tie.Need-operator-words-requires Inv-loop μ-loop
+operator-words-requires c κs = search needs
+
+add-from : tie.Need-add-from Inv-loop μ-loop
+add-from c = search needs
 
 loop-holds : tie.Need-loop-holds Inv-loop μ-loop
 unfolding lawsFault
-loop-holds c = (omega arith, refl)
+loop-holds c = rw (c .operator-words .ensures) (omega arith, refl)
 
 add-end : tie.Need-add-end Inv-loop μ-loop
-add-end c = search needs
+add-end c = omega (arith, fits _ (c .before .loop .from) (c .before .loop .left) _ (c .loop-test .taken) (c .before .loop .inv .0 .0))
 
 mul-operator-fault : tie.Need-mul-operator-fault Inv-loop μ-loop
-mul-operator-fault c = search needs
+mul-operator-fault c = omega (arith, fits _ (c .before .loop .from) (c .before .loop .left) _ (c .loop-test .taken) (c .before .loop .inv .0 .0))
 
 sub-operator-fault : tie.Need-sub-operator-fault Inv-loop μ-loop
-sub-operator-fault c = search needs
+sub-operator-fault c = omega (arith, fits _ (c .before .loop .from) (c .before .loop .left) _ (c .loop-test .taken) (c .before .loop .inv .0 .0))
 
 part-operator-fault-start : tie.Need-part-operator-fault-start Inv-loop μ-loop
-part-operator-fault-start c = search needs
+part-operator-fault-start c = omega (arith, fits _ (c .before .loop .from) (c .before .loop .left) _ (c .loop-test .taken) (c .before .loop .inv .0 .0))
 
 part-operator-fault-end : tie.Need-part-operator-fault-end Inv-loop μ-loop
-part-operator-fault-end c = search needs
+part-operator-fault-end c = omega (arith, fits _ (c .before .loop .from) (c .before .loop .left) _ (c .loop-test .taken) (c .before .loop .inv .0 .0))
 
 operator-fault-requires : tie.Need-operator-fault-requires Inv-loop μ-loop
 operator-fault-requires c κs = search needs
@@ -47,17 +57,17 @@ enum-told c = search needs
 returns : tie.Need-returns Inv-loop μ-loop
 returns c =
     let l = c .before .before .before .before .before .loop in
-    let g = c .before .before .before .before .before .before .before .args in
-    law-broken (records (g .count) nodeLength (drop (g .at) (now (g .file)))) (l .i) (l .from) (l .left) (now (g .file)) _ (l .inv .1) (c .before .before .before .before .loop-test .taken) _ (c .before .before .operator-fault .ensures) _ (c .enum-told .given .1)
+    let g = c .before .before .before .before .before .before .before .before .args in
+    law-broken (records (g .count) nodeLength (drop (g .at) (now (g .file)))) _ (l .i) (l .from) (l .left) (now (g .file)) _ (l .inv .1)
+    (c .before .before .before .before .loop-test .taken) _ (c .before .before .operator-fault .ensures) _ (c .enum-told .given .1)
+    ∙ ap (λ k. lawsFault (records (g .count) nodeLength (drop (g .at) (now (g .file)))) (records (g .operators) k (drop (g .h + 1) (now (g .file)))))
+    (c .before .before .before .before .before .before .operator-words .ensures)
 
 enum-told-2 : tie.Need-enum-told-2 Inv-loop μ-loop
 enum-told-2 c = search needs
 
 add-i : tie.Need-add-i Inv-loop μ-loop
 add-i c = search needs
-
-add-from : tie.Need-add-from Inv-loop μ-loop
-add-from c = search needs
 
 sub-left : tie.Need-sub-left Inv-loop μ-loop
 sub-left c = search needs
@@ -68,14 +78,20 @@ loop-less c = search needs
 loop-again : tie.Need-loop-again Inv-loop μ-loop
 loop-again c =
     let l = c .before .before .before .before .before .loop in
-    let g = c .before .before .before .before .before .before .before .args in
-    (omega arith, law-kept (records (g .count) nodeLength (drop (g .at) (now (g .file)))) (l .i) (l .from) (l .left) (now (g .file)) _ (l .inv .1) (c .before .before .before .before .loop-test .taken) _ (c .before .before .operator-fault .ensures) (c .enum-told2 .given .1))
+    let g = c .before .before .before .before .before .before .before .before .args in
+    let m = fits _ (l .from) (l .left) _ (c .before .before .before .before .loop-test .taken) (l .inv .0 .0) in (
+      omega (arith, m .others),
+      law-kept (records (g .count) nodeLength (drop (g .at) (now (g .file)))) _ (l .i) (l .from) (l .left) (now (g .file)) _
+          (l .inv .1) (c .before .before .before .before .loop-test .taken) _ (c .before .before .operator-fault .ensures) (c .enum-told2 .given .1),
+    )
 
 returns-2 : tie.Need-returns-2 Inv-loop μ-loop
 returns-2 c =
     let l = c .before .loop in
-    let g = c .before .before .before .args in
-    laws-kept (records (g .count) nodeLength (drop (g .at) (now (g .file)))) (l .i) (l .from) (l .left) (now (g .file)) _ (l .inv .1) (c .loop-test .left)
+    let g = c .before .before .before .before .args in
+    laws-kept (records (g .count) nodeLength (drop (g .at) (now (g .file)))) _ (l .i) (l .from) (l .left) (now (g .file)) _ (l .inv .1) (c .loop-test .left)
+    ∙ ap (λ k. lawsFault (records (g .count) nodeLength (drop (g .at) (now (g .file)))) (records (g .operators) k (drop (g .h + 1) (now (g .file)))))
+    (c .before .before .operator-words .ensures)
 
 pub laws-fault-spec : {M : Type 1} → statement M
 laws-fault-spec =
@@ -83,6 +99,8 @@ laws-fault-spec =
     (tie.spec
     Inv-loop
     μ-loop
+    operator-words-requires
+    add-from
     loop-holds
     add-end
     mul-operator-fault
@@ -94,7 +112,6 @@ laws-fault-spec =
     returns
     enum-told-2
     add-i
-    add-from
     sub-left
     loop-less
     loop-again

@@ -10,14 +10,14 @@ enum-told c = search needs
 cells-fault-requires : tie.Need-cells-fault-requires
 cells-fault-requires c κs = search needs
 
-enum-told-2 : tie.Need-enum-told-2
-enum-told-2 c = search needs
+enum-known-section : tie.Need-enum-known-section
+enum-known-section c = search needs
 
 atom-fault-requires : tie.Need-atom-fault-requires
 atom-fault-requires c κs = search needs
 
-enum-known-section : tie.Need-enum-known-section
-enum-known-section c = search needs
+enum-known-section-2 : tie.Need-enum-known-section-2
+enum-known-section-2 c = search needs
 
 node-fault-requires : tie.Need-node-fault-requires
 node-fault-requires c κs = search needs
@@ -26,10 +26,10 @@ returns : tie.Need-returns
 returns c = rw (c .before .enum-told .given .1) (c .cells-fault .ensures)
 
 returns-2 : tie.Need-returns-2
-returns-2 c = rw (c .before .enum-told2 .given .1) (c .atom-fault .ensures)
+returns-2 c = rw (c .before .before .section .given .1) (c .atom-fault .ensures)
 
 returns-3 : tie.Need-returns-3
-returns-3 c = rw (c .before .before .section .given .1) (c .node-fault .ensures)
+returns-3 c = rw (c .before .before .section2 .given .1) (c .node-fault .ensures)
 
 pub record-fault-spec : {M : Type 1} → statement M
 record-fault-spec =
@@ -37,9 +37,9 @@ record-fault-spec =
     (tie.spec
     enum-told
     cells-fault-requires
-    enum-told-2
-    atom-fault-requires
     enum-known-section
+    atom-fault-requires
+    enum-known-section-2
     node-fault-requires
     returns
     returns-2
