@@ -1,4 +1,5 @@
 pub mod Editions
+pub mod Lengths
 pub mod Records
 pub mod Nodes
 pub mod Stack

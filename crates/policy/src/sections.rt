@@ -97,7 +97,7 @@ fn records_fault(file: &[u32], at: usize, count: usize, section: Section) -> Tes
 
 // The fault of one record, whose first word stands at a place of the file.
 fn record_fault(words: &[u32], at: usize, section: Section) -> Test
-    requires { ⌜ at + length (now words) < 2 ^ 64 ⌝ }
+    requires { ⌜ (at + length (now words) < 2 ^ 64) × (recordLength section ≤ length (now words)) ⌝ }
     ensures { λ r. ⌜ r ≡ recordFault section at (now (words .entry)) ⌝ }
 {
     match section {

@@ -1,6 +1,7 @@
 -- `policy::sections::record_fault` meets its contract: the section's case is the definition's.
 -- Assumes nothing.
 use borrow.Author.Needs.{needs}
+use Rattle.policy.proofs.Lengths.{atom-long}
 use Rattle.policy.proofs.sections.record_fault.Statement.{statement}
 use Rattle.policy.proofs.sections.record_fault.Tie as tie
 
@@ -14,7 +15,7 @@ enum-known-section : tie.Need-enum-known-section
 enum-known-section c = search needs
 
 atom-fault-requires : tie.Need-atom-fault-requires
-atom-fault-requires c κs = search needs
+atom-fault-requires c κs = atom-long _ _ _ (c .before .section .given .1) (c .before .before .before .before .pre .1)
 
 enum-known-section-2 : tie.Need-enum-known-section-2
 enum-known-section-2 c = search needs
