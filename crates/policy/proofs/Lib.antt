@@ -9,5 +9,6 @@ pub mod Trees
 pub mod Passed
 pub mod Accepted
 pub mod Refused
+pub mod Parts
 pub mod Depths
 pub mod Order

@@ -9,9 +9,11 @@ use Rattle.theory.specs.Tree.{bare, _▸_}
 use Rattle.theory.specs.Nodes.{plant, listTree}
 use Rattle.action.specs.Laws.{Shows}
 use Rattle.policy.specs.Numbers.{latest, deepest, lawBroken}
-use Rattle.policy.specs.Read.{readAs, readOf, plain, named, operatorsIn, nodesIn, operatorRecords, nodeRecords}
+use Rattle.policy.specs.Read.{operatorsIn, nodesIn, operatorRecords, nodeRecords}
+use Rattle.policy.specs.Read.{plain, named, layout, readAs, readOf}
 use Rattle.policy.specs.File.{operatorAt, atomsOf, fileNodes, treeOf, allAtoms}
 use Rattle.policy.specs.WellFormed.{depth, OtherwiseIn, Otherwise, LawsKept, KeepsLaws, WellFormedIn, WellFormed}
+use Rattle.policy.specs.Parts.{Parts, fileWordsIn, partsIn, layoutOfParts, RightPartsIn, LawfulParts}
 use Rattle.policy.specs.declared.Edition.{Edition}
 use Rattle.policy.specs.declared.Layout.{Layout}
 use Rattle.policy.specs.declared.Reading.the-variants.{Accepted, Refused}
@@ -81,3 +83,22 @@ RefusedPlainAs = (e : Edition) (f : List ℕ) (r : Refusal) → readAs e f ≡ R
 abbrev pub RefusedPlain : Type 0
 RefusedPlain = (f : List ℕ) (r : Refusal) → readOf f ≡ Refused r → ¬ (r .number ≡ lawBroken)
     → (1 ≤ r .number) × (r .number < lawBroken) × (r ≡ plain (r .number) (r .place))
+
+-- the file that right and lawful parts make is accepted, with their layout (parts-accepted)
+abbrev pub PartsAccepted : Type 0
+PartsAccepted = (e : Edition) (P : Parts) → RightPartsIn e P → LawfulParts P
+    → readAs e (fileWordsIn e P) ≡ Accepted (layoutOfParts P)
+
+-- and an accepted file's parts are right and lawful (accepted-parts)
+abbrev pub AcceptedParts : Type 0
+AcceptedParts = (e : Edition) (f : List ℕ) (l : Layout) → readAs e f ≡ Accepted l
+    → RightPartsIn e (partsIn e f l) × LawfulParts (partsIn e f l)
+
+-- a file well formed but for the laws is what its parts make (parts-whole)
+abbrev pub PartsWhole : Type 0
+PartsWhole = (e : Edition) (f : List ℕ) (a b c : ℕ) → OtherwiseIn e f a b c
+    → fileWordsIn e (partsIn e f (layout a b c)) ≡ f
+
+-- and the file that right parts make has these parts (parts-read)
+abbrev pub PartsRead : Type 0
+PartsRead = (e : Edition) (P : Parts) → RightPartsIn e P → partsIn e (fileWordsIn e P) (layoutOfParts P) ≡ P

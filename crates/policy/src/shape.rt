@@ -30,8 +30,8 @@ pub(crate) fn shape_fault(file: &[u32], at: usize, count: usize) -> Test
     let mut from = at;
     let mut left = count;
     let mut i = 0;
-    // The first i nodes have a place; the first height words of waiting are the children still to come of each node that
-    // is open behind them; the other nodes, left of them, stand from from on.
+    // The first i nodes have a place; the first height words of waiting are the children still to come of each node
+    // that is open behind them; the other nodes, left of them, stand from from on.
     while 0 < left {
         let d = settled(waiting, height);
         if d == 0 {
