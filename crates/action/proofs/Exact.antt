@@ -9,7 +9,8 @@ use borrow.Author.Tests.{eqb-true, eq-eqb}
 use Rattle.logic.proofs.Tests.{by-test, and-left, and-right, and-both}
 use Rattle.action.specs.Action.{kindOf, rateOf, actionOf, inRange}
 use Rattle.action.specs.Operator.{join}
-use Rattle.action.specs.Laws.{_among_, Commutative, Associative, same, shown, pairs, triples, commutes, associates, firstPair, firstTriple, lawSearch, Shows}
+use Rattle.action.specs.Laws.{_among_, Commutative, Associative, same, shown, pairs, triples, commutes, associates, firstPair, firstTriple, lawSearch}
+use Rattle.action.specs.Laws.{Shows}
 use Rattle.action.specs.Theorems.{SearchExact, SearchShows, ShownInRange}
 use Rattle.action.specs.declared.Action.{Action}
 use Rattle.action.specs.declared.Action.the-variants.{DontCare, Allow, Deny, Gmb}

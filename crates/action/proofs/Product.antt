@@ -5,7 +5,8 @@ use native.Mathlib.Omega.{arith}
 use mathlib.Core.Path.{_≡_, refl, sym, ap, ap₂, _∙_}
 use mathlib.Core.Logic.{⊎-elim}
 use mathlib.Core.Bool.{Bool}
-use mathlib.Core.List.{List, [], _∷_, _++_, map, List·Memᴰ·head, List·Memᴰ·tail, List·Memᴰ·not-nil, List·Memᴰ·cases-cons, List·Memᴰ·append-cases, Memᴰ·append-left, Memᴰ·append-right}
+use mathlib.Core.List.{List, [], _∷_, _++_, map, List·Memᴰ·head, List·Memᴰ·tail, List·Memᴰ·not-nil, List·Memᴰ·cases-cons, List·Memᴰ·append-cases}
+use mathlib.Core.List.{Memᴰ·append-left, Memᴰ·append-right}
 use lib.ListN.{getD, length, length-map}
 use lib.Seq.{getD-append-add}
 use Rattle.action.specs.Operator.{join}
@@ -23,7 +24,8 @@ row-at x [] rest d e j h = absurd (omega arith)
 row-at x (y ∷ ys) rest d e zero h = refl
 row-at x (y ∷ ys) rest d e (suc j) h = row-at x ys rest d e j (omega arith)
 
-row-past : {X Y : Type 0} (x : X) (ys : List Y) (rest : List (X × Y)) (d : X × Y) (n : ℕ) → getD (map (λ y. (x, y)) ys ++ rest) (length ys + n) d ≡ getD rest n d
+row-past : {X Y : Type 0} (x : X) (ys : List Y) (rest : List (X × Y)) (d : X × Y) (n : ℕ)
+    → getD (map (λ y. (x, y)) ys ++ rest) (length ys + n) d ≡ getD rest n d
 row-past {X} {Y} x ys rest d n = rw (← length-map {B = X × Y} ys (λ y. (x, y))) (getD-append-add (map (λ y. (x, y)) ys) rest n d)
 
 -- entry i · length ys + j is the pair of the entries i and j

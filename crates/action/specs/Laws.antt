@@ -32,7 +32,8 @@ Commutative o = (a b : Action) → inRange a ≡ true → inRange b ≡ true →
 -- associative over all actions in range
 abbrev pub Associative : List ℕ → Type 0
 Associative o =
-    (a b c : Action) → inRange a ≡ true → inRange b ≡ true → inRange c ≡ true → join o (join o a b) c ≡ join o a (join o b c)
+    (a b c : Action) → inRange a ≡ true → inRange b ≡ true → inRange c ≡ true
+    → join o (join o a b) c ≡ join o a (join o b c)
 
 -- equal actions
 abbrev pub same : Action → Action → Bool

@@ -1,5 +1,5 @@
--- Operators. An operator is its cells, a list of nine codes: the left action's kind slowest, the right's fastest. Assumes nothing.
--- See docs/FORMAT.md, "Operators".
+-- Operators. An operator is its cells, a list of nine codes: the left action's kind slowest, the right's fastest.
+-- Assumes nothing. See docs/FORMAT.md, "Operators".
 --
 --   kinds, cellCount       the kinds that have cells, and the cells
 --   cell a b               the cell of two actions
@@ -32,7 +32,8 @@ cellCount = kinds * kinds
 abbrev pub cell : Action → Action → ℕ
 cell a b = (kindOf a - 1) * kinds + (kindOf b - 1)
 
--- what each code gives, by its number: 1 Allow, 2 Deny, 3 the left action, 4 the right, 5 the larger rate, 6 the smaller
+-- what each code gives, by its number: 1 Allow, 2 Deny, 3 the left action, 4 the right, 5 the larger rate, 6 the
+-- smaller
 abbrev pub codes : Action → Action → List Action
 codes a b = DontCare ∷ Allow ∷ Deny ∷ a ∷ b ∷ Gmb (max (rateOf a) (rateOf b)) ∷ Gmb (min (rateOf a) (rateOf b)) ∷ []
 

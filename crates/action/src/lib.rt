@@ -257,7 +257,8 @@ fn with_third(cells: &[u32], a: Action, b: Action) -> Lawful
     Lawful::Yes
 }
 
-// The showing actions, in list order. A match keeps them out of memory, where an array would be laid down anew for each use.
+// The showing actions, in list order. A match keeps them out of memory, where an array would be laid down anew for each
+// use.
 fn showing(i: usize) -> Action
     ensures { λ r. ⌜ r ≡ getD shown i Action.DontCare ⌝ }
 {

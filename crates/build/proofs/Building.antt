@@ -24,7 +24,8 @@ use Rattle.common.proofs.Going.{Fitted, made-words, lays-none, lays-case, lays-
 use Rattle.rows.specs.Places.{part}
 use Rattle.rows.specs.Tables.{joinWords, ownWords}
 use Rattle.rows.proofs.Grow.{join-flat, join-length, joins}
-use Rattle.build.specs.Build.{grown, compileTree, compileTrees, firstRows, ownAt, treeWords, childrenWords, After, Builds, NodeBuilt, TreeBuilt, ChildrenBuilt, Within, Joined, JoinBuilt}
+use Rattle.build.specs.Build.{grown, compileTree, compileTrees, firstRows, ownAt, treeWords, childrenWords, After, Builds, NodeBuilt, TreeBuilt}
+use Rattle.build.specs.Build.{ChildrenBuilt, Within, Joined, JoinBuilt}
 use Rattle.build.specs.declared.Built.{Built}
 use Rattle.build.specs.declared.Built.the-variants as built
 use Rattle.build.specs.declared.Part.{Part}
@@ -53,12 +54,17 @@ module _ (o : List ℕ) (a b : ℕ) (old new : List ℕ) where
   pub joined-full : {m : Built} → m ≡ built.Full → JoinBuilt o a b old new m built.Full
   joined-full q = record { is = subst (λ m. Joined o a b old new m built.Full) (sym q) refl }
 
-  pub joined-none : {m : Built} {p : Part} {r : Made} {x : List ℕ} → m ≡ built.Done p → x ≡ o → Lays a (joinWords x (part a b old) (part b (p .end) old)) old new r → r ≡ Full
+  pub joined-none : {m : Built} {p : Part} {r : Made} {x : List ℕ} → m ≡ built.Done p → x ≡ o
+      → Lays a (joinWords x (part a b old) (part b (p .end) old)) old new r → r ≡ Full
       → JoinBuilt o a b old new m built.Full
   joined-none {m} {p} {r} {x} q i l e =
-      record { is = subst (λ m. Joined o a b old new m built.Full) (sym q) (subst (λ y. Lays a (joinWords y (part a b old) (part b (p .end) old)) old new Full) i (lays-case e l)) }
+      record {
+        is = subst (λ m. Joined o a b old new m built.Full) (sym q)
+            (subst (λ y. Lays a (joinWords y (part a b old) (part b (p .end) old)) old new Full) i (lays-case e l));
+      }
 
-  pub joined-some : {m : Built} {p : Part} {r : Made} {e : ℕ} {x : List ℕ} → m ≡ built.Done p → x ≡ o → Lays a (joinWords x (part a b old) (part b (p .end) old)) old new r → r ≡ Words e
+  pub joined-some : {m : Built} {p : Part} {r : Made} {e : ℕ} {x : List ℕ} → m ≡ built.Done p → x ≡ o
+      → Lays a (joinWords x (part a b old) (part b (p .end) old)) old new r → r ≡ Words e
       → JoinBuilt o a b old new m (built.Done (record { end = e; next = p .next }))
   joined-some {m} {p} {r} {e} {x} q i l w =
       record {
@@ -80,12 +86,14 @@ join-built {a} {b} {C} {old} {mid} o D here new P Q l built.Full r k j f =
 
 -- the trees from a place on: the node there with its children, and those behind them
 grown-more : (f : List ℕ) (s : Spot) → Reached f s → 0 < s .left
-    → grown f s ≡ node (nodeHere f s) (takeTrees (nodeAt f (s .left) .children) (grown f (nextSpot f s))) ▸ dropTrees (nodeAt f (s .left) .children) (grown f (nextSpot f s))
+    → grown f s ≡ node (nodeHere f s) (takeTrees (nodeAt f (s .left) .children) (grown f (nextSpot f s))) ▸ dropTrees (nodeAt f (s .left) .children)
+    (grown f (nextSpot f s))
 unfolding grown
 grown-more f s r h =
     let at : Here f s nothing = here f s r h nothing in
     let n : Listed PolicyNode = getD (listOf f) (nodeIndex f s) nothing in
-    let same : n ≡ record { what = nodeHere f s; childCount = nodeAt f (s .left) .children } = ap₂ (λ (x : PolicyNode) (k : ℕ). record { what = x; childCount = k }) (at .what) (at .children) in
+    let same : n ≡ record { what = nodeHere f s; childCount = nodeAt f (s .left) .children } = ap₂
+    (λ (x : PolicyNode) (k : ℕ). record { what = x; childCount = k }) (at .what) (at .children) in
     ap plant (drop-cons (listOf f) (nodeIndex f s) nothing (at .within)
     ∙ ap₂ (λ (x : Listed PolicyNode) (i : ℕ). x ∷ drop i (listOf f)) same (sym (at .further)))
 
@@ -95,7 +103,8 @@ grown-none f s e = ap plant (drop-of-length-le (listOf f) {i = nodeIndex f s} (o
 
 -- a subtree's words: its own rows, joined with its children's
 tree-words : (f : List ℕ) (s : Spot) → Reached f s → 0 < s .left
-    → treeWords f s ≡ joinWords (cellsAt f (nodeAt f (s .left) .parent)) (ownAt f s) (childrenWords f (nextSpot f s) (nodeAt f (s .left) .children) (nodeAt f (s .left) .sibling))
+    → treeWords f s ≡ joinWords (cellsAt f (nodeAt f (s .left) .parent)) (ownAt f s)
+    (childrenWords f (nextSpot f s) (nodeAt f (s .left) .children) (nodeAt f (s .left) .sibling))
 unfolding treeWords childrenWords ownWords
 tree-words f s r h =
     let n : NodeWords = nodeAt f (s .left) in
@@ -115,7 +124,8 @@ first-drop t us zero h = absurd (omega arith)
 first-drop t us (suc k) h = let q : suc k - 1 ≡ k = omega arith in rw q
 
 module _ (f : List ℕ) (s : Spot) (r : Reached f s) (more : 0 < s .left) (k o : ℕ) (some : 0 < k) where
-  children-words : (next : Spot) → grown f next ≡ dropTrees 1 (grown f s) → childrenWords f s k o ≡ joinWords (cellsAt f o) (treeWords f s) (childrenWords f next (k - 1) o)
+  children-words : (next : Spot) → grown f next ≡ dropTrees 1 (grown f s)
+      → childrenWords f s k o ≡ joinWords (cellsAt f o) (treeWords f s) (childrenWords f next (k - 1) o)
   unfolding treeWords childrenWords
   children-words next rest = rw (rest, grown-more f s r more) (first-words _ _ k (cellsAt f o) some)
 
@@ -149,7 +159,8 @@ module _ (f : List ℕ) (s : Spot) {a : ℕ} {old new : List ℕ} (n : NodeWords
 
 module _ {f : List ℕ} {s : Spot} {a : ℕ} {old : List ℕ} where
   -- a subtree: no room for its own rows; its own rows joined with those of its children
-  pub tree-full : {mid : List ℕ} (last : List ℕ) {o : Built} → NodeBuilt f s a old mid o → o ≡ built.Full → Reached f s → 0 < s .left → TreeBuilt f s a old last built.Full
+  pub tree-full : {mid : List ℕ} (last : List ℕ) {o : Built} → NodeBuilt f s a old mid o → o ≡ built.Full → Reached f s → 0 < s .left
+      → TreeBuilt f s a old last built.Full
   tree-full {mid} last g q r h =
       let n : NodeWords = nodeAt f (s .left) in
       let K : List ℕ = childrenWords f (nextSpot f s) (n .children) (n .sibling) in
@@ -167,7 +178,8 @@ module _ {f : List ℕ} {s : Spot} {a : ℕ} {old : List ℕ} where
       let k′ : ChildrenBuilt f (nextSpot f s) (n′ .sibling) (n′ .children) (p .end) mid here m =
       subst (λ (x : Spot). ChildrenBuilt f x (n′ .sibling) (n′ .children) (p .end) mid here m) c
       (subst (λ (y : NodeWords). ChildrenBuilt f (p .next) (y .sibling) (y .children) (p .end) mid here m) e k) in
-      let j′ : JoinBuilt (cellsAt f (n′ .parent)) a (p .end) here new m r = subst (λ (y : NodeWords). JoinBuilt (cellsAt f (y .parent)) a (p .end) here new m r) e j in
+      let j′ : JoinBuilt (cellsAt f (n′ .parent)) a (p .end) here new m r = subst
+      (λ (y : NodeWords). JoinBuilt (cellsAt f (y .parent)) a (p .end) here new m r) e j in
       record {
         is = rw (tree-words f s reached h)
             (join-built (cellsAt f (n′ .parent)) (childrenWords f (nextSpot f s) (n′ .children) (n′ .sibling)) here new
@@ -205,7 +217,8 @@ module _ {f : List ℕ} {s : Spot} {a : ℕ} {old : List ℕ} where
       left zero = refl
       left (suc k) = refl
 
-  pub children-full : {mid : List ℕ} (last : List ℕ) (k o : ℕ) {m : Built} → TreeBuilt f s a old mid m → m ≡ built.Full → Reached f s → 0 < k → 0 < s .left → ChildrenBuilt f s o k a old last built.Full
+  pub children-full : {mid : List ℕ} (last : List ℕ) (k o : ℕ) {m : Built} → TreeBuilt f s a old mid m → m ≡ built.Full → Reached f s → 0 < k → 0 < s .left
+      → ChildrenBuilt f s o k a old last built.Full
   children-full {mid} last k o g q r some more =
       let l : Lays a (treeWords f s) old mid Full = built-full a (treeWords f s) old mid (After f (dropTrees 1 (grown f s)) (s .left - 1)) q (g .is) in
       let b : length (treeWords f s) ≤ length (childrenWords f s k o) = children-hold f s r more k o some in

@@ -91,7 +91,8 @@ Within b limit built.Full = Unit {0}
 
 -- what was built from b on is joined with what stands from a up to b
 abbrev pub Joined : List ℕ → ℕ → ℕ → List ℕ → List ℕ → Built → Built → Type 0
-Joined o a b old new (built.Done p) r = Builds a (joinWords o (part a b old) (part b (p .end) old)) old new (λ s. s ≡ p .next) r
+Joined o a b old new (built.Done p) r =
+    Builds a (joinWords o (part a b old) (part b (p .end) old)) old new (λ s. s ≡ p .next) r
 Joined o a b old new built.Full r = r ≡ built.Full
 
 pub record JoinBuilt (o : List ℕ) (a b : ℕ) (old new : List ℕ) (m r : Built) : Type 0 where

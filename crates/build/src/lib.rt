@@ -67,7 +67,8 @@ fn children(
     start: usize,
 ) -> Built
     requires { ⌜ AtPlace (now file) at start (now table) (now scratch) ⌝ }
-    ensures { λ r. ⌜ ChildrenBuilt (now (file .entry)) at sibling count start (now (table .entry)) (now (table .exit)) r ⌝ }
+    ensures { λ r. ⌜ ChildrenBuilt (now (file .entry)) at sibling count start (now (table .entry))
+        (now (table .exit)) r ⌝ }
 {
     if count == 0 {
         return Built::Done(Part {
@@ -132,7 +133,8 @@ fn join_built(
     built: Built,
 ) -> Built
     requires { ⌜ OfBuilt start middle built (now table) (now scratch) ⌝ }
-    ensures { λ r. ⌜ JoinBuilt (cellsAt (now (file .entry)) index) start middle (now (table .entry)) (now (table .exit)) built r ⌝ }
+    ensures { λ r. ⌜ JoinBuilt (cellsAt (now (file .entry)) index) start middle (now (table .entry))
+        (now (table .exit)) built r ⌝ }
 {
     let Built::Done(part) = built else {
         return Built::Full;

@@ -1,5 +1,6 @@
-// Calls whose slices stand on standard input: each takes them into lent buffers, as many words of each as were sent, and
-// replies. False where the input ends inside a slice, a slice is longer than its buffer, or a reply could not be written.
+// Calls whose slices stand on standard input: each takes them into lent buffers, as many words of each as were sent,
+// and replies. False where the input ends inside a slice, a slice is longer than its buffer, or a reply could not be
+// written.
 use replies::reply_action;
 use replies::reply_compile;
 use replies::reply_number;

@@ -1,5 +1,5 @@
--- Tables in words, and their common rows: the theory's definitions at rows of 11 words. An operator is its list of cells.
--- See docs/FORMAT.md, "Rows".
+-- Tables in words, and their common rows: the theory's definitions at rows of 11 words. An operator is its list of
+-- cells. See docs/FORMAT.md, "Rows".
 --
 --   rowsIn ws                  the rows that some words hold
 --   wordsOf N                  the words of rows, one row behind the other

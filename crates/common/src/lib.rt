@@ -32,7 +32,8 @@ pub fn common_rows(
     at: usize,
 ) -> Made
     requires { ⌜ at ≤ length (now out) ⌝ }
-    ensures { λ r. ⌜ Lays at (commonRowsWords (operator .cells) (now (left .entry)) (now (right .entry))) (now (out .entry)) (now (out .exit)) r ⌝ }
+    ensures { λ r. ⌜ Lays at (commonRowsWords (operator .cells) (now (left .entry)) (now (right .entry)))
+        (now (out .entry)) (now (out .exit)) r ⌝ }
 {
     let mut done = at;
     let mut i = 0;
@@ -57,7 +58,8 @@ pub fn common_with(
     at: usize,
 ) -> Made
     requires { ⌜ at ≤ length (now out) ⌝ }
-    ensures { λ r. ⌜ Lays at (commonWithWords (operator .cells) (rowOf (now (row .entry))) (now (table .entry))) (now (out .entry)) (now (out .exit)) r ⌝ }
+    ensures { λ r. ⌜ Lays at (commonWithWords (operator .cells) (rowOf (now (row .entry))) (now (table .entry)))
+        (now (out .entry)) (now (out .exit)) r ⌝ }
 {
     let m = read_match(row);
     let a = row_action(row);
@@ -85,7 +87,8 @@ fn add_common(
     at: usize,
 ) -> Made
     requires { ⌜ at ≤ length (now out) ⌝ }
-    ensures { λ r. ⌜ Lays at (commonWords (operator .cells) (record { match = m; action = a }) (now (row .entry))) (now (out .entry)) (now (out .exit)) r ⌝ }
+    ensures { λ r. ⌜ Lays at (commonWords (operator .cells) (record { match = m; action = a }) (now (row .entry)))
+        (now (out .entry)) (now (out .exit)) r ⌝ }
 {
     let both = common(m, read_match(row));
     if is_empty(both) {

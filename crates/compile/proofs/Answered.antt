@@ -31,7 +31,8 @@ use Rattle.policy.specs.declared.Refusal.{Refusal}
 use Rattle.policy.specs.declared.Reading.{Reading}
 use Rattle.policy.specs.declared.Reading.the-variants as reading
 use Rattle.policy.proofs.Accepted.{accepted-exactly, accepted-tree, accepted-atoms}
-use Rattle.compile.specs.Compile.{noRoom, noScratch, wrongRate, room, compiledRows, fine, zeros, acceptedAnswer, afterReading, answerOf, tableAfter, scratchAfter, numbered}
+use Rattle.compile.specs.Compile.{noRoom, noScratch, wrongRate, room, compiledRows, fine, zeros, acceptedAnswer, afterReading, answerOf, tableAfter}
+use Rattle.compile.specs.Compile.{scratchAfter, numbered}
 use Rattle.compile.specs.Theorems.{tableRows, InRange, RoomExactly, RowsAnswered, Answered, AnswersRows}
 use Rattle.compile.specs.declared.Compiled.{Compiled}
 use Rattle.compile.specs.declared.Compiled.the-variants.{Rows, Refused}
@@ -46,7 +47,8 @@ every-split : (T : Row Match Action → Type 0) (N N′ : List (Row Match Action
 every-split T [] N′ f = (tt, f)
 every-split T (r ∷ N) N′ f = let g = every-split T N N′ (f .1) in ((f .0, g .0), g .1)
 
-every-both : (T : Row Match Action → Type 0) (ns ms : List (Listed PolicyNode)) → EveryRow T (allAtoms (ns ++ ms)) → EveryRow T (allAtoms ns) × EveryRow T (allAtoms ms)
+every-both : (T : Row Match Action → Type 0) (ns ms : List (Listed PolicyNode)) → EveryRow T (allAtoms (ns ++ ms))
+    → EveryRow T (allAtoms ns) × EveryRow T (allAtoms ms)
 every-both T [] ms f = (tt, f)
 every-both T (n ∷ ns) ms f =
     let a = every-split T (n .what .atoms) (allAtoms (ns ++ ms)) f in
@@ -122,7 +124,8 @@ accepted-rows f t s n l e =
       count = sym m;
       fits = omega (arith, ltb-false (room (length t)) (length N) b);
       right = every-right N (every-compiled f l e) c;
-      stands = rw (e, a, b, c) (ap (λ k. tableRows k (wordsOf N ++ zeros (length t - length (wordsOf N)))) (sym m) ∙ front f l e (zeros (length t - length (wordsOf N))));
+      stands = rw (e, a, b, c)
+          (ap (λ k. tableRows k (wordsOf N ++ zeros (length t - length (wordsOf N)))) (sym m) ∙ front f l e (zeros (length t - length (wordsOf N))));
     })
     (λ c q. let q′ : Refused (plain wrongRate 0) ≡ Rows n = rw (a, b, c) at q in no-rows q′)))
 
@@ -148,7 +151,8 @@ room-exactly f t s l e enough =
     let N : List (Row Match Action) = compiledRows f l in
     let no-13 : ltb (length s) (rowLength * room (length t)) ≡ false = le-ltb _ _ enough in (
       (λ q. by-test (ltb (room (length t)) (length N)) (λ b. ltb-true _ _ b) (λ b.
-          let q′ : cond (fine N) (Rows (length N)) (Refused (plain wrongRate 0)) ≡ Refused (plain noRoom 0) = rw (e, no-13, b) at q in absurd (other (fine N) (length N) q′))),
+          let q′ : cond (fine N) (Rows (length N)) (Refused (plain wrongRate 0)) ≡ Refused (plain noRoom 0) = rw (e, no-13, b) at q in absurd
+          (other (fine N) (length N) q′))),
       (λ h. rw (e, no-13, lt-ltb _ _ h)),
     )
   where

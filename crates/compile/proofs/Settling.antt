@@ -34,7 +34,8 @@ use Rattle.nodes.proofs.Places.{reached-start}
 use Rattle.common.specs.Lays.{Lays}
 use Rattle.common.specs.Tables.{wordsOf}
 use Rattle.build.specs.Build.{grown, firstRows, treeWords, TreeBuilt, Within}
-use Rattle.compile.specs.Compile.{noRoom, noScratch, wrongRate, room, compiledRows, fine, allRight, fineWords, zeros, answerOf, tableAfter, scratchAfter, Compiles, AcceptedCompiles, Settled, Settles}
+use Rattle.compile.specs.Compile.{noRoom, noScratch, wrongRate, room, compiledRows, fine, allRight, fineWords, zeros, answerOf, tableAfter, scratchAfter}
+use Rattle.compile.specs.Compile.{Compiles, AcceptedCompiles, Settled, Settles}
 use Rattle.compile.specs.declared.Compiled.{Compiled}
 use Rattle.compile.specs.declared.Compiled.the-variants.{Rows, Refused}
 use Rattle.build.specs.declared.Built.{Built}
@@ -46,7 +47,8 @@ use Rattle.common.proofs.Going.{Fitted, made-words, made-full, lays-ends}
 
 -- the loop over the rates: a turn, a wrong one, the end
 module _ (ws : List ℕ) (i : ℕ) {W : Bool} (e : fineWords (drop i ws) ≡ W) where
-  pub rates-more : {t : Bool} → t ≡ rightRowAction (take (i + rowLength - i) (drop i ws)) → t ≡ true → i + rowLength ≤ length ws → fineWords (drop (i + rowLength) ws) ≡ W
+  pub rates-more : {t : Bool} → t ≡ rightRowAction (take (i + rowLength - i) (drop i ws)) → t ≡ true → i + rowLength ≤ length ws
+      → fineWords (drop (i + rowLength) ws) ≡ W
   unfolding fineWords
   rates-more {t} q p h =
       let n : i + rowLength - i ≡ rowLength = omega arith in
@@ -69,7 +71,8 @@ rows-words : (N : List (Row Match Action)) → rowsOf rowLength (λ w. w) (words
 rows-words [] = rows-none rowLength (λ w. w) some-words [] some-words
 rows-words (r ∷ N) =
     rows-more rowLength (λ w. w) some-words (rowWords r ++ wordsOf N) (rw length-append (omega (arith, row-long r)))
-    ∙ ap₂ (λ x y. x ∷ rowsOf rowLength (λ w. w) y) (take-at (rowWords r) (wordsOf N) rowLength (row-long r)) (drop-at (rowWords r) (wordsOf N) rowLength (row-long r))
+    ∙ ap₂ (λ x y. x ∷ rowsOf rowLength (λ w. w) y) (take-at (rowWords r) (wordsOf N) rowLength (row-long r))
+    (drop-at (rowWords r) (wordsOf N) rowLength (row-long r))
     ∙ ap (λ l. rowWords r ∷ l) (rows-words N)
 
 all-right : (N : List (Row Match Action)) → allRight (map rowWords N) ≡ fine N
@@ -96,7 +99,8 @@ module _ (f : List ℕ) (l : Layout) (e : readOf f ≡ reading.Accepted l) (at :
   root-words =
       let r = reached-start f l e at start in
       let first : nodeIndex f at ≡ 0 = r .2 in
-      let planted : plant (listOf f) ≡ treeOf f l ▸ bare = ap (λ (x : Layout). plant (Rattle.policy.specs.File.fileNodes f x)) (sym (r .3)) ∙ accepted-tree f l e .planted in
+      let planted : plant (listOf f) ≡ treeOf f l ▸ bare = ap (λ (x : Layout). plant (Rattle.policy.specs.File.fileNodes f x)) (sym (r .3))
+      ∙ accepted-tree f l e .planted in
       ap (λ i. wordsOf (firstRows (plant (drop i (listOf f))))) first ∙ ap (λ G. wordsOf (firstRows G)) planted
 
 -- all is cleared from the first word on
@@ -109,13 +113,15 @@ module _ {t s t′ s′ : List ℕ} {b : Built} (k : s′ ≡ cleared 0 s) where
   pub settles-full : {r : Compiled} → b ≡ built.Full → t′ ≡ cleared 0 t → r ≡ Refused (plain noRoom 0) → Settles t s t′ s′ b r
   settles-full {r} e h q = record { is = subst (Settled t t′ r) (sym e) (q, h ∙ cleared-all t); scratch = k ∙ cleared-all s }
 
-  pub settles-rows : {p : Part} {x : Bool} → b ≡ built.Done p → x ≡ fineWords (take (p .end) t) → x ≡ true → t′ ≡ cleared (p .end) t → Settles t s t′ s′ b (Rows (p .end / rowLength))
+  pub settles-rows : {p : Part} {x : Bool} → b ≡ built.Done p → x ≡ fineWords (take (p .end) t) → x ≡ true → t′ ≡ cleared (p .end) t
+      → Settles t s t′ s′ b (Rows (p .end / rowLength))
   unfolding cleared
   settles-rows {p} {x} e q h g =
       let i : fineWords (take (p .end) t) ≡ true = sym q ∙ h in
       record { is = subst (Settled t t′ (Rows (p .end / rowLength))) (sym e) (rw i, rw i g); scratch = k ∙ cleared-all s }
 
-  pub settles-wrong : {p : Part} {x : Bool} {r : Compiled} → b ≡ built.Done p → x ≡ fineWords (take (p .end) t) → x ≡ false → t′ ≡ cleared 0 t → r ≡ Refused (plain wrongRate 0)
+  pub settles-wrong : {p : Part} {x : Bool} {r : Compiled} → b ≡ built.Done p → x ≡ fineWords (take (p .end) t) → x ≡ false → t′ ≡ cleared 0 t
+      → r ≡ Refused (plain wrongRate 0)
       → Settles t s t′ s′ b r
   settles-wrong {p} {x} {r} e q h g a =
       let i : fineWords (take (p .end) t) ≡ false = sym q ∙ h in
@@ -132,14 +138,17 @@ laid-first-words F X E h =
     ∙ take-at F (drop (0 + length F) X ++ E) (0 + length F) (omega arith)
 
 -- THE ANSWER OF AN ACCEPTED FILE: no scratch
-pub no-scratch : (f : List ℕ) (l : Layout) {t s : List ℕ} {n : ℕ} {r : Compiled} → n ≡ room (length t) → length s < rowLength * n → r ≡ Refused (plain noScratch 0) → AcceptedCompiles f l t s t s r
+pub no-scratch : (f : List ℕ) (l : Layout) {t s : List ℕ} {n : ℕ} {r : Compiled} → n ≡ room (length t) → length s < rowLength * n
+    → r ≡ Refused (plain noScratch 0) → AcceptedCompiles f l t s t s r
 no-scratch f l {t} {s} {n} {r} q h a =
     let c : ltb (length s) (rowLength * room (length t)) ≡ true = lt-ltb _ _ (subst (λ x. length s < rowLength * x) q h) in
     record { answer = rw c a; table = rw c; scratch = rw c }
 
 -- and from what was built in the room of the table, and settled
-module _ (f : List ℕ) (l : Layout) (e : readOf f ≡ reading.Accepted l) (root : Spot) (start : root ≡ rootSpot l) (t s : List ℕ) (n : ℕ) (is : n ≡ room (length t)) (enough : rowLength * n ≤ length s)
-    (new mid clean t′ s′ : List ℕ) (r : Compiled) (at : mid ≡ new ++ drop (rowLength * n) t) (same : length new ≡ length (take (rowLength * n) t)) (alike : length clean ≡ length s) where
+module _ (f : List ℕ) (l : Layout) (e : readOf f ≡ reading.Accepted l) (root : Spot) (start : root ≡ rootSpot l) (t s : List ℕ) (n : ℕ)
+    (is : n ≡ room (length t)) (enough : rowLength * n ≤ length s)
+    (new mid clean t′ s′ : List ℕ) (r : Compiled) (at : mid ≡ new ++ drop (rowLength * n) t) (same : length new ≡ length (take (rowLength * n) t))
+    (alike : length clean ≡ length s) where
   N : List (Row Match Action)
   N = compiledRows f l
 
@@ -167,7 +176,8 @@ module _ (f : List ℕ) (l : Layout) (e : readOf f ≡ reading.Accepted l) (root
   no-13 = le-ltb _ _ (subst (λ x. rowLength * x ≤ length s) is enough)
 
   -- there was no room
-  too-many : Lays 0 F (take (rowLength * n) t) new Full → (r ≡ Refused (plain noRoom 0)) × (t′ ≡ zeros (length mid)) → s′ ≡ zeros (length clean) → AcceptedCompiles f l t s t′ s′ r
+  too-many : Lays 0 F (take (rowLength * n) t) new Full → (r ≡ Refused (plain noRoom 0)) × (t′ ≡ zeros (length mid)) → s′ ≡ zeros (length clean)
+      → AcceptedCompiles f l t s t′ s′ r
   unfolding N
   too-many k b c =
       let m : length (take (rowLength * n) t) < 0 + length F = made-full 0 F (length (take (rowLength * n) t)) (k .answer) in
@@ -184,7 +194,8 @@ module _ (f : List ℕ) (l : Layout) (e : readOf f ≡ reading.Accepted l) (root
       let m : Fitted 0 F (length (take (rowLength * n) t)) end = made-words 0 F (length (take (rowLength * n) t)) end (k .answer) in
       let no-12 : ltb (room (length t)) (length N) ≡ false = le-ltb _ _ (subst (λ x. length N ≤ x) is (omega (arith, wide, count, m .fits))) in
       let front : take end mid ≡ wordsOf N =
-      ap₂ take (m .end) (at ∙ ap (λ x. x ++ drop (rowLength * n) t) (k .words (m .fits))) ∙ laid-first-words F (take (rowLength * n) t) (drop (rowLength * n) t) (m .fits) ∙ are in
+      ap₂ take (m .end) (at ∙ ap (λ x. x ++ drop (rowLength * n) t) (k .words (m .fits))) ∙ laid-first-words F (take (rowLength * n) t) (drop (rowLength * n) t)
+      (m .fits) ∙ are in
       let right : fineWords (take end mid) ≡ fine N = ap fineWords front ∙ fine-words N in
       let many : end / rowLength ≡ length N = omega (arith, m .end, count) in
       let last : length mid - end ≡ length t - length (wordsOf N) = omega (arith, whole, m .end, ap length are) in
@@ -207,7 +218,8 @@ module _ (f : List ℕ) (l : Layout) (e : readOf f ≡ reading.Accepted l) (root
   accepted-settles built.Full k g = too-many (k .is) (g .is) (g .scratch)
 
 -- what was built stands within the table
-pub tree-within : {f : List ℕ} {s : Spot} {a : ℕ} {old new mid : List ℕ} (rest : List ℕ) (b : Built) → TreeBuilt f s a old new b → length new ≡ length old → mid ≡ new ++ rest → Within a (length mid) b
+pub tree-within : {f : List ℕ} {s : Spot} {a : ℕ} {old new mid : List ℕ} (rest : List ℕ) (b : Built) → TreeBuilt f s a old new b → length new ≡ length old
+    → mid ≡ new ++ rest → Within a (length mid) b
 tree-within {f} {s} {a} {old} {new} {mid} rest (built.Done p) k same at =
     let n = lays-ends (k .is .0) refl in
     let m : length mid ≡ length new + length rest = ap length at ∙ length-append new rest in
@@ -221,7 +233,8 @@ compiles-refused {f} {t} {s} {r} {x} q h =
     let e : readOf f ≡ reading.Refused r = sym q ∙ h in
     record { answer = rw e; table = rw e; scratch = rw e }
 
-pub compiles-accepted : {f t s t′ s′ : List ℕ} {l : Layout} {r : Compiled} {x : Reading} → x ≡ readOf f → x ≡ reading.Accepted l → AcceptedCompiles f l t s t′ s′ r → Compiles f t s t′ s′ r
+pub compiles-accepted : {f t s t′ s′ : List ℕ} {l : Layout} {r : Compiled} {x : Reading} → x ≡ readOf f → x ≡ reading.Accepted l
+    → AcceptedCompiles f l t s t′ s′ r → Compiles f t s t′ s′ r
 unfolding answerOf tableAfter scratchAfter
 compiles-accepted {f} {t} {s} {t′} {s′} {l} {r} {x} q h c =
     let e : readOf f ≡ reading.Accepted l = sym q ∙ h in

@@ -80,11 +80,14 @@ byCase N t s scratch-short too-many rate-wrong success =
 
 -- the answer for an accepted file with the rows N: 13, then 12, then 14, else the row count
 abbrev pub acceptedAnswer : List (Row Match Action) → List ℕ → List ℕ → Compiled
-acceptedAnswer N t s = byCase N t s (Refused (plain noScratch 0)) (Refused (plain noRoom 0)) (Refused (plain wrongRate 0)) (Rows (length N))
+acceptedAnswer N t s =
+    byCase N t s (Refused (plain noScratch 0)) (Refused (plain noRoom 0)) (Refused (plain wrongRate 0))
+    (Rows (length N))
 
 -- the table after it: unchanged after 13, all zero after 12 and 14, else the rows and then zeros
 abbrev pub acceptedTable : List (Row Match Action) → List ℕ → List ℕ → List ℕ
-acceptedTable N t s = byCase N t s t (zeros (length t)) (zeros (length t)) (wordsOf N ++ zeros (length t - length (wordsOf N)))
+acceptedTable N t s =
+    byCase N t s t (zeros (length t)) (zeros (length t)) (wordsOf N ++ zeros (length t - length (wordsOf N)))
 
 -- the scratch after it: unchanged after 13, else all zero
 abbrev pub acceptedScratch : List (Row Match Action) → List ℕ → List ℕ → List ℕ

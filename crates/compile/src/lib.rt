@@ -35,7 +35,8 @@ pub enum Compiled {
 
 // Compiles the policy in a file into a table, within the table and the scratch.
 pub fn compile(file: &[u32], table: &mut [u32], scratch: &mut [u32]) -> Compiled
-    ensures { λ r. ⌜ Compiles (now (file .entry)) (now (table .entry)) (now (scratch .entry)) (now (table .exit)) (now (scratch .exit)) r ⌝ }
+    ensures { λ r. ⌜ Compiles (now (file .entry)) (now (table .entry)) (now (scratch .entry)) (now (table .exit))
+        (now (scratch .exit)) r ⌝ }
 {
     let reading = read(file);
     match reading {
@@ -52,7 +53,8 @@ fn compile_accepted(
     scratch: &mut [u32],
 ) -> Compiled
     requires { ⌜ readOf (now file) ≡ Accepted layout ⌝ }
-    ensures { λ r. ⌜ AcceptedCompiles (now (file .entry)) layout (now (table .entry)) (now (scratch .entry)) (now (table .exit)) (now (scratch .exit)) r ⌝ }
+    ensures { λ r. ⌜ AcceptedCompiles (now (file .entry)) layout (now (table .entry)) (now (scratch .entry))
+        (now (table .exit)) (now (scratch .exit)) r ⌝ }
 {
     let words = ROW_WORDS * room_of(table.len());
     if scratch.len() < words {
@@ -66,7 +68,8 @@ fn compile_accepted(
 // The answer of a build, with clean buffers.
 fn settle(table: &mut [u32], scratch: &mut [u32], built: Built) -> Compiled
     requires { ⌜ Within 0 (length (now table)) built ⌝ }
-    ensures { λ r. ⌜ Settles (now (table .entry)) (now (scratch .entry)) (now (table .exit)) (now (scratch .exit)) built r ⌝ }
+    ensures { λ r. ⌜ Settles (now (table .entry)) (now (scratch .entry)) (now (table .exit))
+        (now (scratch .exit)) built r ⌝ }
 {
     clear_from(scratch, 0);
     let Built::Done(part) = built else {

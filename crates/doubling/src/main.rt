@@ -1,5 +1,6 @@
-// One node with k unconstrained atoms has 2^k - 1 rows: each atom doubles its table and adds a row. The largest table has room for the rows of 12 atoms,
-// and those of 13 are refused. Writes the row count of 12 atoms, and the number of the refusal of 13.
+// One node with k unconstrained atoms has 2^k - 1 rows: each atom doubles its table and adds a row. The largest table
+// has room for the rows of 12 atoms, and those of 13 are refused. Writes the row count of 12 atoms, and the number of
+// the refusal of 13.
 use compile::Compiled;
 use compile::compile;
 use libc::STDOUT_FILENO;

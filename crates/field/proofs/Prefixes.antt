@@ -58,13 +58,15 @@ pub in-both : InBoth
 unfolding prefixesMeet
 in-both w p m q n x = go (leb m n) refl
   where
-    go : (t : Bool) → leb m n ≡ t → (inPrefix w p m x && inPrefix w q n x) ≡ (cond t (inPrefix w p m q) (inPrefix w q n p) && inPrefix w (cond t q p) (cond t n m) x)
+    go : (t : Bool) → leb m n ≡ t
+        → (inPrefix w p m x && inPrefix w q n x) ≡ (cond t (inPrefix w p m q) (inPrefix w q n p) && inPrefix w (cond t q p) (cond t n m) x)
     go true e = and-under (inPrefix w p m x) (inPrefix w p m q) (inPrefix w q n x) (in-moves w q n p m x (leb-true m n e))
     go false e =
         and-comm (inPrefix w p m x) (inPrefix w q n x)
         ∙ and-under (inPrefix w q n x) (inPrefix w q n p) (inPrefix w p m x) (in-moves w p m q n x (le-of-lt (leb-false m n e)))
 
-pub prefix-joins : (w p m q n x : ℕ) → Joins (inPrefix w p m x) (inPrefix w q n x) (prefixesMeet w p m q n) (inPrefix w (longerAddress p m q n) (longerLength m n) x)
+pub prefix-joins : (w p m q n x : ℕ)
+    → Joins (inPrefix w p m x) (inPrefix w q n x) (prefixesMeet w p m q n) (inPrefix w (longerAddress p m q n) (longerLength m n) x)
 prefix-joins w p m q n x = record { eq = in-both w p m q n x }
 
 -- the longer of two right prefixes is right

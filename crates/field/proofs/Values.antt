@@ -18,7 +18,8 @@ value-both true v true v′ x =
 value-both true v false v′ x = and-true (eqb v x)
 value-both false v on′ v′ x = refl
 
-pub value-joins : (on : Bool) (v : ℕ) (on′ : Bool) (v′ x : ℕ) → Joins (meetsValue on v x) (meetsValue on′ v′ x) (valuesMeet on v on′ v′) (meetsValue (on || on′) (commonValue on v v′) x)
+pub value-joins : (on : Bool) (v : ℕ) (on′ : Bool) (v′ x : ℕ)
+    → Joins (meetsValue on v x) (meetsValue on′ v′ x) (valuesMeet on v on′ v′) (meetsValue (on || on′) (commonValue on v v′) x)
 value-joins on v on′ v′ x = record { eq = value-both on v on′ v′ x }
 
 -- a value meets itself
@@ -28,7 +29,8 @@ meets-own-value true v = eq-eqb v v refl
 meets-own-value false v = refl
 
 -- two right values are right together
-pub common-value-right : (on on′ : Bool) (limit v v′ : ℕ) → Keeps (rightValue on limit v) (rightValue on′ limit v′) (rightValue (on || on′) limit (commonValue on v v′))
+pub common-value-right : (on on′ : Bool) (limit v v′ : ℕ)
+    → Keeps (rightValue on limit v) (rightValue on′ limit v′) (rightValue (on || on′) limit (commonValue on v v′))
 unfolding rightValue
 common-value-right true on′ limit v v′ = record { gives = λ p q. p }
 common-value-right false on′ limit v v′ = record { gives = λ p q. q }

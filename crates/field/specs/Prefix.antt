@@ -1,6 +1,7 @@
--- Prefixes of addresses of w bits. The prefix p, n is the set of the addresses that agree with p in their first n bits: length 0 is the
--- paper's star, length w its constant. A length beyond w holds what length w holds; where two lengths are compared, as in covers, they are
--- compared as they are, so that a length beyond w covers nothing shorter. See docs/FORMAT.md, "Matches".
+-- Prefixes of addresses of w bits. The prefix p, n is the set of the addresses that agree with p in their first n bits:
+-- length 0 is the paper's star, length w its constant. A length beyond w holds what length w holds; where two lengths
+-- are compared, as in covers, they are compared as they are, so that a length beyond w covers nothing shorter. See
+-- docs/FORMAT.md, "Matches".
 --
 --   leading w n x                the number that the first n of w bits of x make
 --   inPrefix w p n x             x lies in p, n

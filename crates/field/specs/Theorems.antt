@@ -1,4 +1,5 @@
--- What is proved of prefixes, over every width w, and of values. Each statement is proved in proofs/ under the name given behind it.
+-- What is proved of prefixes, over every width w, and of values. Each statement is proved in proofs/ under the name
+-- given behind it.
 use Prim.Native.Nat.{ℕ, _^_, _≤_, _<_}
 use mathlib.Core.Path.{_≡_}
 use mathlib.Core.Bool.{Bool, true, _&&_, _||_}
@@ -10,7 +11,8 @@ use Rattle.field.specs.Value.{meetsValue, valuesMeet, commonValue}
 abbrev pub InBoth : Type 0
 InBoth =
     (w p m q n x : ℕ)
-    → (inPrefix w p m x && inPrefix w q n x) ≡ (prefixesMeet w p m q n && inPrefix w (longerAddress p m q n) (longerLength m n) x)
+    → (inPrefix w p m x && inPrefix w q n x)
+    ≡ (prefixesMeet w p m q n && inPrefix w (longerAddress p m q n) (longerLength m n) x)
 
 -- an address of w bits that lies in both prefixes
 pub record SharedAddress (w p m q n : ℕ) : Type 0 where
@@ -35,4 +37,5 @@ CoversExactly = (w p m q n : ℕ) → m ≤ w → q < 2 ^ w → (covers w p m q 
 abbrev pub ValueBoth : Type 0
 ValueBoth =
     (on : Bool) (v : ℕ) (on′ : Bool) (v′ x : ℕ)
-    → (meetsValue on v x && meetsValue on′ v′ x) ≡ (valuesMeet on v on′ v′ && meetsValue (on || on′) (commonValue on v v′) x)
+    → (meetsValue on v x && meetsValue on′ v′ x)
+    ≡ (valuesMeet on v on′ v′ && meetsValue (on || on′) (commonValue on v v′) x)

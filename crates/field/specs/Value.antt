@@ -1,4 +1,5 @@
--- A value that may be constrained: `on` says whether it is, v is the value then. An unconstrained value is met by every number. See docs/FORMAT.md, "Matches".
+-- A value that may be constrained: `on` says whether it is, v is the value then. An unconstrained value is met by every
+-- number. See docs/FORMAT.md, "Matches".
 use Prim.Native.Nat.{ℕ}
 use mathlib.Core.Bool.{Bool, cond, not, _&&_, _||_}
 use lib.Dec.{eqb, ltb}

@@ -2,7 +2,8 @@
 ghost use mathlib.Core.Path.{_≡_};
 ghost use mathlib.Core.Bool.{cond};
 ghost use Prim.Native.Nat.{_-_, _≤_};
-ghost use Rattle.field.specs.Prefix.{addressBits, inPrefix, zeroBeyond, rightPrefix, prefixesMeet, covers, longerAddress, longerLength};
+ghost use Rattle.field.specs.Prefix.{addressBits, inPrefix, zeroBeyond, rightPrefix, prefixesMeet, covers};
+ghost use Rattle.field.specs.Prefix.{longerAddress, longerLength};
 ghost use Rattle.field.specs.Value.{meetsValue, valuesMeet, commonValue, rightValue};
 
 // How many bits an address has.
@@ -35,7 +36,8 @@ pub fn prefixes_meet(p: u32, m: u32, q: u32, n: u32) -> bool
     in_prefix(p, pick(m <= n, m, n), q)
 }
 
-// Whether p of m bits is no longer than the prefix q of n bits, and every address of q lies in it. Lengths beyond 32 are compared as they are.
+// Whether p of m bits is no longer than the prefix q of n bits, and every address of q lies in it. Lengths beyond 32
+// are compared as they are.
 pub fn prefix_covers(p: u32, m: u32, q: u32, n: u32) -> bool
     ensures { λ r. ⌜ r ≡ covers addressBits p m q n ⌝ }
 {

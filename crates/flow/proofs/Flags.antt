@@ -38,10 +38,12 @@ unset-joins i f g = record { eq = go (bit i f) (bit i g) ∙ ap (λ (t : Bool). 
     go false false = refl
 
 -- values under a flag join, and stay right
-pub flagged-joins : (i f g v v′ x : ℕ) → Joins (meetsValue (bit i f) v x) (meetsValue (bit i g) v′ x) (valuesMeet (bit i f) v (bit i g) v′) (meetsValue (bit i (bitOr f g)) (commonValue (bit i f) v v′) x)
+pub flagged-joins : (i f g v v′ x : ℕ) → Joins (meetsValue (bit i f) v x) (meetsValue (bit i g) v′ x) (valuesMeet (bit i f) v (bit i g) v′)
+    (meetsValue (bit i (bitOr f g)) (commonValue (bit i f) v v′) x)
 flagged-joins i f g v v′ x = rw (flag-or i f g) (value-joins (bit i f) v (bit i g) v′ x)
 
-pub flagged-right : (i f g limit v v′ : ℕ) → Keeps (rightValue (bit i f) limit v) (rightValue (bit i g) limit v′) (rightValue (bit i (bitOr f g)) limit (commonValue (bit i f) v v′))
+pub flagged-right : (i f g limit v v′ : ℕ)
+    → Keeps (rightValue (bit i f) limit v) (rightValue (bit i g) limit v′) (rightValue (bit i (bitOr f g)) limit (commonValue (bit i f) v v′))
 flagged-right i f g limit v v′ = rw (flag-or i f g) (common-value-right (bit i f) (bit i g) limit v v′)
 
 -- flags below 2 ^ i stay below it

@@ -10,7 +10,8 @@ use Rattle.field.specs.Value.{rightValue}
 use Rattle.field.proofs.Prefixes.{prefix-joins, in-own, longer-right, longer-within}
 use Rattle.field.proofs.Values.{meets-own-value, common-value-below}
 use Rattle.flow.specs.Packet.{portLimit, protocolLimit, rightPacket}
-use Rattle.flow.specs.Match.{constrains, inportFlag, protocolFlag, sourceportFlag, destinationportFlag, emptyFlag, isEmpty, isNone, isPlain, rightMatch, meets, overlap, both, none, common}
+use Rattle.flow.specs.Match.{constrains, inportFlag, protocolFlag, sourceportFlag, destinationportFlag, emptyFlag, isEmpty, isNone, isPlain, rightMatch}
+use Rattle.flow.specs.Match.{meets, overlap, both, none, common}
 use Rattle.flow.specs.Theorems.{MeetsCommon, MeetsEmpty, SharedPacket, OverlapExactly, MeetsOverlap, MetExactly, CommonRight, CommonEmpty}
 use Rattle.flow.specs.declared.Match.{Match}
 use Rattle.flow.specs.declared.Packet.{Packet}
@@ -102,7 +103,8 @@ own-right a b r s =
     (lt-ltb _ _ (common-value-below (constrains inportFlag a) portLimit (a .inport) (b .inport) (r .inport) (s .inport))))
     (lt-ltb _ _ (common-value-below (constrains protocolFlag a) protocolLimit (a .protocol) (b .protocol) (r .protocol) (s .protocol))))
     (lt-ltb _ _ (common-value-below (constrains sourceportFlag a) portLimit (a .sourceport) (b .sourceport) (r .sourceport) (s .sourceport))))
-    (lt-ltb _ _ (common-value-below (constrains destinationportFlag a) portLimit (a .destinationport) (b .destinationport) (r .destinationport) (s .destinationport)))
+    (lt-ltb _ _
+    (common-value-below (constrains destinationportFlag a) portLimit (a .destinationport) (b .destinationport) (r .destinationport) (s .destinationport)))
 
 -- neither of two matches that overlap is empty
 overlap-lives : (a b : Match) → overlap a b ≡ true → (isEmpty a ≡ false) × (isEmpty b ≡ false)
@@ -135,7 +137,11 @@ overlap-exactly a b ra rb = (shown, λ s. meets-overlap a b (s .packet) (s .left
 -- A RIGHT MATCH IS NOT EMPTY exactly where a packet in range meets it
 pub met-exactly : MetExactly
 unfolding rightMatch
-met-exactly m r = (λ e. overlap-exactly m m r r .0 (meets-overlap m m (ownPacket m) (meets-own m e) (meets-own m e)), λ s. overlap-lives m m (meets-overlap m m (s .packet) (s .left) (s .right)) .0)
+met-exactly m r = (
+  λ e. overlap-exactly m m r r .0 (meets-overlap m m (ownPacket m) (meets-own m e) (meets-own m e)),
+  λ s. overlap-lives m m
+      (meets-overlap m m (s .packet) (s .left) (s .right)) .0,
+)
 
 -- a right match that is not empty is plain
 plain : (m : Match) → rightMatch m ≡ true → isEmpty m ≡ false → isPlain m ≡ true

@@ -1,6 +1,6 @@
--- A match: nine words, in this order: the six values of a packet, source prefix length, destination prefix length, flags. The flags say which of
--- in-port, protocol, source port and destination port are constrained; the addresses are constrained by their prefixes. Flag 16 is the empty match.
--- See docs/FORMAT.md, "Matches".
+-- A match: nine words, in this order: the six values of a packet, source prefix length, destination prefix length,
+-- flags. The flags say which of in-port, protocol, source port and destination port are constrained; the addresses are
+-- constrained by their prefixes. Flag 16 is the empty match. See docs/FORMAT.md, "Matches".
 --
 --   matchOf, matchWords   the match that some words are, and its words
 --   constrains f m        the flag f of m is set
@@ -129,7 +129,8 @@ overlap a b =
     && valuesMeet (constrains inportFlag a) (a .inport) (constrains inportFlag b) (b .inport)
     && valuesMeet (constrains protocolFlag a) (a .protocol) (constrains protocolFlag b) (b .protocol)
     && valuesMeet (constrains sourceportFlag a) (a .sourceport) (constrains sourceportFlag b) (b .sourceport)
-    && valuesMeet (constrains destinationportFlag a) (a .destinationport) (constrains destinationportFlag b) (b .destinationport)
+    && valuesMeet (constrains destinationportFlag a) (a .destinationport) (constrains destinationportFlag b)
+    (b .destinationport)
     && prefixesMeet addressBits (a .source) (a .sourcelength) (b .source) (b .sourcelength)
     && prefixesMeet addressBits (a .destination) (a .destinationlength) (b .destination) (b .destinationlength)
 

@@ -1,4 +1,5 @@
--- A packet: six words, in this order: in-port, source address, destination address, protocol, source port, destination port. See docs/FORMAT.md, "Packets".
+-- A packet: six words, in this order: in-port, source address, destination address, protocol, source port, destination
+-- port. See docs/FORMAT.md, "Packets".
 --
 --   packetOf, packetWords   the packet that some words are, and its words
 --   rightPacket             the values are in their ranges

@@ -22,7 +22,8 @@ unfolding digits
 digits-one zero n p h g = absurd (omega arith)
 digits-one (suc k) n p h g = rw (lt-ltb n 10 g) p
 
-pub digits-more : (most n : ℕ) {a b r : ℕ} {l m m′ : List ℕ} → Puts (digits (most - 1) (n / 10)) l a m b → Puts (digit (n % 10) ∷ []) m b m′ r → 0 < most → 10 ≤ n
+pub digits-more : (most n : ℕ) {a b r : ℕ} {l m m′ : List ℕ} → Puts (digits (most - 1) (n / 10)) l a m b → Puts (digit (n % 10) ∷ []) m b m′ r → 0 < most
+    → 10 ≤ n
     → Puts (digits most n) l a m′ r
 unfolding digits
 digits-more zero n p q h g = absurd (omega arith)
@@ -37,7 +38,8 @@ pub record TextAhead (text : List ℕ) (i : ℕ) (m : List ℕ) (b : ℕ) (l : L
 pub text-start : (text l : List ℕ) (a : ℕ) → TextAhead text 0 l a l a
 text-start text l a = record { is = ahead-start text l a }
 
-pub text-turn : {text m m′ l : List ℕ} {i b b′ a : ℕ} → TextAhead text i m b l a → Puts (getD text i 0 ∷ []) m b m′ b′ → i < length text → TextAhead text (i + 1) m′ b′ l a
+pub text-turn : {text m m′ l : List ℕ} {i b b′ a : ℕ} → TextAhead text i m b l a → Puts (getD text i 0 ∷ []) m b m′ b′ → i < length text
+    → TextAhead text (i + 1) m′ b′ l a
 text-turn {text} {m} {m′} {l} {i} {b} {b′} {a} g p h =
     let e : drop i text ≡ (getD text i 0 ∷ []) ++ drop (suc i) text = drop-cons text i 0 h in
     rw (add-one i) (record { is = ahead-step p (subst (λ x. Ahead x m b text l a) e (g .is)) })

@@ -42,7 +42,8 @@ pub atoms-rows : (f : List ℕ) (from n : ℕ) → length (atomsAt f from n) % r
 atoms-rows f from n =
     by-le (from + atomLength * n) (length f)
     (λ h.
-    let l : length (take (from + atomLength * n - from) (drop from f)) ≡ from + atomLength * n - from = length-take-le _ (drop from f) (rw length-drop (omega arith)) in
+    let l : length (take (from + atomLength * n - from) (drop from f)) ≡ from + atomLength * n - from = length-take-le _ (drop from f)
+    (rw length-drop (omega arith)) in
     let e : length (atomsAt f from n) ≡ from + atomLength * n - from = ap length (sym (atoms-there f from n h)) ∙ l in
     omega arith)
     (λ h. rw (← atoms-missing f from n h) (omega arith))
@@ -67,7 +68,8 @@ module _ {R : Type 0} (k : ℕ) (read : List ℕ → R) (pos : 0 < k) where
       let long : k ≤ length (take (k + k * n) ws) = rw (length-take-le (k + k * n) ws (omega arith)) (omega arith) in
       ap (λ m. rowsOf k read (take m ws)) e
       ∙ rows-more k read pos (take (k + k * n) ws) long
-      ∙ ap₂ (λ x y. read x ∷ rowsOf k read y) (ap (take k) (take-add k (k * n) ws) ∙ take-at front behind k l) (ap (drop k) (take-add k (k * n) ws) ∙ drop-at front behind k l)
+      ∙ ap₂ (λ x y. read x ∷ rowsOf k read y) (ap (take k) (take-add k (k * n) ws) ∙ take-at front behind k l)
+      (ap (drop k) (take-add k (k * n) ws) ∙ drop-at front behind k l)
       ∙ ap (λ N. read (take k ws) ∷ N) (rows-part n (drop k ws) (rw length-drop (omega arith)))
 
   first-records : (n b : ℕ) (ws : List ℕ) → n ≤ b → map read (records n k ws) ≡ take n (map read (records b k ws))
@@ -160,9 +162,22 @@ module _ (f : List ℕ) (w : Otherwise f (layoutOf f .operators) (layoutOf f .at
   cells-here i h =
       let a : ℕ = layoutOf f .operators in
       let cell : (j : ℕ) → j < operatorLength → getD (getD (operatorRecords f a) i []) j 0 ≡ getD f (1 + operatorLength * i + j) 0 =
-      λ j l. record-at a operatorLength (drop 1 f) i j h l ∙ getD-drop 1 f (operatorLength * i + j) 0 ∙ ap (λ m. getD f m 0) (let e : 1 + (operatorLength * i + j) ≡ 1 + operatorLength * i + j = omega arith in e) in
+      λ j l. record-at a operatorLength (drop 1 f) i j h l ∙ getD-drop 1 f (operatorLength * i + j) 0 ∙ ap (λ m. getD f m 0)
+      (let e : 1 + (operatorLength * i + j) ≡ 1 + operatorLength * i + j = omega arith in e) in
       let z : 1 + operatorLength * i + 0 ≡ 1 + operatorLength * i = omega arith in
-      rw (cell 0 (omega arith), z, cell 1 (omega arith), cell 2 (omega arith), cell 3 (omega arith), cell 4 (omega arith), cell 5 (omega arith), cell 6 (omega arith), cell 7 (omega arith), cell 8 (omega arith))
+      rw (
+        cell 0 (omega arith),
+        z,
+        cell 1 (omega arith),
+        cell 2 (omega arith),
+        cell 3 (omega arith),
+        cell 4 (omega arith),
+        cell 5 (omega arith),
+        cell 6
+            (omega arith),
+        cell 7 (omega arith),
+        cell 8 (omega arith),
+      )
 
   -- the rows of n atoms behind s others
   atoms-here : (s n : ℕ) → s + n ≤ layoutOf f .atoms

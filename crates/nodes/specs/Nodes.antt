@@ -1,4 +1,5 @@
--- Where a node, its operators and its atoms stand in a policy file, for every list of words. See docs/FORMAT.md, "The policy file".
+-- Where a node, its operators and its atoms stand in a policy file, for every list of words. See docs/FORMAT.md, "The
+-- policy file".
 use Prim.Native.Nat.{ℕ, _+_, _-_, _*_, _/_}
 use mathlib.Core.Bool.{cond}
 use mathlib.Core.List.{List, [], _∷_}
@@ -26,7 +27,14 @@ nodePlace words left = cond (ltb (words / nodeLength) left) words (words - nodeL
 unfoldable pub nodeAt : List ℕ → ℕ → NodeWords
 nodeAt f left =
     let at : ℕ = nodePlace (length f) left in
-    record { inner = getD f (at + 0) 0; parent = getD f (at + 1) 0; sibling = getD f (at + 2) 0; own = getD f (at + 3) 0; children = getD f (at + 4) 0 }
+    record {
+      inner = getD f (at + 0) 0;
+      parent = getD f (at + 1) 0;
+      sibling = getD f (at + 2) 0;
+      own = getD f
+          (at + 3) 0;
+      children = getD f (at + 4) 0;
+    }
 
 -- the nine cells of the operator of an index
 unfoldable pub cellsAt : List ℕ → ℕ → List ℕ

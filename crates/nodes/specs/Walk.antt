@@ -1,4 +1,5 @@
--- A walk over the nodes of an accepted file: at each place, how many nodes are left, and where the next node's atoms start.
+-- A walk over the nodes of an accepted file: at each place, how many nodes are left, and where the next node's atoms
+-- start.
 --
 --   layoutOf     the layout that a file's counts say
 --   listOf       its nodes in order, each with what it holds

@@ -1,4 +1,5 @@
-// Where a node, its operators and its atoms stand in a policy file. Each function is total: outside the file all is 0, and there are no atoms.
+// Where a node, its operators and its atoms stand in a policy file. Each function is total: outside the file all is 0,
+// and there are no atoms.
 ghost use mathlib.Core.Path.{_≡_};
 ghost use Prim.Native.Nat.{_≤_};
 ghost use Rattle.action.specs.Operator.{join};

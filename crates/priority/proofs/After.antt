@@ -1,4 +1,5 @@
--- What the words that are left say: the theory's laws of levels, chain and switches, where overlapping is a packet in range that matches both rows. Assumes nothing.
+-- What the words that are left say: the theory's laws of levels, chain and switches, where overlapping is a packet in range that matches both rows. Assumes
+-- nothing.
 use Prim.Native.Nat.{ℕ, suc, _≤_, _<_}
 use native.Mathlib.Omega.{arith}
 use mathlib.Core.Path.{_≡_, refl, sym, ap, _∙_}
@@ -30,7 +31,8 @@ use Rattle.table.specs.Theorems.{RightTable}
 use Rattle.table.proofs.Tables.{length-rows, right-row-at, check-exactly}
 use Rattle.table.proofs.Scans.{scan-found}
 use Rattle.priority.specs.Numbering.{shortBuffer, over, levelsOf, prioritiesOf, chainOf, numbered, numberOf, prioritiesAfter, chainAfter}
-use Rattle.priority.specs.Theorems.{Ready, Shared, count, priority, link, AnswerCounts, EarlierHigher, PrioritiesUsed, FewestNumbers, ChainForces, SwitchScans, SwitchObeys, WordsStay, RefusedStays}
+use Rattle.priority.specs.Theorems.{Ready, Shared, count, priority, link, AnswerCounts, EarlierHigher, PrioritiesUsed, FewestNumbers, ChainForces}
+use Rattle.priority.specs.Theorems.{SwitchScans, SwitchObeys, WordsStay, RefusedStays}
 use Rattle.priority.specs.declared.Numbered.the-variants.{Priorities, Refused}
 use Rattle.priority.proofs.Whole.{levels-many, levels-few, priorities-many}
 
@@ -53,7 +55,8 @@ module _ (ws : List ℕ) where
 module _ (ws ps cs : List ℕ) (r : Ready ws ps cs) where
   answered : numberOf ws (length ps) (length cs) ≡ Priorities (levelCount (levelsOf ws))
   unfolding numberOf
-  answered = rw (check-exactly ws (rowCount ws) .1 (r .right, refl), le-leb (rowCount ws) (length ps) (r .priorities), le-leb (rowCount ws) (length cs) (r .chain))
+  answered =
+      rw (check-exactly ws (rowCount ws) .1 (r .right, refl), le-leb (rowCount ws) (length ps) (r .priorities), le-leb (rowCount ws) (length cs) (r .chain))
 
   counted : count ws ps cs ≡ levelCount (levelsOf ws)
   counted = rw answered
@@ -141,8 +144,11 @@ chain-forces ws ps cs r =
       ap length (chain-taken ws ps cs r) ∙ n,
       λ k h.
           let g : suc k < length (chainOf ws) = omega arith in
-          rw (link-is ws ps cs r k (omega arith), link-is ws ps cs r (suc k) h)
-          (c .in-order k g, over-shared ws (r .right) (getD (chainOf ws) k 0) (getD (chainOf ws) (suc k) 0) (rows k (omega arith)) (rows (suc k) h) .0 (c .overlaps k g)),
+          rw (link-is ws ps cs r k (omega arith), link-is ws ps cs r (suc k) h) (
+            c .in-order k g,
+            over-shared ws (r .right) (getD (chainOf ws) k 0) (getD (chainOf ws) (suc k) 0) (rows k (omega arith)) (rows (suc k) h) .0
+                (c .overlaps k g),
+          ),
     )
 
 pub switch-scans : SwitchScans

@@ -1,4 +1,5 @@
--- The numbering of a table: its answer, and every word of both buffers after it. See docs/FORMAT.md, "Priorities" and "Numbers a caller can get back".
+-- The numbering of a table: its answer, and every word of both buffers after it. See docs/FORMAT.md, "Priorities" and
+-- "Numbers a caller can get back".
 --
 --   shortBuffer                   the number of a buffer that is too short
 --   over ws j i                   whether rows j and i overlap
@@ -75,7 +76,8 @@ chainAfter ws ps cs = stored (numberOf ws (length ps) (length cs)) (chainOf ws) 
 
 -- what the numbering leaves: the answer, the priority buffer and the chain buffer
 abbrev pub Answered : List ℕ → List ℕ → List ℕ → Numbered → List ℕ → List ℕ → Type 0
-Answered ws ps cs r ps′ cs′ = (r ≡ numberOf ws (length ps) (length cs)) × (ps′ ≡ prioritiesAfter ws ps cs) × (cs′ ≡ chainAfter ws ps cs)
+Answered ws ps cs r ps′ cs′ =
+    (r ≡ numberOf ws (length ps) (length cs)) × (ps′ ≡ prioritiesAfter ws ps cs) × (cs′ ≡ chainAfter ws ps cs)
 
 -- a table of few enough rows, a word for each row's priority, and room for a chain of all rows
 abbrev pub NumbersFit : List ℕ → List ℕ → List ℕ → Type 0

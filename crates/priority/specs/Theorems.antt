@@ -1,4 +1,5 @@
--- What is proved of the numbering, over the words that it leaves. A law of the same name in proofs/ proves each statement: earlier-higher proves EarlierHigher.
+-- What is proved of the numbering, over the words that it leaves. A law of the same name in proofs/ proves each
+-- statement: earlier-higher proves EarlierHigher.
 --
 --   Ready                 a right table, and neither buffer is shorter than its row count
 --   Shared ws j i         some packet in range matches rows j and i
@@ -8,7 +9,8 @@
 --   EarlierHigher         where some packet in range matches two rows, the earlier has the strictly higher priority
 --   PrioritiesUsed        the priorities lie in 1..L, and L of them are distinct
 --   FewestNumbers         every assignment of numbers that puts the earlier row higher has at least L distinct ones
---   ChainForces           the chain is as the scope has it, and of each two neighbours some packet in range matches both
+--   ChainForces           the chain is as the scope has it, and of each two neighbours some packet in range matches
+--                         both
 --   SwitchScans           a switch that obeys any matching row of highest priority gives the scan's action
 --   SwitchObeys           where some row matches, some row is obeyed
 --   WordsStay             the words beyond the priorities and beyond the chain stay, and so do the lengths
@@ -60,7 +62,9 @@ AnswerCounts = (ws ps cs : List ℕ) → Ready ws ps cs → numberOf ws (length 
 
 -- where some packet in range matches two rows, the earlier has the strictly higher priority
 abbrev pub EarlierHigher : Type 0
-EarlierHigher = (ws ps cs : List ℕ) → Ready ws ps cs → (j i : ℕ) → j < i → i < rowCount ws → Shared ws j i → priority ws ps cs i < priority ws ps cs j
+EarlierHigher =
+    (ws ps cs : List ℕ) → Ready ws ps cs → (j i : ℕ) → j < i → i < rowCount ws → Shared ws j i
+    → priority ws ps cs i < priority ws ps cs j
 
 -- the priorities lie in 1..L, and there are L distinct ones
 abbrev pub PrioritiesUsed : Type 0
@@ -71,23 +75,29 @@ PrioritiesUsed = (ws ps cs : List ℕ) → Ready ws ps cs
 -- no assignment of numbers that puts the earlier row higher has fewer distinct ones
 abbrev pub FewestNumbers : Type 0
 FewestNumbers = (ws ps cs : List ℕ) → Ready ws ps cs → (qs : List ℕ) → length qs ≡ rowCount ws
-    → ((j i : ℕ) → j < i → i < rowCount ws → Shared ws j i → getD qs i 0 < getD qs j 0) → count ws ps cs ≤ length (distinct qs)
+    → ((j i : ℕ) → j < i → i < rowCount ws → Shared ws j i → getD qs i 0 < getD qs j 0)
+    → count ws ps cs ≤ length (distinct qs)
 
--- the first L words of the chain buffer are the chain: L places in scan order; of each two neighbours some packet in range matches both
+-- the first L words of the chain buffer are the chain: L places in scan order; of each two neighbours some packet in
+-- range matches both
 abbrev pub ChainForces : Type 0
 ChainForces = (ws ps cs : List ℕ) → Ready ws ps cs
     → Chained (over ws) (levelsOf ws) (take (count ws ps cs) (chainAfter ws ps cs))
     × (length (take (count ws ps cs) (chainAfter ws ps cs)) ≡ count ws ps cs)
-    × ((k : ℕ) → suc k < count ws ps cs → (link ws ps cs k < link ws ps cs (suc k)) × Shared ws (link ws ps cs k) (link ws ps cs (suc k)))
+    × ((k : ℕ) → suc k < count ws ps cs
+    → (link ws ps cs k < link ws ps cs (suc k)) × Shared ws (link ws ps cs k) (link ws ps cs (suc k)))
 
 -- whatever row a switch obeys, its action is the scan's
 abbrev pub SwitchScans : Type 0
 SwitchScans = (ws ps cs : List ℕ) → Ready ws ps cs → (packet : List ℕ) → rightPacketWords packet ≡ true
-    → (i : ℕ) → Obeyed meets past (rowsIn ws) (priority ws ps cs) (packetOf packet) i → getD (rowsIn ws) i past .action ≡ scanAction (scanOf ws packet)
+    → (i : ℕ) → Obeyed meets past (rowsIn ws) (priority ws ps cs) (packetOf packet) i
+    → getD (rowsIn ws) i past .action ≡ scanAction (scanOf ws packet)
 
 -- where some row matches a packet, some row is obeyed
 abbrev pub SwitchObeys : Type 0
-SwitchObeys = (ws ps cs : List ℕ) → Ready ws ps cs → (p : Packet) (k : ℕ) → k < rowCount ws → matchesAt meets past (rowsIn ws) p k ≡ true
+SwitchObeys =
+    (ws ps cs : List ℕ) → Ready ws ps cs → (p : Packet) (k : ℕ) → k < rowCount ws
+    → matchesAt meets past (rowsIn ws) p k ≡ true
     → (i : ℕ) × Obeyed meets past (rowsIn ws) (priority ws ps cs) p i
 
 -- the words beyond stay

@@ -1,5 +1,5 @@
--- For each public function but those of the inner crates `common`, `rows` and `build`: its contract, as the checker reads it, asks nothing, and no second answer
--- fits it. Where buffers are lent, their words are part of what is seen.
+-- For each public function but those of the inner crates `common`, `rows` and `build`: its contract, as the checker reads it, asks nothing, and no second
+-- answer fits it. Where buffers are lent, their words are part of what is seen.
 use Prim.Native.Nat.{ℕ}
 use mathlib.Core.Path.{_≡_, sym, _∙_, ap}
 use mathlib.Core.List.{List}

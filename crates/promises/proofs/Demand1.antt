@@ -63,7 +63,8 @@ module _ {numbers : ℕ → Type 0} where
   refused : {n i : ℕ} → numbers n → Fixed numbers (record { refusal = plain n i; action = DontCare; count = 0 })
   refused h = record { number = inr h; value = λ n. (refl, refl); law = λ n. refl }
 
-  file-refused : (f : List ℕ) (r : Refusal) → readOf f ≡ reading.Refused r → ((n : ℕ) → between 1 10 n → numbers n) → Fixed numbers (record { refusal = r; action = DontCare; count = 0 })
+  file-refused : (f : List ℕ) (r : Refusal) → readOf f ≡ reading.Refused r → ((n : ℕ) → between 1 10 n → numbers n)
+      → Fixed numbers (record { refusal = r; action = DontCare; count = 0 })
   file-refused f r e h = record {
     number = inr (h (r .number) (file-number f r e));
     value = λ n. (refl, refl);
@@ -113,7 +114,8 @@ module _ (P : Compiled → List ℕ → List ℕ → Type 0) where
       → P (Rows (length (compiledRows f l))) (wordsOf (compiledRows f l) ++ zeros (length t - length (wordsOf (compiledRows f l)))) (zeros (length s))
       → P (answerOf f t s) (tableAfter f t s) (scratchAfter f t s)
   unfolding answerOf tableAfter scratchAfter
-  of-accepted f t s l e a b c d = rw e (four (ltb (length s) (rowLength * room (length t))) (ltb (room (length t)) (length (compiledRows f l))) (fine (compiledRows f l)) a b c d)
+  of-accepted f t s l e a b c d = rw e
+      (four (ltb (length s) (rowLength * room (length t))) (ltb (room (length t)) (length (compiledRows f l))) (fine (compiledRows f l)) a b c d)
 
 search-fixed : (i : ℕ) (x : Lawful) → Fixed (between 10 10) (searchTold i x)
 search-fixed i Yes = success
@@ -184,10 +186,12 @@ words-left = record {
   compile-stays = λ f t s r.
       let P : Compiled → List ℕ → List ℕ → Type 0 = λ x t′ s′. x ≡ Refused r → ¬ (r .number ≡ noRoom) → ¬ (r .number ≡ wrongRate) → (t′ ≡ t) × (s′ ≡ s) in
       by-reading f
-      (λ l e. of-accepted P f t s l e (λ q n m. (refl, refl)) (λ q n m. absurd (n (sym (same-number q)))) (λ q n m. absurd (m (sym (same-number q)))) (λ q n m. no-rows q))
+      (λ l e. of-accepted P f t s l e (λ q n m. (refl, refl)) (λ q n m. absurd (n (sym (same-number q)))) (λ q n m. absurd (m (sym (same-number q))))
+      (λ q n m. no-rows q))
       (λ r′ e. of-refused P f t s r′ e (λ q n m. (refl, refl)));
   compile-zeros = λ f t s r.
-      let P : Compiled → List ℕ → List ℕ → Type 0 = λ x t′ s′. x ≡ Refused r → (r .number ≡ noRoom) ⊎ (r .number ≡ wrongRate) → (t′ ≡ zeros (length t)) × (s′ ≡ zeros (length s)) in
+      let P : Compiled → List ℕ → List ℕ → Type 0 = λ x t′ s′. x ≡ Refused r → (r .number ≡ noRoom) ⊎ (r .number ≡ wrongRate) → (t′ ≡ zeros (length t))
+      × (s′ ≡ zeros (length s)) in
       by-reading f
       (λ l e. of-accepted P f t s l e
       (λ q. ⊎-elim (λ h. absurd (omega (arith, h, same-number q))) (λ h. absurd (omega (arith, h, same-number q))))

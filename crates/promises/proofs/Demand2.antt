@@ -34,7 +34,8 @@ use Rattle.promises.proofs.Scanned.{table-scans}
 -- actions of the list that break a law are actions with allowed rates that do
 breaks : (o : List ℕ) (l : Law) (a b c : Action) → Shows o l a b c → BreaksCommutativity o ⊎ BreaksAssociativity o
 breaks o Unnamed a b c s = absurd s
-breaks o Commutativity a b c s = inl (record { left = a; right = b; left-allowed = shown-in-range a (s .0); right-allowed = shown-in-range b (s .1); differ = s .3 })
+breaks o Commutativity a b c s =
+    inl (record { left = a; right = b; left-allowed = shown-in-range a (s .0); right-allowed = shown-in-range b (s .1); differ = s .3 })
 breaks o Associativity a b c s = inr (record {
   left = a;
   middle = b;
@@ -59,7 +60,12 @@ record Naming (i : ℕ) (ns : List (List ℕ)) : Type 0 where
 naming : (i : ℕ) (ns : List (List ℕ)) → named i ns ≡ true → Naming i ns
 naming i [] e = let z : _≡_ {A = ℕ} 0 1 = cc in absurd (omega arith)
 naming i (r ∷ rs) e = ⊎-elim
-    (λ h. record { node = 0; within = omega arith; names = ⊎-elim (λ g. inl (sym (eqb-true _ _ g))) (λ g. inr (sym (eqb-true _ _ g))) (or-split (eqb (innerOf r) i) (eqb (siblingOf r) i) h) })
+    (λ h. record {
+      node = 0;
+      within = omega arith;
+      names = ⊎-elim (λ g. inl (sym (eqb-true _ _ g))) (λ g. inr (sym (eqb-true _ _ g)))
+          (or-split (eqb (innerOf r) i) (eqb (siblingOf r) i) h);
+    })
     (λ h. let n : Naming i rs = naming i rs h in record { node = suc (n .node); within = omega (arith, n .within); names = n .names })
     (or-split (eqb (innerOf r) i || eqb (siblingOf r) i) (named i rs) e)
 
@@ -98,7 +104,8 @@ shown f a b c r o e n =
       named = refl;
       first = λ x. by-le (r .place) (x .operator)
           (λ l. l)
-          (λ l. absurd (not-kept (operatorAt os (x .operator)) (x .breaks) (kept (x .operator) l (used (x .operator) ns (x .node) (omega (arith, x .within)) (x .named)))));
+          (λ l. absurd (not-kept (operatorAt os (x .operator)) (x .breaks)
+          (kept (x .operator) l (used (x .operator) ns (x .node) (omega (arith, x .within)) (x .named)))));
       shows = shows;
     }
 

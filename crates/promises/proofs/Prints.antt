@@ -24,7 +24,8 @@ use Rattle.promises.proofs.Rates.{accepted-fine}
 use Rattle.promises.proofs.Demand1.{file-number, by-reading, same-number, no-rows}
 
 -- the numbers of a compile with scratch enough
-scratch-number : (f t s : List ℕ) (r : Refusal) → rowLength * room (length t) ≤ length s → answerOf f t s ≡ Refused r → between 1 10 (r .number) ⊎ (r .number ≡ noRoom)
+scratch-number : (f t s : List ℕ) (r : Refusal) → rowLength * room (length t) ≤ length s → answerOf f t s ≡ Refused r
+    → between 1 10 (r .number) ⊎ (r .number ≡ noRoom)
 unfolding answerOf
 scratch-number f t s r h q = by-reading f
     (λ l e. by-test (ltb (room (length t)) (length (compiledRows f l)))

@@ -138,7 +138,8 @@ module _ (o : List ℕ) (k : RightCodes o) where
 
   common-ranged : (N N′ : List (Row Match Action)) → Ranged N → Ranged N′ → Ranged (commonRows common isEmpty (join o) N N′)
   common-ranged [] N′ f g = tt
-  common-ranged (r ∷ N) N′ f g = append-ranged (commonWith common isEmpty (join o) r N′) (commonRows common isEmpty (join o) N N′) (with-ranged r N′ (f .0) g) (common-ranged N N′ (f .1) g)
+  common-ranged (r ∷ N) N′ f g = append-ranged (commonWith common isEmpty (join o) r N′) (commonRows common isEmpty (join o) N N′) (with-ranged r N′ (f .0) g)
+      (common-ranged N N′ (f .1) g)
 
   join-ranged : (N N′ : List (Row Match Action)) → Ranged N → Ranged N′ → Ranged (rows.join common isEmpty (join o) N N′)
   join-ranged N N′ f g = append-ranged (commonRows common isEmpty (join o) N N′) (N ++ N′) (common-ranged N N′ f g) (append-ranged N N′ f g)

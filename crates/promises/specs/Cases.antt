@@ -80,13 +80,16 @@ cases =
     ∷ k 8 (actionOf tenant (to (address 10 8 0 1))) (Gives DontCare)
     ∷ k 8 (scanOf (rowsOf tenant) (to (address 10 8 0 1))) (Found DontCare 3)
     ∷ k 9 (answerOf tenant lent lent) (Rows 3)
-    ∷ k 9 (tableAfter tenant lent lent) (row (address 10 7 3 9) 32 3 40000 ++ row (address 10 7 0 0) 16 2 0 ++ row (address 10 7 3 9) 32 3 40000 ++ zeros rowLength)
+    ∷ k 9 (tableAfter tenant lent lent) (row (address 10 7 3 9) 32 3 40000 ++ row (address 10 7 0 0) 16 2 0 ++ row
+    (address 10 7 3 9) 32 3 40000 ++ zeros rowLength)
     ∷ k 9 (scratchAfter tenant lent lent) lent
     ∷ k 9 (numberOf (rowsOf tenant) 3 3) (Priorities 3)
     ∷ k 9 (prioritiesAfter (rowsOf tenant) (zeros 3) (zeros 3)) (3 ∷ 2 ∷ 1 ∷ [])
     ∷ k 9 (chainAfter (rowsOf tenant) (zeros 3) (zeros 3)) (0 ∷ 1 ∷ 2 ∷ [])
-    ∷ k 10 (readOf (tenantWith 1)) (reading.Refused (record { number = lawBroken; place = 1; law = Commutativity; first = Allow; second = Deny; third = DontCare }))
-    ∷ k 11 (readOf (lone lopsided)) (reading.Refused (record { number = lawBroken; place = 0; law = Associativity; first = Allow; second = Deny; third = Gmb 1 }))
+    ∷ k 10 (readOf (tenantWith 1)) (reading.Refused
+    (record { number = lawBroken; place = 1; law = Commutativity; first = Allow; second = Deny; third = DontCare }))
+    ∷ k 11 (readOf (lone lopsided)) (reading.Refused
+    (record { number = lawBroken; place = 0; law = Associativity; first = Allow; second = Deny; third = Gmb 1 }))
     ∷ k 12 (readOf []) (reading.Refused (plain short 0))
     ∷ []
 

@@ -1,4 +1,5 @@
--- What the listing prints: for every input, however broken, its compiled rows with their priorities, or one refusal of a fixed number.
+-- What the listing prints: for every input, however broken, its compiled rows with their priorities, or one refusal of
+-- a fixed number.
 --
 --   PrintsRows b          the compile of the input's words answers rows, and the text has the head and a line for each
 --   PrintsRefusal b       the text is one refusal, of number 1 to 10, 12 or 18

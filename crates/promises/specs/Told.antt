@@ -1,4 +1,5 @@
--- What a caller is told: the scope's number, place, law and actions, and the value, of each answer. Where an answer is an enum, each of its cases has them.
+-- What a caller is told: the scope's number, place, law and actions, and the value, of each answer. Where an answer is
+-- an enum, each of its cases has them.
 --
 --   Told                a refusal's number, place, law and three actions, and the action and the count that are given
 --   searchTold          of the search for a broken law
@@ -42,7 +43,13 @@ pub record Told : Type 0 where
 -- the search for a broken law in the operator i
 abbrev pub searchTold : ℕ → Lawful → Told
 searchTold i Yes = record { refusal = plain 0 0; action = DontCare; count = 0 }
-searchTold i (Broken l a b c) = record { refusal = record { number = lawBroken; place = i; law = l; first = a; second = b; third = c }; action = DontCare; count = 0 }
+searchTold i (Broken l a b c) =
+    record {
+      refusal = record { number = lawBroken; place = i; law = l; first = a; second = b; third = c };
+      action =
+          DontCare;
+      count = 0;
+    }
 
 -- a file that is accepted, or its refusal
 abbrev pub readTold : Reading → Told

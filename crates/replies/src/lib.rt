@@ -1,7 +1,7 @@
 // Calls on lent slices: each calls its function, and writes the answer as words: number and place, for a policy file
-// the law and three actions too, then the values, then every buffer that was lent for writing. A success has zeros for its
-// number, a refusal for its values. What they look like stands in tests/README.md. Each answers whether all could be
-// written.
+// the law and three actions too, then the values, then every buffer that was lent for writing. A success has zeros for
+// its number, a refusal for its values. What they look like stands in tests/README.md. Each answers whether all could
+// be written.
 ghost use mathlib.Core.Path.{_≡_};
 ghost use Rattle.compile.specs.Compile.{tableAfter, scratchAfter};
 ghost use Rattle.priority.specs.Numbering.{prioritiesAfter, chainAfter};
@@ -29,7 +29,8 @@ pub fn reply_action(file: &[u32], packet: &[u32]) -> bool {
 // Compiles a policy file; the table and the scratch are written too.
 pub fn reply_compile(file: &[u32], table: &mut [u32], scratch: &mut [u32]) -> bool
     ensures { λ r. ⌜ now (table .exit) ≡ tableAfter (now (file .entry)) (now (table .entry)) (now (scratch .entry)) ⌝ }
-    ensures { λ r. ⌜ now (scratch .exit) ≡ scratchAfter (now (file .entry)) (now (table .entry)) (now (scratch .entry)) ⌝ }
+    ensures { λ r. ⌜ now (scratch .exit) ≡ scratchAfter (now (file .entry)) (now (table .entry))
+        (now (scratch .entry)) ⌝ }
 {
     let compiled = compile::compile(file, table, scratch);
     give_compiled(compiled) & give(table) & give(scratch)
@@ -42,8 +43,10 @@ pub fn reply_scan(table: &[u32], packet: &[u32]) -> bool {
 
 // Numbers a table; the priorities and the chain are written too.
 pub fn reply_number(table: &[u32], priorities: &mut [u32], chain: &mut [u32]) -> bool
-    ensures { λ r. ⌜ now (priorities .exit) ≡ prioritiesAfter (now (table .entry)) (now (priorities .entry)) (now (chain .entry)) ⌝ }
-    ensures { λ r. ⌜ now (chain .exit) ≡ chainAfter (now (table .entry)) (now (priorities .entry)) (now (chain .entry)) ⌝ }
+    ensures { λ r. ⌜ now (priorities .exit) ≡ prioritiesAfter (now (table .entry)) (now (priorities .entry))
+        (now (chain .entry)) ⌝ }
+    ensures { λ r. ⌜ now (chain .exit) ≡ chainAfter (now (table .entry)) (now (priorities .entry))
+        (now (chain .entry)) ⌝ }
 {
     let numbered = priority::number(table, priorities, chain);
     give_numbered(numbered) & give(priorities) & give(chain)

@@ -4,7 +4,8 @@
 --   mostRows                        the most rows that a table may have
 --   rowOf, rowWords                 the match and the action that some words are, and their words
 --   rightRowMatch, rightRowAction   the match is right, the action is right
---   rightRow                        a right row: an atom with a right match and a right action, whose match is not empty
+--   rightRow                        a right row: an atom with a right match and a right action, whose match is not
+--                                   empty
 --   RightRow                        the same of a match and an action
 use Prim.Native.Nat.{ℕ, _+_}
 use mathlib.Core.Path.{_≡_}

@@ -148,7 +148,8 @@ module _ (o atom : List ℕ) {a : ℕ} (p : ℕ) {old mid : List ℕ} (s : List 
       let n : length (joinWords o (atomWords atom) (drop p s)) ≡ length added + length (drop p s) = whole-long in
       no-room a (joinWords o (atomWords atom) (drop p s)) old new s (omega arith)
 
-  pub atom-joined : {n : ℕ} {s′ : List ℕ} {z : Made} → r ≡ Words n → PutUpTo a (part a n mid ++ drop p s) s′ z → Grows a (joinWords o (atomWords atom) (drop p s)) old mid s′ z
+  pub atom-joined : {n : ℕ} {s′ : List ℕ} {z : Made} → r ≡ Words n → PutUpTo a (part a n mid ++ drop p s) s′ z
+      → Grows a (joinWords o (atomWords atom) (drop p s)) old mid s′ z
   atom-joined {n} {s′} {z} g k =
       let f : Fitted a added (length old) n = made-words a added (length old) n (sym g ∙ l .answer) in
       let v : mid ≡ laid a added old = l .words (f .fits) in
@@ -169,7 +170,8 @@ own-more o atoms i h =
 pub own-start : (o atoms : List ℕ) {a : ℕ} {old s : List ℕ} → a ≤ length s → Grows a (ownWords o (drop (length atoms) atoms)) old old s (Words (length s))
 unfolding ownWords
 own-start o atoms {a} {old} {s} h =
-    let n : ownWords o (drop (length atoms) atoms) ≡ [] = ap (λ N. wordsOf (ownRows o N)) (rows-end rowLength rowOf some-words atoms (length atoms) (omega arith)) in
+    let n : ownWords o (drop (length atoms) atoms) ≡ [] = ap (λ N. wordsOf (ownRows o N))
+    (rows-end rowLength rowOf some-words atoms (length atoms) (omega arith)) in
     stands-at a (ownWords o (drop (length atoms) atoms)) old s (length s) h (omega arith) (drop-of-length-le s {i = length s} (omega arith) ∙ sym n)
 
 -- where the table of the last atoms does not fit, nor does the whole
@@ -192,7 +194,8 @@ pub grows-case : {a : ℕ} {F old new s : List ℕ} {m n : Made} → m ≡ n →
 grows-case {a} {F} {old} {new} {s} q g = subst (Grows a F old new s) q g
 
 -- the steps: one more atom, no room for it, and all atoms joined
-module _ (o atoms : List ℕ) (i : ℕ) {a e : ℕ} {old here new s s′ : List ℕ} {m : Made} (h : rowLength ≤ i) (k : i ≤ length atoms) (same : length here ≡ length old)
+module _ (o atoms : List ℕ) (i : ℕ) {a e : ℕ} {old here new s s′ : List ℕ} {m : Made} (h : rowLength ≤ i) (k : i ≤ length atoms)
+    (same : length here ≡ length old)
     (g : Grows a (ownWords o (drop i atoms)) old here s (Words e))
     (j : Grows a (joinWords o (atomWords (take (i - (i - rowLength)) (drop (i - rowLength) atoms))) (drop e s)) here new s′ m) where
   pub own-step : Grows a (ownWords o (drop (i - rowLength) atoms)) old new s′ m

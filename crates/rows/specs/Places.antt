@@ -42,4 +42,5 @@ pub record PutUpTo (a : ℕ) (F new : List ℕ) (r : Made) : Type 0 where
 -- the same, and the other buffer has changed only where F would be laid at a
 pub record Grows (a : ℕ) (F old new scratch : List ℕ) (r : Made) : Type 0 where
   pub stands : PutUpTo a F scratch r
-  pub hidden : (first : ℕ) → r ≡ Words first → (W : List ℕ) → length F ≤ length W → a + length W ≤ length old → laid a W new ≡ laid a W old
+  pub hidden : (first : ℕ) → r ≡ Words first → (W : List ℕ) → length F ≤ length W → a + length W ≤ length old
+      → laid a W new ≡ laid a W old

@@ -32,7 +32,9 @@ pub fn join(
     end: usize,
 ) -> Made
     requires { ⌜ Behind start middle end (now table) (now scratch) ⌝ }
-    ensures { λ r. ⌜ Lays start (joinWords (operator .cells) (part start middle (now (table .entry))) (part middle end (now (table .entry)))) (now (table .entry)) (now (table .exit)) r ⌝ }
+    ensures { λ r. ⌜ Lays start
+        (joinWords (operator .cells) (part start middle (now (table .entry))) (part middle end (now (table .entry))))
+        (now (table .entry)) (now (table .exit)) r ⌝ }
 {
     let whole = &*table;
     let common = common_rows(
@@ -48,8 +50,8 @@ pub fn join(
     put_before(table, scratch, start, made, end)
 }
 
-// The table of a node's own atoms, folded from the last. It grows down from the end of scratch, so that nothing is moved
-// when rows are put before it.
+// The table of a node's own atoms, folded from the last. It grows down from the end of scratch, so that nothing is
+// moved when rows are put before it.
 pub fn own_rows(
     operator: Operator,
     atoms: &[u32],
@@ -58,7 +60,8 @@ pub fn own_rows(
     start: usize,
 ) -> Made
     requires { ⌜ From (now atoms) start (now table) (now scratch) ⌝ }
-    ensures { λ r. ⌜ Lays start (ownWords (operator .cells) (now (atoms .entry))) (now (table .entry)) (now (table .exit)) r ⌝ }
+    ensures { λ r. ⌜ Lays start (ownWords (operator .cells) (now (atoms .entry))) (now (table .entry))
+        (now (table .exit)) r ⌝ }
 {
     let mut i = atoms.len();
     let mut first = scratch.len();
@@ -78,7 +81,8 @@ pub fn own_rows(
 // Puts the words at start..made of scratch before those at start..end of the table.
 fn put_before(table: &mut [u32], scratch: &mut [u32], start: usize, made: usize, end: usize) -> Made
     requires { ⌜ Before start made end (now table) (now scratch) ⌝ }
-    ensures { λ r. ⌜ Lays start (part start made (now (scratch .entry)) ++ part start end (now (table .entry))) (now (table .entry)) (now (table .exit)) r ⌝ }
+    ensures { λ r. ⌜ Lays start (part start made (now (scratch .entry)) ++ part start end (now (table .entry)))
+        (now (table .entry)) (now (table .exit)) r ⌝ }
 {
     if made == start {
         return Made::Words(end);
@@ -91,8 +95,8 @@ fn put_before(table: &mut [u32], scratch: &mut [u32], start: usize, made: usize,
     Made::Words(e)
 }
 
-// Joins an atom with the table that stands at the end of scratch, from its first word on. Its rows are made in the table
-// from the start on, and put before that one. An atom with the empty match has no row.
+// Joins an atom with the table that stands at the end of scratch, from its first word on. Its rows are made in the
+// table from the start on, and put before that one. An atom with the empty match has no row.
 fn join_atom(
     operator: Operator,
     atom: &[u32],
@@ -102,7 +106,9 @@ fn join_atom(
     first: usize,
 ) -> Made
     requires { ⌜ Ending start first (now table) (now scratch) ⌝ }
-    ensures { λ r. ⌜ Grows start (joinWords (operator .cells) (atomWords (now (atom .entry))) (drop first (now (scratch .entry)))) (now (table .entry)) (now (table .exit)) (now (scratch .exit)) r ⌝ }
+    ensures { λ r. ⌜ Grows start
+        (joinWords (operator .cells) (atomWords (now (atom .entry))) (drop first (now (scratch .entry))))
+        (now (table .entry)) (now (table .exit)) (now (scratch .exit)) r ⌝ }
 {
     let m = read_match(atom);
     if is_empty(m) {
@@ -132,7 +138,9 @@ fn put_up_to(out: &mut [u32], start: usize, place: usize, words: &[u32]) -> Made
 // The common rows of a row and a table, and then the row.
 fn row_before(operator: Operator, row: &[u32], table: &[u32], out: &mut [u32], at: usize) -> Made
     requires { ⌜ at ≤ length (now out) ⌝ }
-    ensures { λ r. ⌜ Lays at (commonWithWords (operator .cells) (rowOf (now (row .entry))) (now (table .entry)) ++ now (row .entry)) (now (out .entry)) (now (out .exit)) r ⌝ }
+    ensures { λ r. ⌜ Lays at
+        (commonWithWords (operator .cells) (rowOf (now (row .entry))) (now (table .entry)) ++ now (row .entry))
+        (now (out .entry)) (now (out .exit)) r ⌝ }
 {
     let common = common_with(operator, row, table, out, at);
     let Made::Words(end) = common else {

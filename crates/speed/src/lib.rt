@@ -34,7 +34,8 @@ pub extern "C" fn speed_read(file: &[u32]) -> u32
 #[no_mangle]
 pub extern "C" fn speed_tree(file: &[u32], packet: &[u32], given: &mut [u32]) -> u32
     ensures { λ r. ⌜ (r ≡ treeNumber (actionOf (now (file .entry)) (now (packet .entry))))
-        × (now (given .exit) ≡ withAction (now (given .entry)) (treeAction (actionOf (now (file .entry)) (now (packet .entry))))) ⌝ }
+        × (now (given .exit) ≡ withAction (now (given .entry))
+        (treeAction (actionOf (now (file .entry)) (now (packet .entry))))) ⌝ }
 {
     let answer = tree_action(file, packet);
     put_action(given, tree_given(answer));
@@ -55,7 +56,8 @@ pub extern "C" fn speed_compile(file: &[u32], table: &mut [u32], scratch: &mut [
 #[no_mangle]
 pub extern "C" fn speed_scan(table: &[u32], packet: &[u32], given: &mut [u32]) -> usize
     ensures { λ r. ⌜ (r ≡ scanTried (scanOf (now (table .entry)) (now (packet .entry))))
-        × (now (given .exit) ≡ withAction (now (given .entry)) (scanAction (scanOf (now (table .entry)) (now (packet .entry))))) ⌝ }
+        × (now (given .exit) ≡ withAction (now (given .entry))
+        (scanAction (scanOf (now (table .entry)) (now (packet .entry))))) ⌝ }
 {
     let answer = scan(table, packet);
     put_action(given, scan_given(answer));
@@ -65,7 +67,8 @@ pub extern "C" fn speed_scan(table: &[u32], packet: &[u32], given: &mut [u32]) -
 // The numbering; the answer is how many priorities there are, 0 where it is refused.
 #[no_mangle]
 pub extern "C" fn speed_number(table: &[u32], priorities: &mut [u32], chain: &mut [u32]) -> u32
-    ensures { λ r. ⌜ (r ≡ answerCount (numberOf (now (table .entry)) (length (now (priorities .entry))) (length (now (chain .entry)))))
+    ensures { λ r. ⌜ (r ≡ answerCount
+        (numberOf (now (table .entry)) (length (now (priorities .entry))) (length (now (chain .entry)))))
         × (now (priorities .exit) ≡ prioritiesAfter (now (table .entry)) (now (priorities .entry)) (now (chain .entry)))
         × (now (chain .exit) ≡ chainAfter (now (table .entry)) (now (priorities .entry)) (now (chain .entry))) ⌝ }
 {

@@ -60,7 +60,8 @@ module _ (f : List ℕ) (n i from : ℕ) (w : Checked) (inv : checkFrom i (left 
   wrong-none h = rw (left-none f n i from h) at inv
 
 -- the scan of a row that matches, and of one that does not
-found-first : (i : ℕ) (r : Row Match Action) (N : List (Row Match Action)) (p : Packet) → meets (r .match) p ≡ true → found i (r ∷ N) p ≡ Found (r .action) (i + 1)
+found-first : (i : ℕ) (r : Row Match Action) (N : List (Row Match Action)) (p : Packet) → meets (r .match) p ≡ true
+    → found i (r ∷ N) p ≡ Found (r .action) (i + 1)
 found-first i r N p t = rw t
 
 found-later : (i : ℕ) (r : Row Match Action) (N : List (Row Match Action)) (p : Packet) → meets (r .match) p ≡ false → found i (r ∷ N) p ≡ found (i + 1) N p
@@ -79,10 +80,12 @@ module _ (f : List ℕ) (p : Packet) (n i from : ℕ) (w : Scanned) (inv : found
     next-row = ap (λ l. found i (map rowOf l) p) (sym (left-more f n i from h)) ∙ inv
 
     pub match-found : (a : Action) → a ≡ rowAction (first f from) → b ≡ true → Found a (i + 1) ≡ w
-    match-found a d t = rw d (sym (found-first i (rowOf (first f from)) (map rowOf (left f n (i + 1) (from + rowLength))) p (ap (λ x. meets x p) (sym q) ∙ sym e ∙ t)) ∙ next-row)
+    match-found a d t = rw d
+        (sym (found-first i (rowOf (first f from)) (map rowOf (left f n (i + 1) (from + rowLength))) p (ap (λ x. meets x p) (sym q) ∙ sym e ∙ t)) ∙ next-row)
 
     pub match-later : b ≡ false → found (i + 1) (map rowOf (left f n (i + 1) (from + rowLength))) p ≡ w
-    match-later t = sym (found-later i (rowOf (first f from)) (map rowOf (left f n (i + 1) (from + rowLength))) p (ap (λ x. meets x p) (sym q) ∙ sym e ∙ t)) ∙ next-row
+    match-later t = sym (found-later i (rowOf (first f from)) (map rowOf (left f n (i + 1) (from + rowLength))) p (ap (λ x. meets x p) (sym q) ∙ sym e ∙ t))
+        ∙ next-row
 
   pub match-none : n ≤ i → Found DontCare i ≡ w
   match-none h =

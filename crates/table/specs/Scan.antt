@@ -4,7 +4,8 @@
 --   whereRight c s          the answer s, where the table is right
 --   scanOf ws packet        the scan's answer
 --   scanNumber, scanPlace   the number and the place of an answer; both are 0 where it is no refusal
---   scanAction, scanTried   the action of an answer, and how many rows were tried; don't care and 0 where it is a refusal
+--   scanAction, scanTried   the action of an answer, and how many rows were tried; don't care and 0 where it is a
+--                           refusal
 use Prim.Native.Nat.{ℕ, _+_}
 use mathlib.Core.Bool.{cond}
 use mathlib.Core.List.{List}
@@ -32,7 +33,9 @@ whereRight (Wrong n i) s = Refused n i
 
 -- the scan: first the packet, then the table, then its rows in order
 unfoldable pub scanOf : List ℕ → List ℕ → Scanned
-scanOf ws packet = cond (rightPacketWords packet) (whereRight (checkOf ws) (found 0 (rowsIn ws) (packetOf packet))) (Refused wrongPacket 0)
+scanOf ws packet =
+    cond (rightPacketWords packet) (whereRight (checkOf ws) (found 0 (rowsIn ws) (packetOf packet)))
+    (Refused wrongPacket 0)
 
 -- the number of an answer
 abbrev pub scanNumber : Scanned → ℕ

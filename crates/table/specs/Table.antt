@@ -1,4 +1,5 @@
--- Tables: rows that stand one behind the other in a list of words, and which tables are right. See docs/FORMAT.md, "Rows" and "Numbers a caller can get back".
+-- Tables: rows that stand one behind the other in a list of words, and which tables are right. See docs/FORMAT.md,
+-- "Rows" and "Numbers a caller can get back".
 --
 --   wrongTable        the number of a table of a wrong length
 --   wrongRow          the number of a wrong row

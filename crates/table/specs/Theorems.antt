@@ -1,11 +1,13 @@
--- What is proved of tables and the scan. A law of the same name in proofs/ proves each statement: check-exactly proves CheckExactly.
+-- What is proved of tables and the scan. A law of the same name in proofs/ proves each statement: check-exactly proves
+-- CheckExactly.
 --
 --   rowAt                      the words of a row
 --   RightTable                 what makes a table right
 --   CheckExactly               the check passes exactly the right tables
 --   CheckFirst                 a wrong row is named by the first place that has one, also behind a matching row
 --   TableRows, TableWords      the rows of a right table are right, and the words of right rows are a right table
---   RowsRead, RowsWritten      the words of rows are read as these rows, and the rows of a right table are written as its words
+--   RowsRead, RowsWritten      the words of rows are read as these rows, and the rows of a right table are written as
+--                              its words
 --   ScanFirst, ScanUnmatched   the scan's answer where row i is the first that matches, and where none does
 --   ScanRefused                the order of the refusals: the packet, then the table
 use Prim.Native.Nat.{ℕ, suc, _*_, _%_, _≤_, _<_}
@@ -44,7 +46,9 @@ CheckExactly = (ws : List ℕ) (n : ℕ) → (checkOf ws ≡ Rows n) ↔ (RightT
 
 -- in a table of right length the first wrong row is named
 abbrev pub CheckFirst : Type 0
-CheckFirst = (ws : List ℕ) (i : ℕ) → rightLength ws ≡ true → FirstPlace (λ j. not (rightRow (rowAt ws j))) (rowCount ws) i → checkOf ws ≡ Wrong wrongRow i
+CheckFirst =
+    (ws : List ℕ) (i : ℕ) → rightLength ws ≡ true → FirstPlace (λ j. not (rightRow (rowAt ws j))) (rowCount ws) i
+    → checkOf ws ≡ Wrong wrongRow i
 
 -- each row of a right table is right
 abbrev pub TableRows : Type 0
@@ -65,14 +69,17 @@ RowsWritten = (ws : List ℕ) → RightTable ws → flat rowWords (rowsIn ws) �
 -- where row i is the first that matches: its action, and i + 1 rows tried
 abbrev pub ScanFirst : Type 0
 ScanFirst = (ws packet : List ℕ) (i : ℕ) → RightTable ws → rightPacketWords packet ≡ true
-    → FirstPlace (matchesAt meets past (rowsIn ws) (packetOf packet)) (rowCount ws) i → scanOf ws packet ≡ Found (getD (rowsIn ws) i past .action) (suc i)
+    → FirstPlace (matchesAt meets past (rowsIn ws) (packetOf packet)) (rowCount ws) i
+    → scanOf ws packet ≡ Found (getD (rowsIn ws) i past .action) (suc i)
 
 -- where no row matches: don't care, and all rows tried
 abbrev pub ScanUnmatched : Type 0
 ScanUnmatched = (ws packet : List ℕ) → RightTable ws → rightPacketWords packet ≡ true
-    → ((i : ℕ) → i < rowCount ws → matchesAt meets past (rowsIn ws) (packetOf packet) i ≡ false) → scanOf ws packet ≡ Found DontCare (rowCount ws)
+    → ((i : ℕ) → i < rowCount ws → matchesAt meets past (rowsIn ws) (packetOf packet) i ≡ false)
+    → scanOf ws packet ≡ Found DontCare (rowCount ws)
 
--- words that are no packet are refused whatever the table is; else a table that is not right is refused as the check has it
+-- words that are no packet are refused whatever the table is; else a table that is not right is refused as the check
+-- has it
 abbrev pub ScanRefused : Type 0
 ScanRefused = (ws packet : List ℕ)
     → (rightPacketWords packet ≡ false → scanOf ws packet ≡ Refused wrongPacket 0)

@@ -69,7 +69,8 @@ module _ {f t s t′ s′ : List ℕ} {r : Compiled} (c : Compiles f t s t′ s�
 
   pub file-fits : {n : ℕ} → r ≡ Rows n → n * rowLength ≤ length t′
   file-fits {n} e =
-      let q : n ≡ rowCount (take (n * rowLength) (tableAfter f t s)) = check-exactly (tableRows n (tableAfter f t s)) n .0 (table-right f t s n (sym (c .answer) ∙ e)) .1 in
+      let q : n ≡ rowCount (take (n * rowLength) (tableAfter f t s)) = check-exactly (tableRows n (tableAfter f t s)) n .0
+      (table-right f t s n (sym (c .answer) ∙ e)) .1 in
       let k : n ≡ rowCount (take (n * rowLength) t′) = q ∙ ap (λ x. rowCount (take (n * rowLength) x)) (sym (c .table)) in
       by-le (n * rowLength) (length t′) (λ h. h) (λ h.
       let z : n ≡ rowCount t′ = k ∙ ap rowCount (take-all (n * rowLength) t′ (omega arith)) in
@@ -113,7 +114,8 @@ module _ (t ps cs : List ℕ) {ps′ cs′ : List ℕ} {r : Numbered} (c : Answe
     answer-room : r ≡ numberOf t room room
     answer-room = c .0 ∙ ap₂ (numberOf t) np nc
 
-    pub table-listed : {l : ℕ} {o o₁ o₂ : List ℕ} {a b : ℕ} → r ≡ numbered.Priorities l → Puts (head (rowCount t) l) o 0 o₁ a → Puts (lines (take (rowCount t) ps′) (rowsIn t)) o₁ a o₂ b
+    pub table-listed : {l : ℕ} {o o₁ o₂ : List ℕ} {a b : ℕ} → r ≡ numbered.Priorities l → Puts (head (rowCount t) l) o 0 o₁ a
+        → Puts (lines (take (rowCount t) ps′) (rowsIn t)) o₁ a o₂ b
         → Puts (tableText t) o 0 o₂ b
     unfolding tableText
     table-listed {l} {o} {o₁} {o₂} {a} {b} e p q =

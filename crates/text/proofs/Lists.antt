@@ -1,5 +1,5 @@
--- What is listed, by what the compile answers in blank buffers: its rows pass the table's check and fit the numbering's buffers, so the numbering refuses nothing.
--- So no listing is longer than its bound. Assumes nothing.
+-- What is listed, by what the compile answers in blank buffers: its rows pass the table's check and fit the numbering's buffers, so the numbering refuses
+-- nothing. So no listing is longer than its bound. Assumes nothing.
 use Prim.Native.Nat.{ℕ, _*_, _≤_, _<_}
 use native.Mathlib.Omega.{arith}
 use mathlib.Core.Path.{_≡_, refl, sym, ap, ap₂, _∙_}
@@ -111,7 +111,8 @@ pub first-listed : (n : ℕ) (b : List ℕ) {l m : List ℕ} {r : ℕ} → Puts 
 first-listed n b p h = rw (take-all n b h) p
 
 -- arrays that are long enough, for the input and for its listing
-pub lists-whole : (array : List ℕ) (n : ℕ) {l m : List ℕ} {r : ℕ} → Puts (listingOf (take n array)) l 0 m r → r ≤ length m → longestInput < length array → longestListing ≤ length l
+pub lists-whole : (array : List ℕ) (n : ℕ) {l m : List ℕ} {r : ℕ} → Puts (listingOf (take n array)) l 0 m r → r ≤ length m → longestInput < length array
+    → longestListing ≤ length l
     → ListsWhole array n l m r
 lists-whole array n {l} {m} {r} p w h k = record {
   puts = p;

@@ -28,7 +28,8 @@ lines-turn {ps} {ws} {m} {m′} {l} {i} {from} {b} {b′} {a} g p h k =
     let q : from + rowLength - from ≡ rowLength = omega arith in
     let r : Puts (line (getD ps i 0) (rowOf (take rowLength (drop from ws)))) m b m′ b′ =
     subst (λ n. Puts (line (getD ps i 0) (rowOf (take n (drop from ws)))) m b m′ b′) q p in
-    let e : lines (drop i ps) (rowsIn (drop from ws)) ≡ line (getD ps i 0) (rowOf (take rowLength (drop from ws))) ++ lines (drop (suc i) ps) (rowsIn (drop (from + rowLength) ws)) =
+    let e : lines (drop i ps) (rowsIn (drop from ws)) ≡ line (getD ps i 0) (rowOf (take rowLength (drop from ws))) ++ lines (drop (suc i) ps)
+    (rowsIn (drop (from + rowLength) ws)) =
     rw (drop-cons ps i 0 h, rows-at rowLength rowOf (omega arith) ws from k) refl in
     rw (add-one i) (record { is = ahead-step r (subst (λ x. Ahead x m b (lines ps (rowsIn ws)) l a) e (g .is)) })
 

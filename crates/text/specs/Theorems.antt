@@ -50,15 +50,18 @@ pub record ListedRows (f : List ℕ) (n : ℕ) (t : List ℕ) : Type 0 where
 
 -- the rows that the compile leaves pass the table's check, with as many rows
 abbrev pub TableRight : Type 0
-TableRight = (f t s : List ℕ) (n : ℕ) → answerOf f t s ≡ Rows n → checkOf (tableRows n (tableAfter f t s)) ≡ checked.Rows n
+TableRight =
+    (f t s : List ℕ) (n : ℕ) → answerOf f t s ≡ Rows n → checkOf (tableRows n (tableAfter f t s)) ≡ checked.Rows n
 
 -- THE LISTING HAS A LINE FOR EACH COMPILED ROW
 abbrev pub ListsRows : Type 0
-ListsRows = (f : List ℕ) (n : ℕ) → answerOf f blank blank ≡ Rows n → ListedRows f n (tableRows n (tableAfter f blank blank))
+ListsRows =
+    (f : List ℕ) (n : ℕ) → answerOf f blank blank ≡ Rows n → ListedRows f n (tableRows n (tableAfter f blank blank))
 
 -- or it is the compile's refusal
 abbrev pub ListsRefused : Type 0
-ListsRefused = (f : List ℕ) (r : Refusal) → answerOf f blank blank ≡ Refused r → fileText f ≡ refusal (r .number) (r .place)
+ListsRefused =
+    (f : List ℕ) (r : Refusal) → answerOf f blank blank ≡ Refused r → fileText f ≡ refusal (r .number) (r .place)
 
 -- bytes that are not whole words, or too many
 abbrev pub RefusedInput : Type 0
@@ -70,7 +73,8 @@ NeverCut = (b : List ℕ) → length (listingOf b) ≤ longestListing
 
 -- what a buffer of so many bytes holds afterwards, up to the answer, is the listing
 abbrev pub WrittenWhole : Type 0
-WrittenWhole = (b l m : List ℕ) (r : ℕ) → Puts (listingOf b) l 0 m r → longestListing ≤ length l → take r m ≡ listingOf b
+WrittenWhole =
+    (b l m : List ℕ) (r : ℕ) → Puts (listingOf b) l 0 m r → longestListing ≤ length l → take r m ≡ listingOf b
 
 -- an input is known by its first bytes, if they are one more than the longest has: what is longer is refused
 abbrev pub KnownByFirst : Type 0
@@ -81,7 +85,8 @@ pub record Example : Type 0 where
   pub input : List ℕ
   pub text : String
 
--- the tenant's file, the same with a root whose operator is not commutative, a file without rows, no bytes, and one byte
+-- the tenant's file, the same with a root whose operator is not commutative, a file without rows, no bytes, and one
+-- byte
 abbrev pub examples : List Example
 examples =
     record { input = flat bytesOf tenant; text = "rows 3 priorities 3\n3 * 0.0.0.0/0 10.7.3.9/32 * * * gmb 40000\n2 * 0.0.0.0/0 10.7.0.0/16 * * * deny\n1 * 0.0.0.0/0 10.7.3.9/32 * * * gmb 40000\n" }

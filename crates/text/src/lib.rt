@@ -103,7 +103,8 @@ fn list_table(table: &[u32], out: &mut [u8]) -> usize
 // A line for each row, with its priority.
 fn put_lines(out: &mut [u8], at: usize, priorities: &[u32], table: &[u32]) -> usize
     requires { ⌜ length (now priorities) ≡ rowCount (now table) ⌝ }
-    ensures { λ r. ⌜ Puts (lines (now (priorities .entry)) (rowsIn (now (table .entry)))) (now (out .entry)) at (now (out .exit)) r ⌝ }
+    ensures { λ r. ⌜ Puts (lines (now (priorities .entry)) (rowsIn (now (table .entry)))) (now (out .entry)) at
+        (now (out .exit)) r ⌝ }
 {
     let mut to = at;
     let mut from = 0;

@@ -1,4 +1,5 @@
--- Nodes in file order, parent first and then each child's whole subtree, and the trees that they are. See docs/FORMAT.md, "The policy file".
+-- Nodes in file order, parent first and then each child's whole subtree, and the trees that they are. See
+-- docs/FORMAT.md, "The policy file".
 --
 --   Listed X                  what a node holds, and its child count
 --   takeTrees, dropTrees      the first trees of a forest, and the others
@@ -33,10 +34,13 @@ module _ {X : Type 0} where
   countTrees bare = 0
   countTrees (t ▸ ts) = suc (countTrees ts)
 
-  -- Read from the last, each node takes its children off the front of what is grown behind it; so plant (drop i nodes) stands from node i on.
+  -- Read from the last, each node takes its children off the front of what is grown behind it; so plant (drop i nodes)
+  -- stands from node i on.
   abbrev pub plant : List (Listed X) → Forest X
   plant [] = bare
-  plant (n ∷ ns) = let ts : Forest X = plant ns in node (n .what) (takeTrees (n .childCount) ts) ▸ dropTrees (n .childCount) ts
+  plant (n ∷ ns) =
+      let ts : Forest X = plant ns in
+      node (n .what) (takeTrees (n .childCount) ts) ▸ dropTrees (n .childCount) ts
 
   abbrev mutual
     -- A tree's nodes: its root, then each child's whole subtree.

@@ -1,4 +1,5 @@
--- The numbering over places: rows are known by place, and `over j i` tests whether rows j and i overlap. See docs/FORMAT.md, "Priorities".
+-- The numbering over places: rows are known by place, and `over j i` tests whether rows j and i overlap. See
+-- docs/FORMAT.md, "Priorities".
 --
 --   rowsOverlap       that test, for the rows of a table
 --   FirstPlace        a place is the first that passes a test
@@ -40,7 +41,8 @@ seek test zero at = at
 seek test (suc n) at = cond (test at) at (seek test n (suc at))
 
 module _ (over : ℕ → ℕ → Bool) where
-  -- Of the rows before place k, whose levels are ls: 0 if none overlaps row i, else 1 more than the highest level of those that do.
+  -- Of the rows before place k, whose levels are ls: 0 if none overlaps row i, else 1 more than the highest level of
+  -- those that do.
   abbrev pub above : List ℕ → ℕ → ℕ → ℕ
   above ls i zero = 0
   above ls i (suc k) = max (above ls i k) (cond (over k i) (suc (getD ls k 0)) 0)
@@ -90,14 +92,16 @@ module _ (over : ℕ → ℕ → Bool) (ls : List ℕ) where
   abbrev pub chain : List ℕ
   chain = chainUnder (levelCount ls)
 
--- L places of rows in scan order, neighbours overlapping: the end is the first row of level L - 1, each step back the first earlier overlapping row one level lower.
+-- L places of rows in scan order, neighbours overlapping: the end is the first row of level L - 1, each step back the
+-- first earlier overlapping row one level lower.
 pub record Chained (over : ℕ → ℕ → Bool) (ls c : List ℕ) : Type 0 where
   pub many : length c ≡ levelCount ls
   pub rows : (k : ℕ) → k < length c → getD c k 0 < length ls
   pub in-order : (k : ℕ) → suc k < length c → getD c k 0 < getD c (suc k) 0
   pub overlaps : (k : ℕ) → suc k < length c → over (getD c k 0) (getD c (suc k) 0) ≡ true
   pub ends : (k : ℕ) → suc k ≡ length c → FirstPlace (atLevel ls k) (length ls) (getD c k 0)
-  pub steps : (k : ℕ) → suc k < length c → FirstPlace (overlapsAt over ls (getD c (suc k) 0) k) (getD c (suc k) 0) (getD c k 0)
+  pub steps : (k : ℕ) → suc k < length c
+      → FirstPlace (overlapsAt over ls (getD c (suc k) 0) k) (getD c (suc k) 0) (getD c k 0)
 
 -- A numbering of n rows is right where of two rows that overlap the earlier has the strictly higher number.
 abbrev pub Right : (ℕ → ℕ → Bool) → ℕ → (ℕ → ℕ) → Type 0

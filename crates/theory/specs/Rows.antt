@@ -1,4 +1,5 @@
--- Tables, that is lists of rows, over any matches and actions: the scan of a table, and the join of two. See docs/FORMAT.md, "The scan" and "Rows".
+-- Tables, that is lists of rows, over any matches and actions: the scan of a table, and the join of two. See
+-- docs/FORMAT.md, "The scan" and "Rows".
 --
 --   Row M A        an atom or a row: a match and an action
 --   scan           the first matching row's action, or don't care

@@ -1,4 +1,5 @@
--- Every theorem of this crate, each stated as a type. A law of the same name in proofs/ has that type: scan-join proves ScanJoin.
+-- Every theorem of this crate, each stated as a type. A law of the same name in proofs/ has that type: scan-join proves
+-- ScanJoin.
 --
 --   Laws                                   what is asked of matches and operators
 --   ScanJoin, JoinSize                     Lemma 1 of the paper, and how many rows a join has
@@ -20,10 +21,13 @@ use lib.ListN.{getD, length}
 use Rattle.theory.specs.Rows.{Row, scan, place, tried, matchesAt, EveryRow, commonRow, join}
 use Rattle.theory.specs.Tree.{Tree, node, bare, _▸_, Node, EveryAtom, own, eval, compile}
 use Rattle.theory.specs.Nodes.{Listed, plant, listTree, listTrees, ChildrenFound}
-use Rattle.theory.specs.Number.{rowsOverlap, FirstPlace, levels, levelCount, priorities, chain, Chained, Right, distinct}
+use Rattle.theory.specs.Number.{rowsOverlap, FirstPlace, levels, levelCount, priorities, chain, Chained, Right}
+use Rattle.theory.specs.Number.{distinct}
 
-module _ {M P A O : Type 0} (meets : M → P → Bool) (dontCare : A) (joined : O → A → A → A) (common : M → M → M) (empty : M → Bool) where
-  -- A packet meets the common match exactly when it meets both; an empty match is met by no packet; don't care is every operator's identity.
+module _ {M P A O : Type 0} (meets : M → P → Bool) (dontCare : A) (joined : O → A → A → A) (common : M → M → M)
+    (empty : M → Bool) where
+  -- A packet meets the common match exactly when it meets both; an empty match is met by no packet; don't care is every
+  -- operator's identity.
   pub record Laws : Type 0 where
     pub meets-common : (m n : M) (p : P) → meets (common m n) p ≡ (meets m p && meets n p)
     pub meets-empty : (m : M) (p : P) → empty m ≡ true → meets m p ≡ false
@@ -33,11 +37,13 @@ module _ {M P A O : Type 0} (meets : M → P → Bool) (dontCare : A) (joined : 
   -- Lemma 1: the scan of a join is the join of the scans.
   abbrev pub ScanJoin : Type 0
   ScanJoin = Laws → (o : O) (N N′ : List (Row M A)) (p : P)
-      → scan meets dontCare (join common empty (joined o) N N′) p ≡ joined o (scan meets dontCare N p) (scan meets dontCare N′ p)
+      → scan meets dontCare (join common empty (joined o) N N′) p
+      ≡ joined o (scan meets dontCare N p) (scan meets dontCare N′ p)
 
   -- Theorem 1: the scan of the compiled rows is the tree's action, for every tree and packet.
   abbrev pub ScanCompile : Type 0
-  ScanCompile = Laws → (t : Tree (Node O M A)) (p : P) → scan meets dontCare (compile common empty joined t) p ≡ eval meets dontCare joined t p
+  ScanCompile = Laws → (t : Tree (Node O M A)) (p : P)
+      → scan meets dontCare (compile common empty joined t) p ≡ eval meets dontCare joined t p
 
   -- A chain of nodes a, b, c is joined from the last up; no operator need be associative.
   abbrev pub NodeChain : Type 0
@@ -53,10 +59,12 @@ module _ {M A : Type 0} (common : M → M → M) (empty : M → Bool) (op : A �
       (suc rows ≤ suc (length N) * suc (length N′)) × (length N + length N′ ≤ rows)
 
 module _ {M A O : Type 0} (joined : O → A → A → A) (common : M → M → M) (empty : M → Bool) where
-  -- A property that every atom has and common rows keep, every compiled row has; and no compiled row has the empty match.
+  -- A property that every atom has and common rows keep, every compiled row has; and no compiled row has the empty
+  -- match.
   abbrev pub CompileEvery : Type 1
   CompileEvery = (T : Row M A → Type 0) → ((o : O) (r s : Row M A) → T r → T s → T (commonRow common (joined o) r s))
-      → (t : Tree (Node O M A)) → EveryAtom T t → EveryRow (λ r. T r × (empty (r .match) ≡ false)) (compile common empty joined t)
+      → (t : Tree (Node O M A)) → EveryAtom T t
+      → EveryRow (λ r. T r × (empty (r .match) ≡ false)) (compile common empty joined t)
 
 module _ (X : Type 0) where
   -- Where every node finds its children, the list of the planted trees is the nodes.
@@ -85,7 +93,8 @@ module _ (over : ℕ → ℕ → Bool) (n : ℕ) where
 
   -- Each row's priority lies in 1..L.
   abbrev pub PrioritiesRange : Type 0
-  PrioritiesRange = (i : ℕ) → i < n → let q : ℕ = getD (priorities (levels over n)) i 0 in (1 ≤ q) × (q ≤ levelCount (levels over n))
+  PrioritiesRange = (i : ℕ) → i < n
+      → let q : ℕ = getD (priorities (levels over n)) i 0 in (1 ≤ q) × (q ≤ levelCount (levels over n))
 
   -- There are exactly L distinct priorities.
   abbrev pub PrioritiesCount : Type 0
@@ -93,7 +102,8 @@ module _ (over : ℕ → ℕ → Bool) (n : ℕ) where
 
   -- Every right numbering of the same rows has at least L distinct numbers.
   abbrev pub FewestPriorities : Type 0
-  FewestPriorities = (qs : List ℕ) → length qs ≡ n → Right over n (λ i. getD qs i 0) → levelCount (levels over n) ≤ length (distinct qs)
+  FewestPriorities = (qs : List ℕ) → length qs ≡ n → Right over n (λ i. getD qs i 0)
+      → levelCount (levels over n) ≤ length (distinct qs)
 
   -- The chain is right.
   abbrev pub ChainHolds : Type 0
@@ -104,7 +114,8 @@ abbrev pub Overlapping : {M P : Type 0} → (M → P → Bool) → (M → M → 
 Overlapping {M} {P} meets overlap = (m n : M) (p : P) → meets m p ≡ true → meets n p ≡ true → overlap m n ≡ true
 
 -- A switch with the numbers q may obey row i: it matches, and no matching row has a higher number.
-pub record Obeyed {M P A : Type 0} (meets : M → P → Bool) (d : Row M A) (N : List (Row M A)) (q : ℕ → ℕ) (p : P) (i : ℕ) : Type 0 where
+pub record Obeyed {M P A : Type 0} (meets : M → P → Bool) (d : Row M A) (N : List (Row M A)) (q : ℕ → ℕ) (p : P)
+    (i : ℕ) : Type 0 where
   pub within : i < length N
   pub matches : matchesAt meets d N p i ≡ true
   pub highest : (j : ℕ) → j < length N → matchesAt meets d N p j ≡ true → q j ≤ q i
@@ -112,15 +123,18 @@ pub record Obeyed {M P A : Type 0} (meets : M → P → Bool) (d : Row M A) (N :
 module _ {M P A : Type 0} (meets : M → P → Bool) (dontCare : A) (overlap : M → M → Bool) where
   -- Under a right numbering, whatever row a switch obeys has the scan's action.
   abbrev pub SwitchScan : Type 0
-  SwitchScan = Overlapping meets overlap → (d : Row M A) (N : List (Row M A)) (q : ℕ → ℕ) → Right (rowsOverlap overlap d N) (length N) q
+  SwitchScan = Overlapping meets overlap → (d : Row M A) (N : List (Row M A)) (q : ℕ → ℕ)
+      → Right (rowsOverlap overlap d N) (length N) q
       → (p : P) (i : ℕ) → Obeyed meets d N q p i → getD N i d .action ≡ scan meets dontCare N p
 
   -- So it is under our priorities.
   abbrev pub SwitchPriorities : Type 0
   SwitchPriorities = Overlapping meets overlap → (d : Row M A) (N : List (Row M A)) (p : P) (i : ℕ)
-      → Obeyed meets d N (λ k. getD (priorities (levels (rowsOverlap overlap d N) (length N))) k 0) p i → getD N i d .action ≡ scan meets dontCare N p
+      → Obeyed meets d N (λ k. getD (priorities (levels (rowsOverlap overlap d N) (length N))) k 0) p i
+      → getD N i d .action ≡ scan meets dontCare N p
 
   -- Where some row matches, the switch has a row to obey: the first that matches.
   abbrev pub SwitchFirst : Type 0
-  SwitchFirst = Overlapping meets overlap → (d : Row M A) (N : List (Row M A)) (q : ℕ → ℕ) → Right (rowsOverlap overlap d N) (length N) q
+  SwitchFirst = Overlapping meets overlap → (d : Row M A) (N : List (Row M A)) (q : ℕ → ℕ)
+      → Right (rowsOverlap overlap d N) (length N) q
       → (p : P) (i : ℕ) → FirstPlace (matchesAt meets d N p) (length N) i → Obeyed meets d N q p i

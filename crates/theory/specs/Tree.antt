@@ -13,7 +13,8 @@ use mathlib.Core.List.{List, [], _∷_}
 use Rattle.theory.specs.Rows.{Row, EveryRow, kept, join}
 
 infixr 67 _▸_
--- A tree is what its root holds and its children in order, a forest no tree or one before others. Figure 1: T = (+P) × (+S) × D × 2^T, the operators held by D.
+-- A tree is what its root holds and its children in order, a forest no tree or one before others. Figure 1: T = (+P) ×
+-- (+S) × D × 2^T, the operators held by D.
 mutual
   pub data Tree (X : Type 0) : Type 0 where
     node : X → Forest X → Tree X
@@ -41,7 +42,8 @@ module _ {O M A : Type 0} (T : Row M A → Type 0) where
     EveryAtoms (t ▸ ts) = EveryAtom t × EveryAtoms ts
 
 module _ {M P A O : Type 0} (meets : M → P → Bool) (dontCare : A) (joined : O → A → A → A) where
-  -- The matching atoms' actions, each one counted, folded from the last, don't care at the end. Figure 1: cmb = A′₁ + .. + A′ₖ + 0.
+  -- The matching atoms' actions, each one counted, folded from the last, don't care at the end. Figure 1: cmb = A′₁ +
+  -- .. + A′ₖ + 0.
   abbrev pub own : O → List (Row M A) → P → A
   own i [] p = dontCare
   own i (x ∷ xs) p = cond (meets (x .match) p) (joined i (x .action) (own i xs p)) (own i xs p)
@@ -51,7 +53,8 @@ module _ {M P A O : Type 0} (meets : M → P → Bool) (dontCare : A) (joined : 
     pub eval : Tree (Node O M A) → P → A
     eval (node n ts) p = joined (n .parent) (own (n .inner) (n .atoms) p) (evals ts (n .sibling) p)
 
-    -- The children's actions folded from the last, don't care at the end. Figure 1: Aᵢ = eval(Tᵢ, K) +S Aᵢ₊₁, the last with 0.
+    -- The children's actions folded from the last, don't care at the end. Figure 1: Aᵢ = eval(Tᵢ, K) +S Aᵢ₊₁, the last
+    -- with 0.
     pub evals : Forest (Node O M A) → O → P → A
     evals bare s p = dontCare
     evals (t ▸ ts) s p = joined s (eval t p) (evals ts s p)
@@ -66,7 +69,8 @@ module _ {M A O : Type 0} (common : M → M → M) (empty : M → Bool) (joined 
   abbrev mutual
     -- The table of a tree, as eval.
     pub compile : Tree (Node O M A) → List (Row M A)
-    compile (node n ts) = join common empty (joined (n .parent)) (table (n .inner) (n .atoms)) (compiles ts (n .sibling))
+    compile (node n ts) = join common empty (joined (n .parent)) (table (n .inner) (n .atoms))
+        (compiles ts (n .sibling))
 
     -- The table of children under a sibling operator, as evals.
     pub compiles : Forest (Node O M A) → O → List (Row M A)

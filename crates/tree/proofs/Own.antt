@@ -20,7 +20,8 @@ some-words : 0 < rowLength
 some-words = omega arith
 
 module _ (o atom : List ℕ) (p : Packet) (rest : Action) where
-  pub with-met : {t : Bool} {m : Match} {x r : Action} → t ≡ meets m p → t ≡ true → m ≡ matchOf atom → x ≡ rowAction atom → r ≡ join o x rest → r ≡ withAtom o atom p rest
+  pub with-met : {t : Bool} {m : Match} {x r : Action} → t ≡ meets m p → t ≡ true → m ≡ matchOf atom → x ≡ rowAction atom → r ≡ join o x rest
+      → r ≡ withAtom o atom p rest
   unfolding withAtom
   with-met {t} {m} {x} {r} e q h k j =
       let i : meets (matchOf atom) p ≡ true = ap (λ z. meets z p) (sym h) ∙ sym e ∙ q in

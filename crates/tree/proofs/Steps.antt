@@ -22,10 +22,12 @@ use Rattle.tree.specs.Steps.{ownAction, TreeGave, ChildrenGave}
 use Rattle.tree.specs.declared.Gave.{Gave}
 
 -- no child is wanted, or no node is left
-pub children-end : (f : List ℕ) (s : Spot) (sibling k : ℕ) (p : Packet) → Reached f s → k ≡ 0 → ChildrenGave f s sibling k p (record { action = DontCare; next = s })
+pub children-end : (f : List ℕ) (s : Spot) (sibling k : ℕ) (p : Packet) → Reached f s → k ≡ 0
+    → ChildrenGave f s sibling k p (record { action = DontCare; next = s })
 children-end f s sibling k p r e = record { trees = bare; stand = rw e (children-none (nodeIndex f s)); answer = refl; reached = r }
 
-pub children-out : (f : List ℕ) (s : Spot) (sibling k : ℕ) (p : Packet) → Reached f s → s .left ≡ 0 → ChildrenGave f s sibling k p (record { action = DontCare; next = s })
+pub children-out : (f : List ℕ) (s : Spot) (sibling k : ℕ) (p : Packet) → Reached f s → s .left ≡ 0
+    → ChildrenGave f s sibling k p (record { action = DontCare; next = s })
 children-out f s sibling k p r e =
     record { trees = bare; stand = children-past k (nodeIndex f s) (omega (arith, listed-many f)); answer = refl; reached = r }
 
@@ -52,9 +54,11 @@ tree-gave f s p {n} {atoms} {x} {r} {next} {rest} reached h e v q m k j =
     let at : Here f s nothing = here f s reached h nothing in
     let n′ : NodeWords = nodeAt f (s .left) in
     let k′ : ChildrenGave f (nextSpot f s) (n′ .sibling) (n′ .children) p rest =
-    subst (λ (z : Spot). ChildrenGave f z (n′ .sibling) (n′ .children) p rest) m (subst (λ (z : NodeWords). ChildrenGave f next (z .sibling) (z .children) p rest) e k) in
+    subst (λ (z : Spot). ChildrenGave f z (n′ .sibling) (n′ .children) p rest) m
+    (subst (λ (z : NodeWords). ChildrenGave f next (z .sibling) (z .children) p rest) e k) in
     let x′ : x ≡ own meets DontCare join (cellsAt f (n′ .inner)) (rowsOf rowLength rowOf (atomsAt f (s .atom) (n′ .own))) p =
-    q ∙ ap₂ (λ o l. own meets DontCare join o (rowsOf rowLength rowOf l) p) (ap (λ (z : NodeWords). cellsAt f (z .inner)) e) (v ∙ ap (λ (z : NodeWords). atomsAt f (s .atom) (z .own)) e) in
+    q ∙ ap₂ (λ o l. own meets DontCare join o (rowsOf rowLength rowOf l) p) (ap (λ (z : NodeWords). cellsAt f (z .inner)) e)
+    (v ∙ ap (λ (z : NodeWords). atomsAt f (s .atom) (z .own)) e) in
     let i : ℕ = nodeIndex f s in
     let j′ : ℕ = nodeIndex f (rest .next) in
     let below : Children (listOf f) (getD (listOf f) i nothing .childCount) (suc i) (k′ .trees) j′ = rw (at .children, ← at .further) (k′ .stand) in

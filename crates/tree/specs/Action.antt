@@ -1,4 +1,5 @@
--- The tree's action, for every list of words and every packet: the file's refusals come first, then the packet's. See docs/FORMAT.md, "The tree's action".
+-- The tree's action, for every list of words and every packet: the file's refusals come first, then the packet's. See
+-- docs/FORMAT.md, "The tree's action".
 use Prim.Native.Nat.{ℕ}
 use mathlib.Core.Bool.{cond}
 use mathlib.Core.List.{List}
@@ -24,7 +25,9 @@ evalTree t p = eval meets DontCare join t p
 
 -- an accepted file's tree and a right packet: eval of the tree
 unfoldable pub acceptedAction : List ℕ → Layout → List ℕ → Evaluated
-acceptedAction f l p = cond (rightPacketWords p) (evaluated.Gives (evalTree (treeOf f l) (packetOf p))) (evaluated.Refused (plain wrongPacket 0))
+acceptedAction f l p =
+    cond (rightPacketWords p) (evaluated.Gives (evalTree (treeOf f l) (packetOf p)))
+    (evaluated.Refused (plain wrongPacket 0))
 
 -- what reading answered, carried on
 abbrev pub afterReading : List ℕ → List ℕ → Reading → Evaluated

@@ -14,7 +14,9 @@ use Rattle.tree.specs.declared.Evaluated.the-variants as evaluated
 
 -- of an accepted file and a right packet, the answer is eval of Figure 1 on the tree that the file holds (action-eval)
 abbrev pub ActionEval : Type 0
-ActionEval = (f p : List ℕ) (l : Layout) → readOf f ≡ Accepted l → rightPacketWords p ≡ true → actionOf f p ≡ evaluated.Gives (evalTree (treeOf f l) (packetOf p))
+ActionEval =
+    (f p : List ℕ) (l : Layout) → readOf f ≡ Accepted l → rightPacketWords p ≡ true
+    → actionOf f p ≡ evaluated.Gives (evalTree (treeOf f l) (packetOf p))
 
 -- a refused file is refused so, whatever the packet is (action-refused)
 abbrev pub ActionRefused : Type 0
@@ -22,4 +24,6 @@ ActionRefused = (f p : List ℕ) (r : Refusal) → readOf f ≡ Refused r → ac
 
 -- a wrong packet is refused where the file is accepted (action-packet)
 abbrev pub ActionPacket : Type 0
-ActionPacket = (f p : List ℕ) (l : Layout) → readOf f ≡ Accepted l → rightPacketWords p ≡ false → actionOf f p ≡ evaluated.Refused (plain wrongPacket 0)
+ActionPacket =
+    (f p : List ℕ) (l : Layout) → readOf f ≡ Accepted l → rightPacketWords p ≡ false
+    → actionOf f p ≡ evaluated.Refused (plain wrongPacket 0)

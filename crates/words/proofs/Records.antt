@@ -44,7 +44,8 @@ module _ {R : Type 0} (k : ℕ) (read : List ℕ → R) (pos : 0 < k) where
   unfolding rowsOf
   rows-more ws h =
       let e : length ws / k ≡ suc (length (drop k ws) / k) =
-      ap (λ n. n / k) (let q : length ws ≡ length (drop k ws) + k = rw length-drop (omega arith) in q) ∙ add-div-right (length (drop k ws)) pos ∙ add-one (length (drop k ws) / k) in
+      ap (λ n. n / k) (let q : length ws ≡ length (drop k ws) + k = rw length-drop (omega arith) in q) ∙ add-div-right (length (drop k ws)) pos ∙ add-one
+      (length (drop k ws) / k) in
       ap (λ n. map read (records n k ws)) e
 
   pub rows-none : (ws : List ℕ) → length ws < k → rowsOf k read ws ≡ []

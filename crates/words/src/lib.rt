@@ -1,4 +1,5 @@
-// Moves over lent buffers of 32-bit words, and words against bytes. Each is total: a place outside the buffer reads 0 and stores nothing.
+// Moves over lent buffers of 32-bit words, and words against bytes. Each is total: a place outside the buffer reads 0
+// and stores nothing.
 ghost use mathlib.Core.Path.{_≡_};
 ghost use Prim.Native.Nat.{_+_, _*_, _/_, _≤_, _<_};
 ghost use lib.ListN.{length, getD};

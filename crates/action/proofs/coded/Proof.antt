@@ -7,18 +7,6 @@ use Rattle.action.proofs.Joined.{no-entry}
 use Rattle.action.proofs.coded.Statement.{statement}
 use Rattle.action.proofs.coded.Tie as tie
 
-rate-requires : tie.Need-rate-requires
-rate-requires c κs = search needs
-
-rate-requires-2 : tie.Need-rate-requires-2
-rate-requires-2 c κs = search needs
-
-larger-requires : tie.Need-larger-requires
-larger-requires c κs = search needs
-
-smaller-requires : tie.Need-smaller-requires
-smaller-requires c κs = search needs
-
 returns : tie.Need-returns
 unfolding coded
 returns c = search needs
@@ -50,15 +38,5 @@ returns-7 c = let g = c .before .before .before .args in no-entry _ (codes (g .l
 pub coded-spec : {M : Type 1} → statement M
 coded-spec =
     tie.close
-    (tie.spec
-    rate-requires
-    rate-requires-2
-    larger-requires
-    smaller-requires
-    returns
-    returns-2
-    returns-3
-    returns-4
-    returns-5
-    returns-6
-    returns-7)
+    (tie.spec (search needs) (search needs) (search needs) (search needs) returns returns-2 returns-3 returns-4
+    returns-5 returns-6 returns-7)

@@ -21,30 +21,17 @@ loop-holds : tie.Need-loop-holds Inv-loop μ-loop
 unfolding firstPair
 loop-holds c = refl
 
-showing-requires : tie.Need-showing-requires Inv-loop μ-loop
-showing-requires c κs = search needs
-
-showing-requires-2 : tie.Need-showing-requires-2 Inv-loop μ-loop
-showing-requires-2 c κs = search needs
-
-join-requires : tie.Need-join-requires Inv-loop μ-loop
-join-requires c κs = search needs
-
-join-requires-2 : tie.Need-join-requires-2 Inv-loop μ-loop
-join-requires-2 c κs = search needs
-
-same-requires : tie.Need-same-requires Inv-loop μ-loop
-same-requires c κs = search needs
-
 returns : tie.Need-returns Inv-loop μ-loop
 unfolding pairs shown
 returns c =
+    let start = c .before .before .before .before .before .before .before .before .before in
+    let showing = c .before .before .before .before .before .showing in
     let l = c .before .before .before .before .before .before .before .loop in
-    let o = c .before .before .before .before .before .before .before .before .before .args .cells .now in
+    let o = start .args .cells .now in
     let h : l .k < length pairs = omega arith in
     hit (commutes o) pairs (DontCare, DontCare) (l .k) h (l .inv)
     (pair-tried o (l .k) _ _ _ _ _ h
-    (c .before .before .before .before .before .showing .ensures)
+    (showing .ensures)
     (c .before .before .before .before .showing2 .ensures)
     (c .before .before .before .join .ensures)
     (c .before .before .join2 .ensures)
@@ -62,12 +49,14 @@ loop-less c = omega arith
 loop-again : tie.Need-loop-again Inv-loop μ-loop
 unfolding pairs shown
 loop-again c =
+    let start = c .before .before .before .before .before .before .before .before .before in
+    let showing = c .before .before .before .before .before .showing in
     let l = c .before .before .before .before .before .before .before .loop in
-    let o = c .before .before .before .before .before .before .before .before .before .args .cells .now in
+    let o = start .args .cells .now in
     let h : l .k < length pairs = omega arith in
     miss (commutes o) pairs (DontCare, DontCare) (l .k) h (l .inv)
     (pair-tried o (l .k) _ _ _ _ _ h
-    (c .before .before .before .before .before .showing .ensures)
+    (showing .ensures)
     (c .before .before .before .before .showing2 .ensures)
     (c .before .before .before .join .ensures)
     (c .before .before .join2 .ensures)
@@ -81,17 +70,5 @@ returns-2 c = none-left _ pairs (c .before .loop .k) _ (omega arith) (c .before 
 pub first-pair-spec : {M : Type 1} → statement M
 first-pair-spec =
     tie.close
-    (tie.spec
-    Inv-loop
-    μ-loop
-    loop-holds
-    showing-requires
-    showing-requires-2
-    join-requires
-    join-requires-2
-    same-requires
-    returns
-    add-k
-    loop-less
-    loop-again
-    returns-2)
+    (tie.spec Inv-loop μ-loop loop-holds (search needs) (search needs) (search needs) (search needs) (search needs)
+    returns add-k loop-less loop-again returns-2)

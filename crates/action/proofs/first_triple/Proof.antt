@@ -20,23 +20,12 @@ abbrev μ-loop : tie.MeasureT-loop
 loop-holds : tie.Need-loop-holds Inv-loop μ-loop
 loop-holds c = triples-by-pair (c .before .args .cells .now)
 
-showing-requires : tie.Need-showing-requires Inv-loop μ-loop
-showing-requires c κs = search needs
-
-showing-requires-2 : tie.Need-showing-requires-2 Inv-loop μ-loop
-showing-requires-2 c κs = search needs
-
-with-third-requires : tie.Need-with-third-requires Inv-loop μ-loop
-with-third-requires c κs = search needs
-
-enum-told : tie.Need-enum-told Inv-loop μ-loop
-enum-told c = search needs
-
 returns : tie.Need-returns Inv-loop μ-loop
 unfolding pairs shown
 returns c =
+    let start = c .before .before .before .before .before .before .before .before in
     let l = c .before .before .before .before .before .before .loop in
-    let o = c .before .before .before .before .before .before .before .before .args .cells .now in
+    let o = start .args .cells .now in
     let h : l .k < length pairs = omega arith in
     else-hit _ _ _
     (turn (byPair o) pairs (DontCare, DontCare) (l .k) h (l .inv)
@@ -45,9 +34,6 @@ returns c =
     (c .before .before .before .showing2 .ensures)
     (c .before .before .with-third .ensures)))
     _ _ _ _ (c .enum-told .given .1)
-
-enum-told-2 : tie.Need-enum-told-2 Inv-loop μ-loop
-enum-told-2 c = search needs
 
 add-k : tie.Need-add-k Inv-loop μ-loop
 unfolding pairs shown
@@ -60,8 +46,9 @@ loop-less c = omega arith
 loop-again : tie.Need-loop-again Inv-loop μ-loop
 unfolding pairs shown
 loop-again c =
+    let start = c .before .before .before .before .before .before .before .before in
     let l = c .before .before .before .before .before .before .loop in
-    let o = c .before .before .before .before .before .before .before .before .args .cells .now in
+    let o = start .args .cells .now in
     let h : l .k < length pairs = omega arith in
     else-miss _ _ _
     (turn (byPair o) pairs (DontCare, DontCare) (l .k) h (l .inv)
@@ -78,17 +65,5 @@ returns-2 c = none-left _ pairs (c .before .loop .k) _ (omega arith) (c .before 
 pub first-triple-spec : {M : Type 1} → statement M
 first-triple-spec =
     tie.close
-    (tie.spec
-    Inv-loop
-    μ-loop
-    loop-holds
-    showing-requires
-    showing-requires-2
-    with-third-requires
-    enum-told
-    returns
-    enum-told-2
-    add-k
-    loop-less
-    loop-again
-    returns-2)
+    (tie.spec Inv-loop μ-loop loop-holds (search needs) (search needs) (search needs) (search needs) returns
+    (search needs) add-k loop-less loop-again returns-2)

@@ -17,38 +17,22 @@ Inv-loop cells a b ab k₀ k = along (λ c. associates cells (a, (b, c))) (drop 
 abbrev μ-loop : tie.MeasureT-loop
 μ-loop cells a b ab k₀ k = length shown - k
 
-join-requires : tie.Need-join-requires Inv-loop μ-loop
-join-requires c κs = search needs
-
 loop-holds : tie.Need-loop-holds Inv-loop μ-loop
 unfolding withThird
 loop-holds c = refl
 
-showing-requires : tie.Need-showing-requires Inv-loop μ-loop
-showing-requires c κs = search needs
-
-join-requires-2 : tie.Need-join-requires-2 Inv-loop μ-loop
-join-requires-2 c κs = search needs
-
-join-requires-3 : tie.Need-join-requires-3 Inv-loop μ-loop
-join-requires-3 c κs = search needs
-
-join-requires-4 : tie.Need-join-requires-4 Inv-loop μ-loop
-join-requires-4 c κs = search needs
-
-same-requires : tie.Need-same-requires Inv-loop μ-loop
-same-requires c κs = search needs
-
 returns : tie.Need-returns Inv-loop μ-loop
 unfolding shown
 returns c =
+    let join = c .before .before .before .before .before .before .before .before .join in
+    let showing = c .before .before .before .before .before .showing in
     let l = c .before .before .before .before .before .before .before .loop in
     let g = c .before .before .before .before .before .before .before .before .before .before .args in
     let h : l .k < length shown = omega arith in
     hit (λ x. associates (g .cells .now) (g .a, (g .b, x))) shown DontCare (l .k) h (l .inv)
     (third-tried (g .cells .now) (l .k) (g .a) (g .b) _ _ _ _ _ _
-    (c .before .before .before .before .before .showing .ensures)
-    (c .before .before .before .before .before .before .before .before .join .ensures)
+    (showing .ensures)
+    (join .ensures)
     (c .before .before .before .before .join2 .ensures)
     (c .before .before .before .join3 .ensures)
     (c .before .before .join4 .ensures)
@@ -66,13 +50,15 @@ loop-less c = omega arith
 loop-again : tie.Need-loop-again Inv-loop μ-loop
 unfolding shown
 loop-again c =
+    let join = c .before .before .before .before .before .before .before .before .join in
+    let showing = c .before .before .before .before .before .showing in
     let l = c .before .before .before .before .before .before .before .loop in
     let g = c .before .before .before .before .before .before .before .before .before .before .args in
     let h : l .k < length shown = omega arith in
     miss (λ x. associates (g .cells .now) (g .a, (g .b, x))) shown DontCare (l .k) h (l .inv)
     (third-tried (g .cells .now) (l .k) (g .a) (g .b) _ _ _ _ _ _
-    (c .before .before .before .before .before .showing .ensures)
-    (c .before .before .before .before .before .before .before .before .join .ensures)
+    (showing .ensures)
+    (join .ensures)
     (c .before .before .before .before .join2 .ensures)
     (c .before .before .before .join3 .ensures)
     (c .before .before .join4 .ensures)
@@ -86,18 +72,5 @@ returns-2 c = none-left _ shown (c .before .loop .k) _ (omega arith) (c .before 
 pub with-third-spec : {M : Type 1} → statement M
 with-third-spec =
     tie.close
-    (tie.spec
-    Inv-loop
-    μ-loop
-    join-requires
-    loop-holds
-    showing-requires
-    join-requires-2
-    join-requires-3
-    join-requires-4
-    same-requires
-    returns
-    add-k
-    loop-less
-    loop-again
-    returns-2)
+    (tie.spec Inv-loop μ-loop (search needs) loop-holds (search needs) (search needs) (search needs) (search needs)
+    (search needs) returns add-k loop-less loop-again returns-2)

@@ -10,20 +10,11 @@ use Rattle.compile.proofs.Settling.{start-reached, no-scratch, accepted
 use Rattle.compile.proofs.compile_accepted.Statement.{statement}
 use Rattle.compile.proofs.compile_accepted.Tie as tie
 
-room-of-requires : tie.Need-room-of-requires
-room-of-requires c κs = search needs
-
 mul-words : tie.Need-mul-words
 mul-words c = omega (arith, c .room-of .ensures)
 
-refused-requires : tie.Need-refused-requires
-refused-requires c κs = search needs
-
 returns : tie.Need-returns
 returns c = no-scratch _ _ (c .before .before .room-of .ensures) (c .before .if1 .taken) (c .refused .ensures)
-
-root-requires : tie.Need-root-requires
-root-requires c κs = search needs
 
 slice-relend-prefix-subtree : tie.Need-slice-relend-prefix-subtree
 slice-relend-prefix-subtree c = omega (arith, c .before .before .room-of .ensures)
@@ -39,36 +30,34 @@ slice-aggregate-subtree-2 c = sym (length-take-le _ _ (omega (arith, c .before .
 
 subtree-requires : tie.Need-subtree-requires
 subtree-requires c κs =
-    let r = start-reached _ _ (c .before .before .before .before .before .before .before .before .pre) _ (c .before .before .root .ensures) in
-    (r .0, r .1, omega arith, takes-alike (rowLength * c .before .before .before .before .room-of .result) (c .before .before .before .before .before .before .before .before .args .scratch .now) (c .before .before .before .before .before .before .before .before .args .table .now) (omega (arith, c .before .before .before .if1 .left)) (omega (arith, c .before .before .before .before .room-of .ensures)))
+    let start = c .before .before .before .before .before .before .before .before in
+    let r = start-reached _ _ (start .pre) _ (c .before .before .root .ensures) in (
+      r .0,
+      r .1,
+      omega arith,
+      takes-alike (rowLength * c .before .before .before .before .room-of .result) (start .args .scratch .now) (start .args .table .now)
+          (omega (arith, c .before .before .before .if1 .left)) (omega (arith, c .before .before .before .before .room-of .ensures)),
+    )
 
 settle-requires : tie.Need-settle-requires
-settle-requires c κs = tree-within _ _ (c .before .before .before .before .before .before .subtree .ensures) (c .before .before .before .before .before .before .subtree .kept .1 .1 .0) refl
-
-same-length : tie.Need-same-length
-same-length c = search needs
-
-same-length-2 : tie.Need-same-length-2
-same-length-2 c = search needs
+settle-requires c κs =
+    let subtree = c .before .before .before .before .before .before .subtree in
+    tree-within _ _ (subtree .ensures) (subtree .kept .1 .1 .0) refl
 
 returns-2 : tie.Need-returns-2
-returns-2 c = accepted-settles _ _ (c .before .before .before .before .before .before .before .before .before .before .before .before .before .before .before .before .before .before .before .before .pre) _ (c .before .before .before .before .before .before .before .before .before .before .before .before .before .before .root .ensures) _ _ _ (c .before .before .before .before .before .before .before .before .before .before .before .before .before .before .before .before .room-of .ensures) (omega (arith, c .before .before .before .before .before .before .before .before .before .before .before .before .before .before .before .if1 .left)) _ _ _ _ _ _ refl (c .before .before .before .before .before .before .before .before .before .before .before .subtree .kept .1 .1 .0) (omega arith) _ (c .before .before .before .before .before .before .before .before .before .before .before .subtree .ensures) (c .before .before .before .before .settle .ensures)
+returns-2 c =
+    let midway = c .before .before .before .before .before .before .before .before .before .before in
+    let start = midway .before .before .before .before .before .before .before .before .before .before in
+    let room-of = midway .before .before .before .before .before .before .room-of in
+    let if1 = midway .before .before .before .before .before .if1 in
+    let root = midway .before .before .before .before .root in
+    let subtree = c .before .before .before .before .before .before .before .before .before .before .before .subtree in
+    accepted-settles _ _ (start .pre) _ (root .ensures) _ _ _ (room-of .ensures) (omega (arith, if1 .left)) _ _ _ _ _ _ refl (subtree .kept .1 .1 .0)
+    (omega (arith, c .before .before .before .before .before .before, subtree .kept)) _ (subtree .ensures) (c .before .before .before .before .settle .ensures)
 
 pub compile-accepted-spec : {M : Type 1} → statement M
 compile-accepted-spec =
     tie.close
-    (tie.spec
-    room-of-requires
-    mul-words
-    refused-requires
-    returns
-    root-requires
-    slice-relend-prefix-subtree
-    slice-aggregate-subtree
-    slice-relend-prefix-subtree-2
-    slice-aggregate-subtree-2
-    subtree-requires
-    settle-requires
-    same-length
-    same-length-2
-    returns-2)
+    (tie.spec (search needs) mul-words (search needs) returns (search needs) slice-relend-prefix-subtree
+    slice-aggregate-subtree slice-relend-prefix-subtree-2 slice-aggregate-subtree-2 subtree-requires settle-requires
+    (search needs) (search needs) returns-2)

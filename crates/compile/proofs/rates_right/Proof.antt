@@ -19,38 +19,17 @@ abbrev μ-loop : tie.MeasureT-loop
 loop-holds : tie.Need-loop-holds Inv-loop μ-loop
 loop-holds c = (omega arith, refl)
 
-add-loop : tie.Need-add-loop Inv-loop μ-loop
-add-loop c = search needs
-
-add-right-row-action : tie.Need-add-right-row-action Inv-loop μ-loop
-add-right-row-action c = search needs
-
-mul-right-row-action : tie.Need-mul-right-row-action Inv-loop μ-loop
-mul-right-row-action c = search needs
-
-sub-right-row-action : tie.Need-sub-right-row-action Inv-loop μ-loop
-sub-right-row-action c = search needs
-
-part-right-row-action-start : tie.Need-part-right-row-action-start Inv-loop μ-loop
-part-right-row-action-start c = search needs
-
-part-right-row-action-end : tie.Need-part-right-row-action-end Inv-loop μ-loop
-part-right-row-action-end c = search needs
-
-right-row-action-requires : tie.Need-right-row-action-requires Inv-loop μ-loop
-right-row-action-requires c κs = search needs
-
-add-i : tie.Need-add-i Inv-loop μ-loop
-add-i c = search needs
-
-loop-less : tie.Need-loop-less Inv-loop μ-loop
-loop-less c = search needs
-
 loop-again : tie.Need-loop-again Inv-loop μ-loop
-loop-again c = (omega arith, rates-more _ _ (c .before .before .before .before .loop .inv .1) (c .before .right-row-action .ensures) (c .if1 .taken) (c .before .before .before .loop-test .taken))
+loop-again c = (
+  omega arith,
+  rates-more _ _ (c .before .before .before .before .loop .inv .1) (c .before .right-row-action .ensures) (c .if1 .taken)
+      (c .before .before .before .loop-test .taken),
+)
 
 returns : tie.Need-returns Inv-loop μ-loop
-returns c = rates-wrong _ _ (c .before .before .before .before .loop .inv .1) (c .before .right-row-action .ensures) (c .if1 .left) (c .before .before .before .loop-test .taken)
+returns c =
+    rates-wrong _ _ (c .before .before .before .before .loop .inv .1) (c .before .right-row-action .ensures) (c .if1 .left)
+    (c .before .before .before .loop-test .taken)
 
 returns-2 : tie.Need-returns-2 Inv-loop μ-loop
 returns-2 c = rates-end _ _ (c .before .loop .inv .1) (c .loop-test .left)
@@ -58,19 +37,5 @@ returns-2 c = rates-end _ _ (c .before .loop .inv .1) (c .loop-test .left)
 pub rates-right-spec : {M : Type 1} → statement M
 rates-right-spec =
     tie.close
-    (tie.spec
-    Inv-loop
-    μ-loop
-    loop-holds
-    add-loop
-    add-right-row-action
-    mul-right-row-action
-    sub-right-row-action
-    part-right-row-action-start
-    part-right-row-action-end
-    right-row-action-requires
-    add-i
-    loop-less
-    loop-again
-    returns
-    returns-2)
+    (tie.spec Inv-loop μ-loop loop-holds (search needs) (search needs) (search needs) (search needs) (search needs)
+    (search needs) (search needs) (search needs) (search needs) loop-again returns returns-2)

@@ -7,62 +7,45 @@ use Rattle.flow.specs.Match.{overlap}
 use Rattle.flow.proofs.overlap.Statement.{statement}
 use Rattle.flow.proofs.overlap.Tie as tie
 
-prefixes-meet-requires : tie.Need-prefixes-meet-requires
-prefixes-meet-requires c κs = search needs
-
 returns : tie.Need-returns
 unfolding overlap
 returns c = rw (← c .before .prefixes-meet .ensures, not-true (c .before .prefixes-meet .result) (c .if1 .taken), and-false)
-
-prefixes-meet-requires-2 : tie.Need-prefixes-meet-requires-2
-prefixes-meet-requires-2 c κs = search needs
 
 returns-2 : tie.Need-returns-2
 unfolding overlap
 returns-2 c = rw (← c .before .prefixes-meet2 .ensures, not-true (c .before .prefixes-meet2 .result) (c .if2 .taken), and-false)
 
-values-meet-requires : tie.Need-values-meet-requires
-values-meet-requires c κs = search needs
-
 returns-3 : tie.Need-returns-3
 unfolding overlap
 returns-3 c = rw (← c .before .values-meet .ensures, not-true (c .before .values-meet .result) (c .if3 .taken), and-false)
-
-values-meet-requires-2 : tie.Need-values-meet-requires-2
-values-meet-requires-2 c κs = search needs
 
 returns-4 : tie.Need-returns-4
 unfolding overlap
 returns-4 c = rw (← c .before .values-meet2 .ensures, not-true (c .before .values-meet2 .result) (c .if4 .taken), and-false)
 
-is-empty-requires : tie.Need-is-empty-requires
-is-empty-requires c κs = search needs
-
-is-empty-requires-2 : tie.Need-is-empty-requires-2
-is-empty-requires-2 c κs = search needs
-
-values-meet-requires-3 : tie.Need-values-meet-requires-3
-values-meet-requires-3 c κs = search needs
-
-values-meet-requires-4 : tie.Need-values-meet-requires-4
-values-meet-requires-4 c κs = search needs
-
 returns-5 : tie.Need-returns-5
 unfolding overlap
 returns-5 c =
+    let prefixes-meet = c .before .before .before .before .before .before .before .before .before .before .before .prefixes-meet in
+    let if1 = c .before .before .before .before .before .before .before .before .before .before .if1 in
+    let prefixes-meet2 = c .before .before .before .before .before .before .before .before .before .prefixes-meet2 in
+    let if2 = c .before .before .before .before .before .before .before .before .if2 in
+    let values-meet = c .before .before .before .before .before .before .before .values-meet in
+    let if3 = c .before .before .before .before .before .before .if3 in
+    let values-meet2 = c .before .before .before .before .before .values-meet2 in
     rw (
       c .values-meet4 .ensures,
       c .before .values-meet3 .ensures,
       c .before .before .is-empty2 .ensures,
       c .before .before .before .is-empty .ensures,
-      ← c .before .before .before .before .before .values-meet2 .ensures,
-      not-false (c .before .before .before .before .before .values-meet2 .result) (c .before .before .before .before .if4 .left),
-      ← c .before .before .before .before .before .before .before .values-meet .ensures,
-      not-false (c .before .before .before .before .before .before .before .values-meet .result) (c .before .before .before .before .before .before .if3 .left),
-      ← c .before .before .before .before .before .before .before .before .before .prefixes-meet2 .ensures,
-      not-false (c .before .before .before .before .before .before .before .before .before .prefixes-meet2 .result) (c .before .before .before .before .before .before .before .before .if2 .left),
-      ← c .before .before .before .before .before .before .before .before .before .before .before .prefixes-meet .ensures,
-      not-false (c .before .before .before .before .before .before .before .before .before .before .before .prefixes-meet .result) (c .before .before .before .before .before .before .before .before .before .before .if1 .left),
+      ← values-meet2 .ensures,
+      not-false (values-meet2 .result) (c .before .before .before .before .if4 .left),
+      ← values-meet .ensures,
+      not-false (values-meet .result) (if3 .left),
+      ← prefixes-meet2 .ensures,
+      not-false (prefixes-meet2 .result) (if2 .left),
+      ← prefixes-meet .ensures,
+      not-false (prefixes-meet .result) (if1 .left),
       and-true,
       and-true,
       and-true,
@@ -72,17 +55,5 @@ returns-5 c =
 pub overlap-spec : {M : Type 1} → statement M
 overlap-spec =
     tie.close
-    (tie.spec
-    prefixes-meet-requires
-    returns
-    prefixes-meet-requires-2
-    returns-2
-    values-meet-requires
-    returns-3
-    values-meet-requires-2
-    returns-4
-    is-empty-requires
-    is-empty-requires-2
-    values-meet-requires-3
-    values-meet-requires-4
-    returns-5)
+    (tie.spec (search needs) returns (search needs) returns-2 (search needs) returns-3 (search needs) returns-4
+    (search needs) (search needs) (search needs) (search needs) returns-5)

@@ -4,58 +4,26 @@ use borrow.Author.Needs.{needs}
 use Rattle.flow.proofs.read_match.Statement.{statement}
 use Rattle.flow.proofs.read_match.Tie as tie
 
-word-requires : tie.Need-word-requires
-word-requires c κs = search needs
-
-word-requires-2 : tie.Need-word-requires-2
-word-requires-2 c κs = search needs
-
-word-requires-3 : tie.Need-word-requires-3
-word-requires-3 c κs = search needs
-
-word-requires-4 : tie.Need-word-requires-4
-word-requires-4 c κs = search needs
-
-word-requires-5 : tie.Need-word-requires-5
-word-requires-5 c κs = search needs
-
-word-requires-6 : tie.Need-word-requires-6
-word-requires-6 c κs = search needs
-
-word-requires-7 : tie.Need-word-requires-7
-word-requires-7 c κs = search needs
-
-word-requires-8 : tie.Need-word-requires-8
-word-requires-8 c κs = search needs
-
-word-requires-9 : tie.Need-word-requires-9
-word-requires-9 c κs = search needs
-
 returns : tie.Need-returns
 returns c =
+    let word = c .before .before .before .before .before .before .before .before .word in
+    let word2 = c .before .before .before .before .before .before .before .word2 in
+    let word3 = c .before .before .before .before .before .before .word3 in
+    let word4 = c .before .before .before .before .before .word4 in
     rw (
       c .word9 .ensures,
       c .before .word8 .ensures,
       c .before .before .word7 .ensures,
       c .before .before .before .word6 .ensures,
       c .before .before .before .before .word5 .ensures,
-      c .before .before .before .before .before .word4 .ensures,
-      c .before .before .before .before .before .before .word3 .ensures,
-      c .before .before .before .before .before .before .before .word2 .ensures,
-      c .before .before .before .before .before .before .before .before .word .ensures,
+      word4 .ensures,
+      word3 .ensures,
+      word2 .ensures,
+      word .ensures,
     )
 
 pub read-match-spec : {M : Type 1} → statement M
 read-match-spec =
     tie.close
-    (tie.spec
-    word-requires
-    word-requires-2
-    word-requires-3
-    word-requires-4
-    word-requires-5
-    word-requires-6
-    word-requires-7
-    word-requires-8
-    word-requires-9
-    returns)
+    (tie.spec (search needs) (search needs) (search needs) (search needs) (search needs) (search needs) (search needs)
+    (search needs) (search needs) returns)

@@ -17,7 +17,9 @@ same-length : tie.Need-same-length
 same-length c = search needs
 
 returns : tie.Need-returns
-returns c = rw (c .before .before .copy .ensures, c .before .before .before .before .before .words-of-match .ensures)
+returns c =
+    let words-of-match = c .before .before .before .before .before .words-of-match in
+    rw (c .before .before .copy .ensures, words-of-match .ensures)
 
 pub write-match-spec : {M : Type 1} → statement M
 write-match-spec =

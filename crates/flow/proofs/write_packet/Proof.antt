@@ -17,7 +17,9 @@ same-length : tie.Need-same-length
 same-length c = search needs
 
 returns : tie.Need-returns
-returns c = rw (c .before .before .copy .ensures, c .before .before .before .before .before .words-of-packet .ensures)
+returns c =
+    let words-of-packet = c .before .before .before .before .before .words-of-packet in
+    rw (c .before .before .copy .ensures, words-of-packet .ensures)
 
 pub write-packet-spec : {M : Type 1} → statement M
 write-packet-spec =

@@ -19,37 +19,18 @@ use Rattle.line.proofs.put_line.Tie as tie
 line-put : (ws : List ℕ) (p : ℕ) {l l₁ l₂ l₃ : List ℕ} {a b c d : ℕ} (m : Match) (x : Action) → m ≡ matchOf ws → x ≡ rowAction ws
     → Puts (number p (code " ")) l a l₁ b → Puts (matchText m) l₁ b l₂ c → Puts (actionText x) l₂ c l₃ d → Puts (line p (rowOf ws)) l a l₃ d
 unfolding line
-line-put ws k {l₁ = l₁} {l₂} {l₃} {b = b} {c} {d} m x e f p q r = p then subst (λ y. Puts (matchText y) l₁ b l₂ c) e q then subst (λ y. Puts (actionText y) l₂ c l₃ d) f r
-
-put-number-requires : tie.Need-put-number-requires
-put-number-requires c κs = search needs
-
-read-match-requires : tie.Need-read-match-requires
-read-match-requires c κs = search needs
-
-put-match-requires : tie.Need-put-match-requires
-put-match-requires c κs = search needs
-
-row-action-requires : tie.Need-row-action-requires
-row-action-requires c κs = search needs
-
-put-action-requires : tie.Need-put-action-requires
-put-action-requires c κs = search needs
-
-same-length : tie.Need-same-length
-same-length c = search needs
+line-put ws k {l₁ =
+    l₁} {l₂} {l₃} {b = b} {c} {d} m x e f p q r = p then subst (λ y. Puts (matchText y) l₁ b l₂ c) e q then subst (λ y. Puts (actionText y) l₂ c l₃ d) f r
 
 returns : tie.Need-returns
-returns c = line-put _ _ _ _ (c .before .before .before .before .before .before .before .before .read-match .ensures) (c .before .before .before .row-action .ensures) (c .before .before .before .before .before .before .before .before .before .before .before .before .put-number .ensures) (c .before .before .before .before .before .before .before .put-match .ensures) (c .before .before .put-action .ensures)
+returns c =
+    let put-number = c .before .before .before .before .before .before .before .before .before .before .before .before .put-number in
+    let read-match = c .before .before .before .before .before .before .before .before .read-match in
+    let put-match = c .before .before .before .before .before .before .before .put-match in
+    line-put _ _ _ _ (read-match .ensures) (c .before .before .before .row-action .ensures) (put-number .ensures) (put-match .ensures)
+    (c .before .before .put-action .ensures)
 
 pub put-line-spec : {M : Type 1} → statement M
 put-line-spec =
     tie.close
-    (tie.spec
-    put-number-requires
-    read-match-requires
-    put-match-requires
-    row-action-requires
-    put-action-requires
-    same-length
-    returns)
+    (tie.spec (search needs) (search needs) (search needs) (search needs) (search needs) (search needs) returns)

@@ -23,23 +23,11 @@ loop-holds c =
     let g = c .args in
     (omega arith, seek-start (atLevel (now (g .levels)) (g .l)) (length (now (g .levels))))
 
-mul-if1 : tie.Need-mul-if1 Inv-loop μ-loop
-mul-if1 c = search needs
-
-shared-slice-read-if1 : tie.Need-shared-slice-read-if1 Inv-loop μ-loop
-shared-slice-read-if1 c = search needs
-
 returns : tie.Need-returns Inv-loop μ-loop
 returns c =
     let l = c .before .before .before .loop in
     let g = c .before .before .before .before .args in
     seek-hit (atLevel (now (g .levels)) (g .l)) _ (l .at) _ (l .inv .1) (c .before .before .loop-test .taken) (eq-eqb _ _ (c .if1 .taken))
-
-add-at : tie.Need-add-at Inv-loop μ-loop
-add-at c = search needs
-
-loop-less : tie.Need-loop-less Inv-loop μ-loop
-loop-less c = search needs
 
 loop-again : tie.Need-loop-again Inv-loop μ-loop
 loop-again c =
@@ -56,14 +44,5 @@ returns-2 c =
 pub first-of-level-spec : {M : Type 1} → statement M
 first-of-level-spec =
     tie.close
-    (tie.spec
-    Inv-loop
-    μ-loop
-    loop-holds
-    mul-if1
-    shared-slice-read-if1
-    returns
-    add-at
-    loop-less
-    loop-again
+    (tie.spec Inv-loop μ-loop loop-holds (search needs) (search needs) returns (search needs) (search needs) loop-again
     returns-2)

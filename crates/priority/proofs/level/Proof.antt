@@ -17,58 +17,42 @@ Inv-loop table levels i count m best₀ j₀ best j = (j ≤ i) × (max best (ab
 abbrev μ-loop : tie.MeasureT-loop
 μ-loop table levels i count m best₀ j₀ best j = j
 
-row-match-requires : tie.Need-row-match-requires Inv-loop μ-loop
-row-match-requires c κs = search needs
-
 loop-holds : tie.Need-loop-holds Inv-loop μ-loop
 loop-holds c = (omega arith, omega arith)
 
 returns : tie.Need-returns Inv-loop μ-loop
 returns c =
+    let start = c .before .before .before .before .before .before in
     let l = c .before .before .loop in
     let g = c .before .before .before .before .before .before .args in
-    level-most (now (g .table)) (now (g .levels)) (g .i) _ _ (c .before .before .before .before .before .before .pre .3) (back-stop (now (g .table)) (now (g .levels)) (g .i) (l .j) _ _ (l .inv .1) _ (l .inv .0) (c .if1 .taken) (c .before .before .before .before .before .before .pre .3))
-
-sub-j : tie.Need-sub-j Inv-loop μ-loop
-sub-j c = search needs
-
-mul-raised : tie.Need-mul-raised Inv-loop μ-loop
-mul-raised c = search needs
-
-shared-slice-read-raised : tie.Need-shared-slice-read-raised Inv-loop μ-loop
-shared-slice-read-raised c = search needs
+    level-most (now (g .table)) (now (g .levels)) (g .i) _ _ (start .pre .3)
+    (back-stop (now (g .table)) (now (g .levels)) (g .i) (l .j) _ _ (l .inv .1) _ (l .inv .0) (c .if1 .taken) (start .pre .3))
 
 raised-requires : tie.Need-raised-requires Inv-loop μ-loop
-raised-requires c κs = (omega arith, omega (arith, c .before .before .before .before .before .before .before .pre .3 (c .before .before .before .loop .j - 1) (omega arith)))
-
-loop-less : tie.Need-loop-less Inv-loop μ-loop
-loop-less c = search needs
+raised-requires c κs =
+    let start = c .before .before .before .before .before .before .before in
+    (omega arith, omega (arith, start .pre .3 (c .before .before .before .loop .j - 1) (omega arith)))
 
 loop-again : tie.Need-loop-again Inv-loop μ-loop
 loop-again c =
+    let row-match = c .before .before .before .before .before .row-match in
     let l = c .before .before .before .before .loop in
-    let g = c .before .before .before .before .before .before .before .before .args in
-    (omega arith, back-turn (now (g .table)) (now (g .levels)) (g .i) (l .j) (l .best) _ (l .inv .1) (c .before .before .before .loop-test .taken) _ (c .before .before .before .before .before .row-match .ensures) _ (c .raised .ensures))
+    let g = c .before .before .before .before .before .before .before .before .args in (
+      omega arith,
+      back-turn (now (g .table)) (now (g .levels)) (g .i) (l .j) (l .best) _ (l .inv .1) (c .before .before .before .loop-test .taken) _
+          (row-match .ensures) _ (c .raised .ensures),
+    )
 
 returns-2 : tie.Need-returns-2 Inv-loop μ-loop
 returns-2 c =
+    let start = c .before .before .before .before .before in
     let l = c .before .loop in
     let g = c .before .before .before .before .before .args in
-    level-most (now (g .table)) (now (g .levels)) (g .i) _ _ (c .before .before .before .before .before .pre .3) (back-end (now (g .table)) (now (g .levels)) (g .i) (l .j) _ _ (l .inv .1) (c .loop-test .left))
+    level-most (now (g .table)) (now (g .levels)) (g .i) _ _ (start .pre .3)
+    (back-end (now (g .table)) (now (g .levels)) (g .i) (l .j) _ _ (l .inv .1) (c .loop-test .left))
 
 pub level-spec : {M : Type 1} → statement M
 level-spec =
     tie.close
-    (tie.spec
-    Inv-loop
-    μ-loop
-    row-match-requires
-    loop-holds
-    returns
-    sub-j
-    mul-raised
-    shared-slice-read-raised
-    raised-requires
-    loop-less
-    loop-again
-    returns-2)
+    (tie.spec Inv-loop μ-loop (search needs) loop-holds returns (search needs) (search needs) (search needs)
+    raised-requires (search needs) loop-again returns-2)

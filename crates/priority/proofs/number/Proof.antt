@@ -6,23 +6,11 @@ use Rattle.priority.proofs.Whole.{wrong-table, right-table}
 use Rattle.priority.proofs.number.Statement.{statement}
 use Rattle.priority.proofs.number.Tie as tie
 
-check-requires : tie.Need-check-requires
-check-requires c κs = search needs
-
-enum-known-rows : tie.Need-enum-known-rows
-enum-known-rows c = search needs
-
 number-right-requires : tie.Need-number-right-requires
-number-right-requires c κs = right-table (now (c .before .before .before .before .before .before .before .before .before .args .table)) _ (c .before .before .before .before .before .check .ensures) _ (c .before .before .before .rows .given .1)
-
-enum-known-number : tie.Need-enum-known-number
-enum-known-number c = search needs
-
-same-length : tie.Need-same-length
-same-length c = search needs
-
-same-length-2 : tie.Need-same-length-2
-same-length-2 c = search needs
+number-right-requires c κs =
+    let start = c .before .before .before .before .before .before .before .before .before in
+    let check = c .before .before .before .before .before .check in
+    right-table (now (start .args .table)) _ (check .ensures) _ (c .before .before .before .rows .given .1)
 
 returns : tie.Need-returns
 returns c = c .before .before .before .before .number-right .ensures
@@ -35,12 +23,5 @@ returns-2 c =
 pub number-spec : {M : Type 1} → statement M
 number-spec =
     tie.close
-    (tie.spec
-    check-requires
-    enum-known-rows
-    number-right-requires
-    enum-known-number
-    same-length
-    same-length-2
-    returns
+    (tie.spec (search needs) (search needs) number-right-requires (search needs) (search needs) (search needs) returns
     returns-2)

@@ -16,7 +16,13 @@ overlap-requires : tie.Need-overlap-requires
 overlap-requires c κs = search needs
 
 returns-2 : tie.Need-returns-2
-returns-2 c = rw (c .overlap .ensures, c .before .row-match .ensures, not-false (c .before .before .before .before .args .passes) (c .before .before .if1 .left), and-true)
+returns-2 c =
+    rw (
+      c .overlap .ensures,
+      c .before .row-match .ensures,
+      not-false (c .before .before .before .before .args .passes) (c .before .before .if1 .left),
+      and-true,
+    )
 
 pub overlaps-at-spec : {M : Type 1} → statement M
 overlaps-at-spec = tie.close (tie.spec returns row-match-requires overlap-requires returns-2)

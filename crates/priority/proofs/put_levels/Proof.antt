@@ -21,29 +21,13 @@ loop-holds c = levelling-start (now (c .before .before .args .table)) (now (c .b
 level-requires : tie.Need-level-requires Inv-loop μ-loop
 level-requires c κs = (omega arith, omega arith, omega arith, levelling-below (c .before .before .loop .inv))
 
-mul-levels : tie.Need-mul-levels Inv-loop μ-loop
-mul-levels c = search needs
-
-slice-write-levels : tie.Need-slice-write-levels Inv-loop μ-loop
-slice-write-levels c = search needs
-
-add-larger : tie.Need-add-larger Inv-loop μ-loop
-add-larger c = search needs
-
-larger-requires : tie.Need-larger-requires Inv-loop μ-loop
-larger-requires c κs = search needs
-
-add-i : tie.Need-add-i Inv-loop μ-loop
-add-i c = search needs
-
 loop-less : tie.Need-loop-less Inv-loop μ-loop
 loop-less c = simp length-set (omega arith)
 
 loop-again : tie.Need-loop-again Inv-loop μ-loop
-loop-again c = levelling-turn (c .before .before .before .before .loop .inv) (c .before .before .before .loop-test .taken) _ (c .before .level .ensures .0) _ (c .larger .ensures)
-
-same-length : tie.Need-same-length Inv-loop μ-loop
-same-length c = search needs
+loop-again c =
+    levelling-turn (c .before .before .before .before .loop .inv) (c .before .before .before .loop-test .taken) _ (c .before .level .ensures .0) _
+    (c .larger .ensures)
 
 returns : tie.Need-returns Inv-loop μ-loop
 returns c = levelling-end (c .before .loop .inv) (c .before .before .before .before .pre .0) (c .loop-test .left)
@@ -51,17 +35,5 @@ returns c = levelling-end (c .before .loop .inv) (c .before .before .before .bef
 pub put-levels-spec : {M : Type 1} → statement M
 put-levels-spec =
     tie.close
-    (tie.spec
-    Inv-loop
-    μ-loop
-    loop-holds
-    level-requires
-    mul-levels
-    slice-write-levels
-    add-larger
-    larger-requires
-    add-i
-    loop-less
-    loop-again
-    same-length
-    returns)
+    (tie.spec Inv-loop μ-loop loop-holds level-requires (search needs) (search needs) (search needs) (search needs)
+    (search needs) loop-less loop-again (search needs) returns)

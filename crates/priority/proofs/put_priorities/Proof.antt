@@ -12,7 +12,8 @@ use Rattle.priority.proofs.put_priorities.Statement.{statement}
 use Rattle.priority.proofs.put_priorities.Tie as tie
 
 abbrev Inv-loop : tie.InvT-loop
-Inv-loop priorities₀ count i₀ priorities i = (i ≤ length priorities) × (length priorities ≡ length priorities₀) × (priorities ≡ map (λ l. count - l) (take i priorities₀) ++ drop i priorities₀)
+Inv-loop priorities₀ count i₀ priorities i =
+    (i ≤ length priorities) × (length priorities ≡ length priorities₀) × (priorities ≡ map (λ l. count - l) (take i priorities₀) ++ drop i priorities₀)
 
 abbrev μ-loop : tie.MeasureT-loop
 μ-loop priorities₀ count i₀ priorities i = length priorities - i
@@ -20,35 +21,27 @@ abbrev μ-loop : tie.MeasureT-loop
 loop-holds : tie.Need-loop-holds Inv-loop μ-loop
 loop-holds c = (omega arith, refl, refl)
 
-mul-l : tie.Need-mul-l Inv-loop μ-loop
-mul-l c = search needs
-
-slice-read-l : tie.Need-slice-read-l Inv-loop μ-loop
-slice-read-l c = search needs
-
 sub-t8 : tie.Need-sub-t8 Inv-loop μ-loop
 sub-t8 c =
+    let start = c .before .before .before .before .before in
     let l = c .before .before .before .loop in
     let g = c .before .before .before .before .before .args in
-    omega (arith, word-next (λ x. g .count - x) (now (g .priorities)) (l .priorities) (l .i) (l .inv .2) (l .inv .1) (c .before .before .loop-test .taken), c .before .before .before .before .before .pre (l .i) (omega arith))
-
-put-priority-requires : tie.Need-put-priority-requires Inv-loop μ-loop
-put-priority-requires c κs = search needs
-
-add-i : tie.Need-add-i Inv-loop μ-loop
-add-i c = search needs
-
-loop-less : tie.Need-loop-less Inv-loop μ-loop
-loop-less c = search needs
+    omega (
+      arith,
+      word-next (λ x. g .count - x) (now (g .priorities)) (l .priorities) (l .i) (l .inv .2) (l .inv .1) (c .before .before .loop-test .taken),
+      start .pre (l .i) (omega arith),
+    )
 
 loop-again : tie.Need-loop-again Inv-loop μ-loop
 loop-again c =
+    let loop-test = c .before .before .before .before .before .loop-test in
     let l = c .before .before .before .before .before .before .loop in
-    let g = c .before .before .before .before .before .before .before .before .args in
-    (omega (arith, c .before .before .put-priority .kept .0), c .before .before .put-priority .kept .0 ∙ l .inv .1, word-turn (λ x. g .count - x) (now (g .priorities)) (l .priorities) (l .i) (l .inv .2) (l .inv .1) (c .before .before .before .before .before .loop-test .taken) _ _ refl (c .before .before .put-priority .ensures))
-
-same-length : tie.Need-same-length Inv-loop μ-loop
-same-length c = search needs
+    let g = c .before .before .before .before .before .before .before .before .args in (
+      omega (arith, c .before .before .put-priority .kept .0),
+      c .before .before .put-priority .kept .0 ∙ l .inv .1,
+      word-turn (λ x. g .count - x)
+          (now (g .priorities)) (l .priorities) (l .i) (l .inv .2) (l .inv .1) (loop-test .taken) _ _ refl (c .before .before .put-priority .ensures),
+    )
 
 returns : tie.Need-returns Inv-loop μ-loop
 returns c =
@@ -59,16 +52,5 @@ returns c =
 pub put-priorities-spec : {M : Type 1} → statement M
 put-priorities-spec =
     tie.close
-    (tie.spec
-    Inv-loop
-    μ-loop
-    loop-holds
-    mul-l
-    slice-read-l
-    sub-t8
-    put-priority-requires
-    add-i
-    loop-less
-    loop-again
-    same-length
-    returns)
+    (tie.spec Inv-loop μ-loop loop-holds (search needs) (search needs) sub-t8 (search needs) (search needs)
+    (search needs) loop-again (search needs) returns)

@@ -26,7 +26,8 @@ add-result c = search needs
 returns-2 : tie.Need-returns-2
 returns-2 c =
     let g = c .before .before .before .before .before .args in
-    rw (← c .before .before .row-match .ensures, ← c .before .overlap .ensures) (raised-over (g .best) (g .level) _ (c .before .before .before .if1 .left) (c .if2 .taken))
+    rw (← c .before .before .row-match .ensures, ← c .before .overlap .ensures)
+    (raised-over (g .best) (g .level) _ (c .before .before .before .if1 .left) (c .if2 .taken))
 
 returns-3 : tie.Need-returns-3
 returns-3 c =

@@ -17,40 +17,29 @@ Inv-loop table levels l end m i₀ i = (i ≤ end) × (seek (overlapsAt (over ta
 abbrev μ-loop : tie.MeasureT-loop
 μ-loop table levels l end m i₀ i = end - i
 
-row-match-requires : tie.Need-row-match-requires Inv-loop μ-loop
-row-match-requires c κs = search needs
-
 loop-holds : tie.Need-loop-holds Inv-loop μ-loop
 loop-holds c =
     let g = c .before .before .before .args in
     (omega arith, seek-start (overlapsAt (over (now (g .table))) (now (g .levels)) (g .at .0) (g .l)) (g .at .0))
 
-mul-overlaps-at : tie.Need-mul-overlaps-at Inv-loop μ-loop
-mul-overlaps-at c = search needs
-
-shared-slice-read-overlaps-at : tie.Need-shared-slice-read-overlaps-at Inv-loop μ-loop
-shared-slice-read-overlaps-at c = search needs
-
-overlaps-at-requires : tie.Need-overlaps-at-requires Inv-loop μ-loop
-overlaps-at-requires c κs = search needs
-
 returns : tie.Need-returns Inv-loop μ-loop
 returns c =
+    let row-match = c .before .before .before .before .before .row-match in
     let l = c .before .before .before .before .loop in
     let g = c .before .before .before .before .before .before .before .before .args in
-    seek-hit (overlapsAt (over (now (g .table))) (now (g .levels)) (g .at .0) (g .l)) _ (l .i) _ (l .inv .1) (c .before .before .before .loop-test .taken) (step-test (now (g .table)) (now (g .levels)) (g .at .0) (g .l) (l .i) _ (c .before .before .before .before .before .row-match .ensures) _ (c .before .overlaps-at .ensures) ∙ c .if1 .taken)
-
-add-i : tie.Need-add-i Inv-loop μ-loop
-add-i c = search needs
-
-loop-less : tie.Need-loop-less Inv-loop μ-loop
-loop-less c = search needs
+    seek-hit (overlapsAt (over (now (g .table))) (now (g .levels)) (g .at .0) (g .l)) _ (l .i) _ (l .inv .1) (c .before .before .before .loop-test .taken)
+    (step-test (now (g .table)) (now (g .levels)) (g .at .0) (g .l) (l .i) _ (row-match .ensures) _ (c .before .overlaps-at .ensures) ∙ c .if1 .taken)
 
 loop-again : tie.Need-loop-again Inv-loop μ-loop
 loop-again c =
+    let row-match = c .before .before .before .before .before .row-match in
     let l = c .before .before .before .before .loop in
-    let g = c .before .before .before .before .before .before .before .before .args in
-    (omega arith, seek-miss (overlapsAt (over (now (g .table))) (now (g .levels)) (g .at .0) (g .l)) _ (l .i) _ (l .inv .1) (c .before .before .before .loop-test .taken) (step-test (now (g .table)) (now (g .levels)) (g .at .0) (g .l) (l .i) _ (c .before .before .before .before .before .row-match .ensures) _ (c .before .overlaps-at .ensures) ∙ c .if1 .left))
+    let g = c .before .before .before .before .before .before .before .before .args in (
+      omega arith,
+      seek-miss (overlapsAt (over (now (g .table))) (now (g .levels)) (g .at .0) (g .l)) _ (l .i) _ (l .inv .1)
+          (c .before .before .before .loop-test .taken)
+          (step-test (now (g .table)) (now (g .levels)) (g .at .0) (g .l) (l .i) _ (row-match .ensures) _ (c .before .overlaps-at .ensures) ∙ c .if1 .left),
+    )
 
 returns-2 : tie.Need-returns-2 Inv-loop μ-loop
 returns-2 c =
@@ -61,16 +50,5 @@ returns-2 c =
 pub step-back-spec : {M : Type 1} → statement M
 step-back-spec =
     tie.close
-    (tie.spec
-    Inv-loop
-    μ-loop
-    row-match-requires
-    loop-holds
-    mul-overlaps-at
-    shared-slice-read-overlaps-at
-    overlaps-at-requires
-    returns
-    add-i
-    loop-less
-    loop-again
-    returns-2)
+    (tie.spec Inv-loop μ-loop (search needs) loop-holds (search needs) (search needs) (search needs) returns
+    (search needs) (search needs) loop-again returns-2)

@@ -22,7 +22,9 @@ same-length c = search needs
 
 returns : tie.Need-returns
 returns c =
-    c .before .before .copy .ensures ∙ rw (c .before .before .before .before .before .rate .ensures, c .before .before .before .before .before .before .kind .ensures .0)
+    let kind = c .before .before .before .before .before .before .kind in
+    let rate = c .before .before .before .before .before .rate in
+    c .before .before .copy .ensures ∙ rw (rate .ensures, kind .ensures .0)
 
 pub put-action-spec : {M : Type 1} → statement M
 put-action-spec =

@@ -20,7 +20,8 @@ same-length-2 c = search needs
 
 returns : tie.Need-returns
 returns c =
-    let done = c .before .before .before .before .before .compile .ensures in
+    let compile = c .before .before .before .before .before .compile in
+    let done = compile .ensures in
     (c .row-count .ensures ∙ ap compiledRows (done .answer), done .table, done .scratch)
 
 pub speed-compile-spec : {M : Type 1} → statement M

@@ -20,7 +20,8 @@ same-length-2 c = search needs
 
 returns : tie.Need-returns
 returns c =
-    let done = c .before .before .before .before .before .number .ensures in
+    let number = c .before .before .before .before .before .number in
+    let done = number .ensures in
     (c .priority-count .ensures ∙ ap answerCount (done .0), done .1, done .2)
 
 pub speed-number-spec : {M : Type 1} → statement M

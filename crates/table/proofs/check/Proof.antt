@@ -18,7 +18,8 @@ check-rows-requires c κs = search needs
 
 returns-2 : tie.Need-returns-2
 unfolding checkOf
-returns-2 c = rw (← c .before .before .right-length .ensures, not-false (c .before .before .right-length .result) (c .before .if1 .left)) (c .check-rows .ensures)
+returns-2 c =
+    rw (← c .before .before .right-length .ensures, not-false (c .before .before .right-length .result) (c .before .if1 .left)) (c .check-rows .ensures)
 
 pub check-spec : {M : Type 1} → statement M
 check-spec = tie.close (tie.spec right-length-requires returns check-rows-requires returns-2)

@@ -21,39 +21,21 @@ abbrev μ-loop : tie.MeasureT-loop
 loop-holds : tie.Need-loop-holds Inv-loop μ-loop
 loop-holds c = (omega arith, check-start (now (c .before .args .table)))
 
-add-end : tie.Need-add-end Inv-loop μ-loop
-add-end c = search needs
-
-mul-right-row : tie.Need-mul-right-row Inv-loop μ-loop
-mul-right-row c = search needs
-
-sub-right-row : tie.Need-sub-right-row Inv-loop μ-loop
-sub-right-row c = search needs
-
-part-right-row-start : tie.Need-part-right-row-start Inv-loop μ-loop
-part-right-row-start c = search needs
-
-part-right-row-end : tie.Need-part-right-row-end Inv-loop μ-loop
-part-right-row-end c = search needs
-
-right-row-requires : tie.Need-right-row-requires Inv-loop μ-loop
-right-row-requires c κs = search needs
-
 returns : tie.Need-returns Inv-loop μ-loop
 returns c =
+    let start = c .before .before .before .before .before .before in
     let l = c .before .before .before .before .loop in
-    wrong-found (now (c .before .before .before .before .before .before .args .table)) _ _ (l .from) _ (l .inv .1) (c .before .before .before .loop-test .taken) _ (c .before .right-row .ensures) (c .if1 .taken)
-
-add-i : tie.Need-add-i Inv-loop μ-loop
-add-i c = search needs
-
-loop-less : tie.Need-loop-less Inv-loop μ-loop
-loop-less c = search needs
+    wrong-found (now (start .args .table)) _ _ (l .from) _ (l .inv .1) (c .before .before .before .loop-test .taken) _ (c .before .right-row .ensures)
+    (c .if1 .taken)
 
 loop-again : tie.Need-loop-again Inv-loop μ-loop
 loop-again c =
-    let l = c .before .before .before .before .loop in
-    (omega arith, wrong-later (now (c .before .before .before .before .before .before .args .table)) _ _ (l .from) _ (l .inv .1) (c .before .before .before .loop-test .taken) _ (c .before .right-row .ensures) (c .if1 .left))
+    let start = c .before .before .before .before .before .before in
+    let l = c .before .before .before .before .loop in (
+      omega arith,
+      wrong-later (now (start .args .table)) _ _ (l .from) _ (l .inv .1) (c .before .before .before .loop-test .taken) _
+          (c .before .right-row .ensures) (c .if1 .left),
+    )
 
 returns-2 : tie.Need-returns-2 Inv-loop μ-loop
 returns-2 c =
@@ -63,18 +45,5 @@ returns-2 c =
 pub check-rows-spec : {M : Type 1} → statement M
 check-rows-spec =
     tie.close
-    (tie.spec
-    Inv-loop
-    μ-loop
-    loop-holds
-    add-end
-    mul-right-row
-    sub-right-row
-    part-right-row-start
-    part-right-row-end
-    right-row-requires
-    returns
-    add-i
-    loop-less
-    loop-again
-    returns-2)
+    (tie.spec Inv-loop μ-loop loop-holds (search needs) (search needs) (search needs) (search needs) (search needs)
+    (search needs) returns (search needs) (search needs) loop-again returns-2)

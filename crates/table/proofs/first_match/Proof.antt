@@ -15,7 +15,8 @@ use Rattle.table.proofs.first_match.Statement.{statement}
 use Rattle.table.proofs.first_match.Tie as tie
 
 abbrev Inv-loop : tie.InvT-loop
-Inv-loop table p rows at₀ tried₀ at tried = ((at + rowLength * (rows - tried) ≤ length table) × (tried ≤ rows)) × (found tried (map rowOf (left table rows tried at)) p ≡ found 0 (rowsIn table) p)
+Inv-loop table p rows at₀ tried₀ at tried =
+    ((at + rowLength * (rows - tried) ≤ length table) × (tried ≤ rows)) × (found tried (map rowOf (left table rows tried at)) p ≡ found 0 (rowsIn table) p)
 
 abbrev μ-loop : tie.MeasureT-loop
 μ-loop table p rows at₀ tried₀ at tried = rows - tried
@@ -23,50 +24,22 @@ abbrev μ-loop : tie.MeasureT-loop
 loop-holds : tie.Need-loop-holds Inv-loop μ-loop
 loop-holds c = (omega arith, scan-start (now (c .before .args .table)) (c .before .args .p))
 
-add-end : tie.Need-add-end Inv-loop μ-loop
-add-end c = search needs
-
-mul-row : tie.Need-mul-row Inv-loop μ-loop
-mul-row c = search needs
-
-sub-row : tie.Need-sub-row Inv-loop μ-loop
-sub-row c = search needs
-
-part-row-start : tie.Need-part-row-start Inv-loop μ-loop
-part-row-start c = search needs
-
-part-row-end : tie.Need-part-row-end Inv-loop μ-loop
-part-row-end c = search needs
-
-read-match-requires : tie.Need-read-match-requires Inv-loop μ-loop
-read-match-requires c κs = search needs
-
-meets-requires : tie.Need-meets-requires Inv-loop μ-loop
-meets-requires c κs = search needs
-
-row-action-requires : tie.Need-row-action-requires Inv-loop μ-loop
-row-action-requires c κs = search needs
-
-add-t17 : tie.Need-add-t17 Inv-loop μ-loop
-add-t17 c = search needs
-
 returns : tie.Need-returns Inv-loop μ-loop
 returns c =
+    let loop-test = c .before .before .before .before .before .loop-test in
     let l = c .before .before .before .before .before .before .loop in
     let g = c .before .before .before .before .before .before .before .before .args in
-    match-found (now (g .table)) (g .p) _ _ (l .at) _ (l .inv .1) (c .before .before .before .before .before .loop-test .taken) _ (c .before .before .before .read-match .ensures) _ (c .before .before .meets .ensures) _ (c .row-action .ensures) (c .before .if1 .taken)
-
-add-tried : tie.Need-add-tried Inv-loop μ-loop
-add-tried c = search needs
-
-loop-less : tie.Need-loop-less Inv-loop μ-loop
-loop-less c = search needs
+    match-found (now (g .table)) (g .p) _ _ (l .at) _ (l .inv .1) (loop-test .taken) _ (c .before .before .before .read-match .ensures) _
+    (c .before .before .meets .ensures) _ (c .row-action .ensures) (c .before .if1 .taken)
 
 loop-again : tie.Need-loop-again Inv-loop μ-loop
 loop-again c =
     let l = c .before .before .before .before .before .loop in
-    let g = c .before .before .before .before .before .before .before .args in
-    (omega arith, match-later (now (g .table)) (g .p) _ _ (l .at) _ (l .inv .1) (c .before .before .before .before .loop-test .taken) _ (c .before .before .read-match .ensures) _ (c .before .meets .ensures) (c .if1 .left))
+    let g = c .before .before .before .before .before .before .before .args in (
+      omega arith,
+      match-later (now (g .table)) (g .p) _ _ (l .at) _ (l .inv .1) (c .before .before .before .before .loop-test .taken) _
+          (c .before .before .read-match .ensures) _ (c .before .meets .ensures) (c .if1 .left),
+    )
 
 returns-2 : tie.Need-returns-2 Inv-loop μ-loop
 returns-2 c =
@@ -77,21 +50,6 @@ returns-2 c =
 pub first-match-spec : {M : Type 1} → statement M
 first-match-spec =
     tie.close
-    (tie.spec
-    Inv-loop
-    μ-loop
-    loop-holds
-    add-end
-    mul-row
-    sub-row
-    part-row-start
-    part-row-end
-    read-match-requires
-    meets-requires
-    row-action-requires
-    add-t17
-    returns
-    add-tried
-    loop-less
-    loop-again
+    (tie.spec Inv-loop μ-loop loop-holds (search needs) (search needs) (search needs) (search needs) (search needs)
+    (search needs) (search needs) (search needs) (search needs) returns (search needs) (search needs) loop-again
     returns-2)

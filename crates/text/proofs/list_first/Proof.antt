@@ -12,21 +12,6 @@ use Rattle.text.proofs.list_first.Tie as tie
 slice-aggregate-list : tie.Need-slice-aggregate-list
 slice-aggregate-list c = sym (length-take-le _ _ (omega arith))
 
-list-requires : tie.Need-list-requires
-list-requires c κs = search needs
-
-same-length : tie.Need-same-length
-same-length c = search needs
-
-returns : tie.Need-returns
-returns c = search needs
-
-list-requires-2 : tie.Need-list-requires-2
-list-requires-2 c κs = search needs
-
-same-length-2 : tie.Need-same-length-2
-same-length-2 c = search needs
-
 returns-2 : tie.Need-returns-2
 returns-2 c =
     let a = c .before .before .before .before .before .before .before .args in
@@ -36,11 +21,5 @@ returns-2 c =
 pub list-first-spec : {M : Type 1} → statement M
 list-first-spec =
     tie.close
-    (tie.spec
-    slice-aggregate-list
-    list-requires
-    same-length
-    returns
-    list-requires-2
-    same-length-2
+    (tie.spec slice-aggregate-list (search needs) (search needs) (λ c. search needs) (search needs) (search needs)
     returns-2)

@@ -16,63 +16,50 @@ use Rattle.text.proofs.list_table.Tie as tie
 abbrev none : List ℕ
 none = replicate room 0
 
-slice-aggregate-number : tie.Need-slice-aggregate-number
-slice-aggregate-number c = search needs
-
-slice-aggregate-number-2 : tie.Need-slice-aggregate-number-2
-slice-aggregate-number-2 c = search needs
-
-number-requires : tie.Need-number-requires
-number-requires c κs = search needs
-
-enum-known-count : tie.Need-enum-known-count
-enum-known-count c = search needs
-
-put-head-requires : tie.Need-put-head-requires
-put-head-requires c κs = search needs
-
 array-share-prefix-priorities : tie.Need-array-share-prefix-priorities
-array-share-prefix-priorities c = table-within (now (c .before .before .before .before .before .before .before .before .before .before .before .before .before .before .before .args .table)) none none (c .before .before .before .before .before .before .before .before .before .before .number .ensures) (c .before .before .before .before .before .before .count .given .1)
+array-share-prefix-priorities c =
+    let midway = c .before .before .before .before .before .before .before .before .before .before in
+    let start = midway .before .before .before .before .before in
+    let number = c .before .before .before .before .before .before .before .before .before .before .number in
+    let count = c .before .before .before .before .before .before .count in
+    table-within (now (start .args .table)) none none (number .ensures) (count .given .1)
 
 slice-aggregate-put-lines : tie.Need-slice-aggregate-put-lines
-slice-aggregate-put-lines c = sym (length-take-le _ _ (table-within (now (c .before .before .before .before .before .before .before .before .before .before .before .before .before .before .before .before .args .table)) none none (c .before .before .before .before .before .before .before .before .before .before .before .number .ensures) (c .before .before .before .before .before .before .before .count .given .1)))
+slice-aggregate-put-lines c =
+    let midway = c .before .before .before .before .before .before .before .before .before .before in
+    let start = midway .before .before .before .before .before .before in
+    let number = c .before .before .before .before .before .before .before .before .before .before .before .number in
+    let count = c .before .before .before .before .before .before .before .count in
+    sym (length-take-le _ _ (table-within (now (start .args .table)) none none (number .ensures) (count .given .1)))
 
 put-lines-requires : tie.Need-put-lines-requires
-put-lines-requires c κs = length-take-le _ _ (table-within (now (c .before .before .before .before .before .before .before .before .before .before .before .before .before .before .before .before .args .table)) none none (c .before .before .before .before .before .before .before .before .before .before .before .number .ensures) (c .before .before .before .before .before .before .before .count .given .1))
-
-enum-known-number : tie.Need-enum-known-number
-enum-known-number c = search needs
-
-put-refusal-requires : tie.Need-put-refusal-requires
-put-refusal-requires c κs = search needs
-
-same-length : tie.Need-same-length
-same-length c = search needs
+put-lines-requires c κs =
+    let midway = c .before .before .before .before .before .before .before .before .before .before in
+    let start = midway .before .before .before .before .before .before in
+    let number = c .before .before .before .before .before .before .before .before .before .before .before .number in
+    let count = c .before .before .before .before .before .before .before .count in
+    length-take-le _ _ (table-within (now (start .args .table)) none none (number .ensures) (count .given .1))
 
 returns : tie.Need-returns
-returns c = table-listed (now (c .before .before .before .before .before .before .before .before .before .before .before .before .before .before .before .before .before .before .before .args .table)) none none (c .before .before .before .before .before .before .before .before .before .before .before .before .before .before .number .ensures) refl refl (c .before .before .before .before .before .before .before .before .before .before .count .given .1) (c .before .before .before .before .before .before .before .put-head .ensures) (c .before .before .put-lines .ensures)
-
-same-length-2 : tie.Need-same-length-2
-same-length-2 c = search needs
+returns c =
+    let midway = c .before .before .before .before .before .before .before .before .before .before in
+    let start = midway .before .before .before .before .before .before .before .before .before in
+    let number = midway .before .before .before .before .number in
+    let count = c .before .before .before .before .before .before .before .before .before .before .count in
+    let put-head = c .before .before .before .before .before .before .before .put-head in
+    table-listed (now (start .args .table)) none none (number .ensures) refl refl (count .given .1) (put-head .ensures) (c .before .before .put-lines .ensures)
 
 returns-2 : tie.Need-returns-2
-returns-2 c = table-refused (now (c .before .before .before .before .before .before .before .before .before .before .before .before .before .before .args .table)) none none (c .before .before .before .before .before .before .before .before .before .number .ensures) refl refl (c .before .before .before .before .before .number2 .given .1) (c .before .before .put-refusal .ensures)
+returns-2 c =
+    let midway = c .before .before .before .before .before .before .before .before .before .before in
+    let start = midway .before .before .before .before in
+    let number = c .before .before .before .before .before .before .before .before .before .number in
+    let number2 = c .before .before .before .before .before .number2 in
+    table-refused (now (start .args .table)) none none (number .ensures) refl refl (number2 .given .1) (c .before .before .put-refusal .ensures)
 
 pub list-table-spec : {M : Type 1} → statement M
 list-table-spec =
     tie.close
-    (tie.spec
-    slice-aggregate-number
-    slice-aggregate-number-2
-    number-requires
-    enum-known-count
-    put-head-requires
-    array-share-prefix-priorities
-    slice-aggregate-put-lines
-    put-lines-requires
-    enum-known-number
-    put-refusal-requires
-    same-length
-    returns
-    same-length-2
+    (tie.spec (search needs) (search needs) (search needs) (search needs) (search needs) array-share-prefix-priorities
+    slice-aggregate-put-lines put-lines-requires (search needs) (search needs) (search needs) returns (search needs)
     returns-2)

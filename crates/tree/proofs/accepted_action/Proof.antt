@@ -5,20 +5,16 @@ use Rattle.tree.proofs.Eval.{start-reached, root-gave, accepted-gives, 
 use Rattle.tree.proofs.accepted_action.Statement.{statement}
 use Rattle.tree.proofs.accepted_action.Tie as tie
 
-right-packet-words-requires : tie.Need-right-packet-words-requires
-right-packet-words-requires c κs = search needs
-
-root-requires : tie.Need-root-requires
-root-requires c κs = search needs
-
-read-packet-requires : tie.Need-read-packet-requires
-read-packet-requires c κs = search needs
-
 subtree-requires : tie.Need-subtree-requires
-subtree-requires c κs = start-reached _ _ (c .before .before .before .before .before .before .pre) _ (c .before .root .ensures)
+subtree-requires c κs =
+    let start = c .before .before .before .before .before .before in
+    start-reached _ _ (start .pre) _ (c .before .root .ensures)
 
 returns : tie.Need-returns
-returns c = accepted-gives _ _ _ _ (c .before .before .before .before .right-packet-words .ensures) (c .before .before .before .if1 .taken) (root-gave _ _ (c .before .before .before .before .before .before .before .pre) _ (c .before .before .root .ensures) _ (c .before .read-packet .ensures) (c .subtree .ensures))
+returns c =
+    let start = c .before .before .before .before .before .before .before in
+    accepted-gives _ _ _ _ (c .before .before .before .before .right-packet-words .ensures) (c .before .before .before .if1 .taken)
+    (root-gave _ _ (start .pre) _ (c .before .before .root .ensures) _ (c .before .read-packet .ensures) (c .subtree .ensures))
 
 returns-2 : tie.Need-returns-2
 returns-2 c = accepted-refuses _ _ _ _ (c .before .right-packet-words .ensures) (c .if1 .left)
@@ -26,10 +22,4 @@ returns-2 c = accepted-refuses _ _ _ _ (c .before .right-packet-words .ensures) 
 pub accepted-action-spec : {M : Type 1} → statement M
 accepted-action-spec =
     tie.close
-    (tie.spec
-    right-packet-words-requires
-    root-requires
-    read-packet-requires
-    subtree-requires
-    returns
-    returns-2)
+    (tie.spec (search needs) (search needs) (search needs) subtree-requires returns returns-2)

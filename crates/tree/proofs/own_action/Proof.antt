@@ -21,26 +21,13 @@ abbrev μ-loop : tie.MeasureT-loop
 loop-holds : tie.Need-loop-holds Inv-loop μ-loop
 loop-holds c = (omega arith, omega arith, own-start _ (c .before .before .args .atoms .now) _)
 
-mul-with-atom : tie.Need-mul-with-atom Inv-loop μ-loop
-mul-with-atom c = search needs
-
-sub-with-atom : tie.Need-sub-with-atom Inv-loop μ-loop
-sub-with-atom c = search needs
-
-part-with-atom-start : tie.Need-part-with-atom-start Inv-loop μ-loop
-part-with-atom-start c = search needs
-
-part-with-atom-end : tie.Need-part-with-atom-end Inv-loop μ-loop
-part-with-atom-end c = search needs
-
-with-atom-requires : tie.Need-with-atom-requires Inv-loop μ-loop
-with-atom-requires c κs = search needs
-
-loop-less : tie.Need-loop-less Inv-loop μ-loop
-loop-less c = search needs
-
 loop-again : tie.Need-loop-again Inv-loop μ-loop
-loop-again c = (omega arith, omega arith, own-step _ _ _ (c .before .before .before .loop .i) (c .before .before .loop-test .taken) (omega arith) (c .before .before .before .loop .inv .2) (c .with-atom .ensures))
+loop-again c = (
+  omega arith,
+  omega arith,
+  own-step _ _ _ (c .before .before .before .loop .i) (c .before .before .loop-test .taken) (omega arith)
+      (c .before .before .before .loop .inv .2) (c .with-atom .ensures),
+)
 
 returns : tie.Need-returns Inv-loop μ-loop
 returns c = own-end _ _ _ (c .before .loop .i) (c .before .loop .inv .2) (omega arith)
@@ -48,15 +35,5 @@ returns c = own-end _ _ _ (c .before .loop .i) (c .before .loop .inv .2) (omega 
 pub own-action-spec : {M : Type 1} → statement M
 own-action-spec =
     tie.close
-    (tie.spec
-    Inv-loop
-    μ-loop
-    loop-holds
-    mul-with-atom
-    sub-with-atom
-    part-with-atom-start
-    part-with-atom-end
-    with-atom-requires
-    loop-less
-    loop-again
-    returns)
+    (tie.spec Inv-loop μ-loop loop-holds (search needs) (search needs) (search needs) (search needs) (search needs)
+    (search needs) loop-again returns)

@@ -6,17 +6,8 @@ use Rattle.tree.proofs.Eval.{read-accepted, read-refused}
 use Rattle.tree.proofs.tree_action.Statement.{statement}
 use Rattle.tree.proofs.tree_action.Tie as tie
 
-read-requires : tie.Need-read-requires
-read-requires c κs = search needs
-
-enum-known-reading : tie.Need-enum-known-reading
-enum-known-reading c = search needs
-
 accepted-action-requires : tie.Need-accepted-action-requires
 accepted-action-requires c κs = sym (c .before .before .before .read .ensures) ∙ c .before .reading .given .1
-
-enum-known-reading-2 : tie.Need-enum-known-reading-2
-enum-known-reading-2 c = search needs
 
 returns : tie.Need-returns
 returns c = read-accepted _ _ _ (c .before .before .before .before .read .ensures) (c .before .before .reading .given .1) (c .accepted-action .ensures)
@@ -27,10 +18,4 @@ returns-2 c = read-refused _ _ _ (c .before .before .before .read .ensures) (c .
 pub tree-action-spec : {M : Type 1} → statement M
 tree-action-spec =
     tie.close
-    (tie.spec
-    read-requires
-    enum-known-reading
-    accepted-action-requires
-    enum-known-reading-2
-    returns
-    returns-2)
+    (tie.spec (search needs) (search needs) accepted-action-requires (search needs) returns returns-2)

@@ -5,20 +5,10 @@ use Rattle.tree.proofs.Own.{with-met, with-unmet}
 use Rattle.tree.proofs.with_atom.Statement.{statement}
 use Rattle.tree.proofs.with_atom.Tie as tie
 
-read-match-requires : tie.Need-read-match-requires
-read-match-requires c κs = search needs
-
-meets-requires : tie.Need-meets-requires
-meets-requires c κs = search needs
-
-row-action-requires : tie.Need-row-action-requires
-row-action-requires c κs = search needs
-
-join-at-requires : tie.Need-join-at-requires
-join-at-requires c κs = search needs
-
 returns : tie.Need-returns
-returns c = with-met _ _ _ _ (c .before .before .before .meets .ensures) (c .before .before .if1 .taken) (c .before .before .before .before .read-match .ensures) (c .before .row-action .ensures) (c .join-at .ensures)
+returns c =
+    with-met _ _ _ _ (c .before .before .before .meets .ensures) (c .before .before .if1 .taken) (c .before .before .before .before .read-match .ensures)
+    (c .before .row-action .ensures) (c .join-at .ensures)
 
 returns-2 : tie.Need-returns-2
 returns-2 c = with-unmet _ _ _ _ (c .before .meets .ensures) (c .if1 .left) (c .before .before .read-match .ensures)
@@ -26,10 +16,4 @@ returns-2 c = with-unmet _ _ _ _ (c .before .meets .ensures) (c .if1 .left) (c .
 pub with-atom-spec : {M : Type 1} → statement M
 with-atom-spec =
     tie.close
-    (tie.spec
-    read-match-requires
-    meets-requires
-    row-action-requires
-    join-at-requires
-    returns
-    returns-2)
+    (tie.spec (search needs) (search needs) (search needs) (search needs) returns returns-2)

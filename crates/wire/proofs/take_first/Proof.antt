@@ -7,20 +7,8 @@ use borrow.Author.Needs.{needs}
 use Rattle.wire.proofs.take_first.Statement.{statement}
 use Rattle.wire.proofs.take_first.Tie as tie
 
-least-requires : tie.Need-least-requires
-least-requires c κs = search needs
-
-slice-relend-prefix-take : tie.Need-slice-relend-prefix-take
-slice-relend-prefix-take c = search needs
-
 slice-aggregate-take : tie.Need-slice-aggregate-take
 slice-aggregate-take c = sym (length-take-le _ _ (omega arith))
-
-take-requires : tie.Need-take-requires
-take-requires c κs = search needs
-
-same-length : tie.Need-same-length
-same-length c = search needs
 
 returns : tie.Need-returns
 returns c = (omega arith, sym (length-take-le _ _ (omega arith)))
@@ -28,10 +16,4 @@ returns c = (omega arith, sym (length-take-le _ _ (omega arith)))
 pub take-first-spec : {M : Type 1} → statement M
 take-first-spec =
     tie.close
-    (tie.spec
-    least-requires
-    slice-relend-prefix-take
-    slice-aggregate-take
-    take-requires
-    same-length
-    returns)
+    (tie.spec (search needs) (search needs) slice-aggregate-take (search needs) (search needs) returns)

@@ -16,26 +16,8 @@ Inv-loop out₀ at i₀ out i = (length out ≡ length out₀) × (laid i (repli
 abbrev μ-loop : tie.MeasureT-loop
 μ-loop out₀ at i₀ out i = length out₀ - i
 
-loop-holds : tie.Need-loop-holds Inv-loop μ-loop
-loop-holds c = search needs
-
-mul-out : tie.Need-mul-out Inv-loop μ-loop
-mul-out c = search needs
-
-slice-write-out : tie.Need-slice-write-out Inv-loop μ-loop
-slice-write-out c = search needs
-
-add-i : tie.Need-add-i Inv-loop μ-loop
-add-i c = search needs
-
-loop-less : tie.Need-loop-less Inv-loop μ-loop
-loop-less c = search needs
-
 loop-again : tie.Need-loop-again Inv-loop μ-loop
 loop-again c = (simp length-set (c .before .loop .inv .0), clear-turn _ _ _ _ (omega arith) (c .before .loop .inv .1))
-
-same-length : tie.Need-same-length Inv-loop μ-loop
-same-length c = search needs
 
 returns : tie.Need-returns Inv-loop μ-loop
 returns c = clear-end _ _ _ _ (omega arith) (c .before .loop .inv .1) ∙ laid-cleared _ _
@@ -43,14 +25,5 @@ returns c = clear-end _ _ _ _ (omega arith) (c .before .loop .inv .1) ∙ laid-c
 pub clear-from-spec : {M : Type 1} → statement M
 clear-from-spec =
     tie.close
-    (tie.spec
-    Inv-loop
-    μ-loop
-    loop-holds
-    mul-out
-    slice-write-out
-    add-i
-    loop-less
-    loop-again
-    same-length
-    returns)
+    (tie.spec Inv-loop μ-loop (search needs) (search needs) (search needs) (search needs) (search needs) loop-again
+    (search needs) returns)

@@ -13,7 +13,8 @@ use Rattle.words.proofs.lay_bytes.Statement.{statement}
 use Rattle.words.proofs.lay_bytes.Tie as tie
 
 abbrev Inv-loop : tie.InvT-loop
-Inv-loop out₀ words at₀ i₀ out at i = (i ≤ length words) × (at ≡ wordBytes * i) × (length out ≡ length out₀) × BytesAhead words i out at (laid 0 (flat bytesOf words) out₀)
+Inv-loop out₀ words at₀ i₀ out at i =
+    (i ≤ length words) × (at ≡ wordBytes * i) × (length out ≡ length out₀) × BytesAhead words i out at (laid 0 (flat bytesOf words) out₀)
 
 abbrev μ-loop : tie.MeasureT-loop
 μ-loop out₀ words at₀ i₀ out at i = length words - i
@@ -21,29 +22,10 @@ abbrev μ-loop : tie.MeasureT-loop
 loop-holds : tie.Need-loop-holds Inv-loop μ-loop
 loop-holds c = (omega arith, refl, refl, record { is = refl })
 
-mul-lay-word : tie.Need-mul-lay-word Inv-loop μ-loop
-mul-lay-word c = omega arith
-
-shared-slice-read-lay-word : tie.Need-shared-slice-read-lay-word Inv-loop μ-loop
-shared-slice-read-lay-word c = omega arith
-
-lay-word-requires : tie.Need-lay-word-requires Inv-loop μ-loop
-lay-word-requires c κs = search needs
-
-add-at : tie.Need-add-at Inv-loop μ-loop
-add-at c = omega arith
-
-add-i : tie.Need-add-i Inv-loop μ-loop
-add-i c = omega arith
-
-loop-less : tie.Need-loop-less Inv-loop μ-loop
-loop-less c = omega arith
-
 loop-again : tie.Need-loop-again Inv-loop μ-loop
-loop-again c = (omega arith, omega arith, omega arith, bytes-turn (c .before .before .before .before .before .before .loop .inv .3) (c .before .before .lay-word .ensures) (omega arith))
-
-same-length : tie.Need-same-length Inv-loop μ-loop
-same-length c = search needs
+loop-again c =
+    let turn = c .before .before .before .before .before .before .loop in
+    (omega arith, omega arith, omega arith, bytes-turn (turn .inv .3) (c .before .before .lay-word .ensures) (omega arith))
 
 returns : tie.Need-returns Inv-loop μ-loop
 returns c = bytes-end (c .before .loop .inv .3) (omega arith)
@@ -51,16 +33,5 @@ returns c = bytes-end (c .before .loop .inv .3) (omega arith)
 pub lay-bytes-spec : {M : Type 1} → statement M
 lay-bytes-spec =
     tie.close
-    (tie.spec
-    Inv-loop
-    μ-loop
-    loop-holds
-    mul-lay-word
-    shared-slice-read-lay-word
-    lay-word-requires
-    add-at
-    add-i
-    loop-less
-    loop-again
-    same-length
-    returns)
+    (tie.spec Inv-loop μ-loop loop-holds (search needs) (search needs) (search needs) (search needs) (search needs)
+    (search needs) loop-again (search needs) returns)

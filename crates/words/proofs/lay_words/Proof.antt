@@ -12,7 +12,9 @@ use Rattle.words.proofs.lay_words.Statement.{statement}
 use Rattle.words.proofs.lay_words.Tie as tie
 
 abbrev Inv-loop : tie.InvT-loop
-Inv-loop out₀ bytes count from₀ i₀ out from i = (count ≡ length bytes / wordBytes) × (i ≤ count) × (from ≡ wordBytes * i) × (length out ≡ length out₀) × WordsAhead bytes from out i (laid 0 (wordsIn bytes) out₀)
+Inv-loop out₀ bytes count from₀ i₀ out from i =
+    (count ≡ length bytes / wordBytes) × (i ≤ count) × (from ≡ wordBytes * i) × (length out ≡ length out₀) × WordsAhead bytes from out i
+    (laid 0 (wordsIn bytes) out₀)
 
 abbrev μ-loop : tie.MeasureT-loop
 μ-loop out₀ bytes count from₀ i₀ out from i = count - i
@@ -20,38 +22,15 @@ abbrev μ-loop : tie.MeasureT-loop
 loop-holds : tie.Need-loop-holds Inv-loop μ-loop
 loop-holds c = (refl, omega arith, refl, refl, record { is = refl })
 
-add-end : tie.Need-add-end Inv-loop μ-loop
-add-end c = omega arith
-
-sub-word-of : tie.Need-sub-word-of Inv-loop μ-loop
-sub-word-of c = omega arith
-
-part-word-of-start : tie.Need-part-word-of-start Inv-loop μ-loop
-part-word-of-start c = omega arith
-
-part-word-of-end : tie.Need-part-word-of-end Inv-loop μ-loop
-part-word-of-end c = omega arith
-
-word-of-requires : tie.Need-word-of-requires Inv-loop μ-loop
-word-of-requires c κs = search needs
-
-mul-out : tie.Need-mul-out Inv-loop μ-loop
-mul-out c = omega arith
-
-slice-write-out : tie.Need-slice-write-out Inv-loop μ-loop
-slice-write-out c = omega arith
-
-add-i : tie.Need-add-i Inv-loop μ-loop
-add-i c = omega arith
-
-loop-less : tie.Need-loop-less Inv-loop μ-loop
-loop-less c = omega arith
-
 loop-again : tie.Need-loop-again Inv-loop μ-loop
-loop-again c = (c .before .before .before .loop .inv .0, omega arith, omega arith, simp length-set (c .before .before .before .loop .inv .3), words-turn (c .before .before .before .loop .inv .4) (c .word-of .ensures) (omega arith))
-
-same-length : tie.Need-same-length Inv-loop μ-loop
-same-length c = search needs
+loop-again c = (
+  c .before .before .before .loop .inv .0,
+  omega arith,
+  omega arith,
+  simp length-set (c .before .before .before .loop .inv .3),
+  words-turn
+      (c .before .before .before .loop .inv .4) (c .word-of .ensures) (omega arith),
+)
 
 returns : tie.Need-returns Inv-loop μ-loop
 returns c = words-end (c .before .loop .inv .4) (omega arith)
@@ -59,19 +38,5 @@ returns c = words-end (c .before .loop .inv .4) (omega arith)
 pub lay-words-spec : {M : Type 1} → statement M
 lay-words-spec =
     tie.close
-    (tie.spec
-    Inv-loop
-    μ-loop
-    loop-holds
-    add-end
-    sub-word-of
-    part-word-of-start
-    part-word-of-end
-    word-of-requires
-    mul-out
-    slice-write-out
-    add-i
-    loop-less
-    loop-again
-    same-length
-    returns)
+    (tie.spec Inv-loop μ-loop loop-holds (search needs) (search needs) (search needs) (search needs) (search needs)
+    (search needs) (search needs) (search needs) (search needs) loop-again (search needs) returns)

@@ -15,7 +15,8 @@ enum-told c = search needs
 returns : tie.Need-returns
 unfolding lawSearch
 returns c =
-    let o = c .before .before .before .before .before .before .args .t1 .cells in
+    let start = c .before .before .before .before .before .before in
+    let o = start .args .t1 .cells in
     else-hit _ _ (firstTriple o) (rw (c .before .before .first-pair .ensures)) _ _ _ _ (c .enum-told .given .1)
 
 enum-told-2 : tie.Need-enum-told-2
@@ -27,8 +28,9 @@ first-triple-requires c κs = search needs
 returns-2 : tie.Need-returns-2
 unfolding lawSearch
 returns-2 c =
+    let first-pair = c .before .before .before .before .before .before .first-pair in
     c .first-triple .ensures
-    ∙ else-miss _ _ _ (rw (c .before .before .before .before .before .before .first-pair .ensures)) (c .before .before .before .before .enum-told2 .given .1)
+    ∙ else-miss _ _ _ (rw (first-pair .ensures)) (c .before .before .before .before .enum-told2 .given .1)
 
 pub law-search-spec : {M : Type 1} → statement M
 law-search-spec =

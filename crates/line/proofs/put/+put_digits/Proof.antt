@@ -126,7 +126,9 @@ put-digits-returns-3 : (t : ℕ) → put-digits-lts.Need-returns-3 (
   put-digits-below t,
   put-digits.Post,
 ) (put-digits-at t) put-digits.Post
-put-digits-returns-3 t c = digits-more _ _ (c .before .before .before .before .before .before .put-digits .ensures) (c .before .before .put-byte2 .ensures) (omega arith) (omega arith)
+put-digits-returns-3 t c =
+    let put-digits = c .before .before .before .before .before .before .put-digits in
+    digits-more _ _ (put-digits .ensures) (c .before .before .put-byte2 .ensures) (omega arith) (omega arith)
 
 pub +put-digits-spec : {M : Type 1} → statement M
 +put-digits-spec = close μ-put-digits λ t. put-digits-lts.spec (

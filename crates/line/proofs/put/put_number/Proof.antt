@@ -17,7 +17,9 @@ same-length c = search needs
 
 returns : tie.Need-returns
 unfolding number decimal
-returns c = c .before .before .before .before .before .before .put-digits .ensures then c .before .before .put-byte .ensures
+returns c =
+    let put-digits = c .before .before .before .before .before .before .put-digits in
+    put-digits .ensures then c .before .before .put-byte .ensures
 
 pub put-number-spec : {M : Type 1} → statement M
 put-number-spec = tie.close (tie.spec put-digits-requires put-byte-requires same-length returns)
