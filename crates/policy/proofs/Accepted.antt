@@ -18,6 +18,7 @@ use Rattle.policy.specs.Numbers.{latest, headerLengthIn, operatorLengthI
 use Rattle.policy.specs.Read.{headerFault, sectionFault, childrenOf, ownOf, shape, shapeFault, ownAtoms, sumFault, lawsFault, extraFault}
 use Rattle.policy.specs.Read.{atomsAtIn, nodesAtIn, endIn, operatorsIn, nodesIn, atomsAt, operatorRecords, atomRecords, nodeRecords}
 use Rattle.policy.specs.Read.{wholeStages, stages, layout, answer, readAs}
+use Rattle.policy.specs.Cells.{operatorRows}
 use Rattle.policy.specs.File.{held, atomsOfIn, fileNodesIn, atomsOf, fileNodes, firstTree, treeOf, allAtoms}
 use Rattle.policy.specs.WellFormed.{OneTree, OtherwiseIn, WellFormedIn}
 use Rattle.policy.specs.Order.{GoodSections}
@@ -30,7 +31,7 @@ use Rattle.policy.specs.declared.Test.{Test}
 use Rattle.policy.specs.declared.Test.the-variants.{Passed, Failed}
 use Rattle.policy.proofs.Records.{unless-true}
 use Rattle.policy.proofs.Trees.{shape-one-tree, one-tree-shape, one-tree-planted}
-use Rattle.policy.proofs.Passed.{header-passed, passed-header, operator-cells, good-passed, passed-good, laws-kept, kept-laws}
+use Rattle.policy.proofs.Passed.{header-passed, passed-header, operators-many, right-operators, good-passed, passed-good, laws-kept, kept-laws}
 
 -- the stages that are passed, each by its name
 pub record Stages (e : Edition) (f : List ℕ) (a b c : ℕ) : Type 0 where
@@ -55,7 +56,7 @@ all-passed (Passed ∷ ts) l m e = let r : AllPassed ts × (l ≡ m) = all-passe
 all-passed (Failed r ∷ ts) l m e = let z : _≡_ {A = ℕ} 0 1 = cc in absurd (omega arith)
 
 answer-passed : (e : Edition) (f : List ℕ) (a b c : ℕ) (m : Layout) → answer (stages e f a b c) (layout a b c) ≡ Accepted m
-    → Stages e f a b c × (lawsFault (nodesIn e f a b c) (operatorsIn e f a) ≡ Passed) × (layout a b c ≡ m)
+    → Stages e f a b c × (lawsFault (nodesIn e f a b c) (operatorRows e (operatorsIn e f a)) ≡ Passed) × (layout a b c ≡ m)
 unfolding stages wholeStages
 answer-passed e f a b c m g =
     let r : AllPassed (stages e f a b c) × (layout a b c ≡ m) = all-passed (stages e f a b c) (layout a b c) m g in
@@ -73,7 +74,7 @@ answer-passed e f a b c m g =
       r .1,
     )
 
-passed-answer : (e : Edition) (f : List ℕ) (a b c : ℕ) → Stages e f a b c → lawsFault (nodesIn e f a b c) (operatorsIn e f a) ≡ Passed
+passed-answer : (e : Edition) (f : List ℕ) (a b c : ℕ) → Stages e f a b c → lawsFault (nodesIn e f a b c) (operatorRows e (operatorsIn e f a)) ≡ Passed
     → answer (stages e f a b c) (layout a b c) ≡ Accepted (layout a b c)
 unfolding stages wholeStages answer
 passed-answer e f a b c s laws = rw (s .header, s .operators, s .atoms, s .nodes, s .extra, s .tree, s .sum, laws)
@@ -85,7 +86,7 @@ held-children os xs (r ∷ rs) = ap (λ l. childrenOf r ∷ l) (held-children os
 
 module _ (e : Edition) (f : List ℕ) (a b c : ℕ) where
   pub children-shape : shape (map (λ n. n .childCount) (fileNodesIn e f (layout a b c))) (1 ∷ []) 0 ≡ shape (map childrenOf (nodesIn e f a b c)) (1 ∷ []) 0
-  children-shape = ap (λ ks. shape ks (1 ∷ []) 0) (held-children (operatorsIn e f a) (atomsOfIn e f (layout a b c)) (nodesIn e f a b c))
+  children-shape = ap (λ ks. shape ks (1 ∷ []) 0) (held-children (operatorRows e (operatorsIn e f a)) (atomsOfIn e f (layout a b c)) (nodesIn e f a b c))
 
   -- a file well formed but for the laws is one of good sections that ends with them, and whose nodes are one tree and take all atoms
   pub good-otherwise : GoodSections e f a b c → length f ≡ endIn e a b c → OneTree (fileNodesIn e f (layout a b c)) → ownAtoms (nodesIn e f a b c) ≡ b
@@ -143,11 +144,14 @@ accepted-as e f l = (well, accepts)
         let b : ℕ = getD f (atomsAtIn e a) 0 in
         let c : ℕ = getD f (nodesAtIn e a b) 0 in
         let p = answer-passed e f a b c l g in
+        let os : List (List ℕ) = operatorsIn e f a in
+        let raw : length os ≡ a = length-records a (operatorLengthIn e) (drop (headerLengthIn e + 1) f) in
+        let many : length (operatorRows e os) ≡ a = operators-many e os ∙ raw in
         let o : OtherwiseIn e f a b c = otherwise-of e f a b c refl refl refl (p .0) in
         rw (← p .2) (record {
           otherwise = o;
-          lawful = laws-kept a (operatorsIn e f a) (nodesIn e f a b c) (length-records a (operatorLengthIn e) (drop (headerLengthIn e + 1) f))
-              (λ i j h m. o .cells i j h (rw operator-cells m)) (λ i h. o .right-nodes i (rw length-records at h)) (p .1);
+          lawful = laws-kept a (operatorRows e os) (nodesIn e f a b c) many (right-operators e os a raw (o .cells))
+              (λ i h. o .right-nodes i (rw length-records at h)) (p .1);
         })
 
     accepts : WellFormedIn e f l → readAs e f ≡ Accepted l
@@ -155,11 +159,14 @@ accepted-as e f l = (well, accepts)
         let a : ℕ = l .operators in
         let b : ℕ = l .atoms in
         let c : ℕ = l .nodes in
+        let os : List (List ℕ) = operatorsIn e f a in
+        let raw : length os ≡ a = length-records a (operatorLengthIn e) (drop (headerLengthIn e + 1) f) in
+        let many : length (operatorRows e os) ≡ a = operators-many e os ∙ raw in
         let o : OtherwiseIn e f a b c = w .otherwise in
         rw (o .operators .count, o .atoms .count, o .nodes .count)
         (passed-answer e f a b c (of-otherwise e f a b c o)
-        (kept-laws a (operatorsIn e f a) (nodesIn e f a b c) (length-records a (operatorLengthIn e) (drop (headerLengthIn e + 1) f))
-        (λ i j h m. o .cells i j h (rw operator-cells m)) (λ i h. o .right-nodes i (rw length-records at h)) (w .lawful)))
+        (kept-laws a (operatorRows e os) (nodesIn e f a b c) many (right-operators e os a raw (o .cells)) (λ i h. o .right-nodes i (rw length-records at h))
+        (w .lawful)))
 
 pub accepted-exactly : AcceptedExactly
 accepted-exactly f l = accepted-as latest f l

@@ -11,16 +11,17 @@ use lib.ListN.{getD, length, drop, length-map}
 use borrow.Author.Tests.{lt-ltb, le-ltb, le-leb, lt-leb, eqb-true, eqb-false, ne-eqb}
 use Rattle.words.specs.Records.{records}
 use Rattle.words.proofs.Records.{length-records}
-use Rattle.action.specs.Operator.{rightCell}
-use Rattle.policy.specs.Numbers.{headerLengthIn, operatorLengthIn, operatorLength, nodeLength, mostAtoms, mostChildren, wrongCell, wrongNode, extraWords}
+use Rattle.action.specs.Operator.{RightCodes}
+use Rattle.policy.specs.Numbers.{headerLengthIn, operatorLengthIn, nodeLength, mostAtoms, mostChildren, wrongCell, wrongNode, extraWords}
 use Rattle.policy.specs.Numbers.{noTree, wrongSum, lawBroken}
 use Rattle.policy.specs.Atom.{rightAtomMatch, rightAtomAction}
+use Rattle.policy.specs.Cells.{rightCellIn, operatorRows}
 use Rattle.policy.specs.Read.{plain, unless, each, recordLength, least, most, headerFault}
 use Rattle.policy.specs.Read.{countFault, cellsFrom, cellsFault, atomFault, nodeFault, recordFault, sectionFault}
 use Rattle.policy.specs.Read.{innerOf, parentOf, siblingOf, ownOf, childrenOf, shape, shapeFault, ownAtoms, sumFault, lawsFrom}
 use Rattle.policy.specs.Read.{atomsAtIn, nodesAtIn, endIn, operatorsIn, nodesIn, wholeStages, stages, layout, answer, readAs, numbered}
 use Rattle.policy.specs.Steps.{withWhole}
-use Rattle.policy.specs.File.{fileNodesIn}
+use Rattle.policy.specs.File.{operatorAt, fileNodesIn}
 use Rattle.policy.specs.WellFormed.{Present, RightHeader, RightNode, OneTree, OtherwiseIn, WellFormedIn}
 use Rattle.policy.specs.Order.{FirstWrong, RightRecord, recordAt, Good, RecordDue, cell, match, action, node, SectionDue, no-count, beyond, cut}
 use Rattle.policy.specs.Order.{wrong-record}
@@ -34,7 +35,8 @@ use Rattle.policy.specs.declared.Section.{Section}
 use Rattle.policy.specs.declared.Section.the-variants.{Operators, Atoms, Nodes}
 use Rattle.policy.specs.declared.Test.{Test}
 use Rattle.policy.specs.declared.Test.the-variants.{Passed, Failed}
-use Rattle.policy.proofs.Passed.{passed-header, operator-cells, node-fault, fault-node, right-record, present-long, present-fault, good-passed}
+use Rattle.policy.proofs.Passed.{passed-header, operators-many, right-operators, node-fault, fault-node, right-record, present-long, present-fault}
+use Rattle.policy.proofs.Passed.{good-passed}
 use Rattle.policy.proofs.Passed.{laws-kept, kept-laws}
 use Rattle.policy.proofs.Trees.{shape-one-tree, one-tree-shape}
 use Rattle.policy.proofs.Accepted.{children-shape, good-otherwise, accepted-as}
@@ -67,20 +69,20 @@ each-first t at k (r ∷ rs) (suc i) x h b e =
     rw (b 0 (omega arith) at) (each-first t (at + k) k rs i x (omega arith) (λ j l p. b (suc j) (omega arith) p) (rw z at e))
 
 -- and of cells the first that is wrong
-cells-first : (j at : ℕ) (cs : List ℕ) (m : ℕ) → m < length cs → ((i : ℕ) → i < m → rightCell (j + i) (getD cs i 0) ≡ true)
-    → rightCell (j + m) (getD cs m 0) ≡ false → cellsFrom j at cs ≡ Failed (plain wrongCell (at + m))
-cells-first j at [] m h b e = absurd (omega arith)
-cells-first j at (c ∷ cs) zero h b e =
+cells-first : (ed : Edition) (j at : ℕ) (cs : List ℕ) (m : ℕ) → m < length cs → ((i : ℕ) → i < m → rightCellIn ed (j + i) (getD cs i 0) ≡ true)
+    → rightCellIn ed (j + m) (getD cs m 0) ≡ false → cellsFrom ed j at cs ≡ Failed (plain wrongCell (at + m))
+cells-first ed j at [] m h b e = absurd (omega arith)
+cells-first ed j at (c ∷ cs) zero h b e =
     let z : j + 0 ≡ j = omega arith in
     let y : at + 0 ≡ at = omega arith in
-    let e′ : rightCell j c ≡ false = rw z at e in
+    let e′ : rightCellIn ed j c ≡ false = rw z at e in
     rw (e′, y)
-cells-first j at (c ∷ cs) (suc m) h b e =
+cells-first ed j at (c ∷ cs) (suc m) h b e =
     let z : j + 0 ≡ j = omega arith in
     let y : at + suc m ≡ suc at + m = omega arith in
     let x : (i : ℕ) → j + suc i ≡ suc j + i = λ i. omega arith in
-    let first : rightCell j c ≡ true = rw z at (b 0 (omega arith)) in
-    rw (first, y) (cells-first (suc j) (suc at) cs m (omega arith) (λ i l. rw (x i) at (b (suc i) (omega arith))) (rw (x m) at e))
+    let first : rightCellIn ed j c ≡ true = rw z at (b 0 (omega arith)) in
+    rw (first, y) (cells-first ed (suc j) (suc at) cs m (omega arith) (λ i l. rw (x i) at (b (suc i) (omega arith))) (rw (x m) at e))
 
 -- tests and stages, by their outcome
 not-true : (b : Bool) → ¬ (b ≡ true) → b ≡ false
@@ -102,9 +104,9 @@ passed-or-not (Failed x) = inr (λ e. let z : _≡_ {A = ℕ} 0 1 = cc in omega 
 -- a wrong record is refused as is due
 record-due : (at : ℕ) (r : List ℕ) {s : Section} {n p : ℕ} → RecordDue at r s n p → length r ≡ recordLength s → recordFault s at r ≡ Failed (plain n p)
 unfolding cellsFault atomFault nodeFault
-record-due at r (cell {j} w) long =
+record-due at r (cell {e} {j} w) long =
     let z : (i : ℕ) → 0 + i ≡ i = λ i. omega arith in
-    cells-first 0 at r j (omega (arith, w .within)) (λ i l. rw (z i) (w .before i l)) (rw (z j) (not-true _ (w .wrong)))
+    cells-first e 0 at r j (omega (arith, w .within)) (λ i l. rw (z i) (w .before i l)) (rw (z j) (not-true _ (w .wrong)))
 record-due at r (match t) long = rw t
 record-due at r (action t u) long = rw (t, u)
 record-due at r (node {a} h) long =
@@ -116,7 +118,7 @@ record-cases : (s : Section) (at : ℕ) (r : List ℕ) → RightRecord s r ⊎ (
 record-cases (Operators e) at r = ⊎-elim
     (λ h. inl h)
     (λ w. inr (_, _, cell (w .1)))
-    (first-wrong (λ j. rightCell j (getD r j 0) ≡ true) (λ j. true-or-not _) (operatorLengthIn e))
+    (first-wrong (λ j. rightCellIn e j (getD r j 0) ≡ true) (λ j. true-or-not _) (operatorLengthIn e))
 record-cases (Atoms e) at r = by-test (rightAtomMatch e r)
     (λ t. by-test (rightAtomAction e r) (λ u. inl (t, u)) (λ u. inr (_, _, action t u)))
     (λ t. inr (_, _, match t))
@@ -127,7 +129,7 @@ record-cases (Nodes a) at r = ⊎-elim
 
 -- and not both
 not-right : (at : ℕ) (r : List ℕ) {s : Section} {n p : ℕ} → RecordDue at r s n p → ¬ RightRecord s r
-not-right at r (cell {j} w) h = w .wrong (h j (w .within))
+not-right at r (cell {e} {j} w) h = w .wrong (h j (w .within))
 not-right at r (match t) h = let z : _≡_ {A = ℕ} 0 1 = cc (h .0) in omega arith
 not-right at r (action t u) h = let z : _≡_ {A = ℕ} 0 1 = cc (h .1) in omega arith
 not-right at r (node n) h = n h
@@ -285,19 +287,21 @@ cases e f =
 -- a refusal without a law is given to no file that is well formed but for the laws: it is accepted, or a law is shown
 lawless : (e : Edition) (f : List ℕ) (a b c n at : ℕ) → OtherwiseIn e f a b c → ¬ (readAs e f ≡ Refused (plain n at))
 lawless e f a b c n at o r =
-    let os : List (List ℕ) = operatorsIn e f a in
+    let raw : List (List ℕ) = operatorsIn e f a in
+    let os : List (List ℕ) = operatorRows e raw in
     let ns : List (List ℕ) = nodesIn e f a b c in
-    let many : length os ≡ a = length-records a (operatorLengthIn e) (drop (headerLengthIn e + 1) f) in
-    let cells : (i j : ℕ) → i < a → j < operatorLength → rightCell j (getD (getD os i []) j 0) ≡ true = λ i j h m. o .cells i j h (rw operator-cells m) in
+    let counted : length raw ≡ a = length-records a (operatorLengthIn e) (drop (headerLengthIn e + 1) f) in
+    let many : length os ≡ a = operators-many e raw ∙ counted in
+    let codes : (i : ℕ) → i < a → RightCodes (operatorAt os i) = right-operators e raw a counted (o .cells) in
     let nodes : (i : ℕ) → i < length ns → RightNode a (getD ns i []) = λ i h. o .right-nodes i (rw length-records at h) in
     ⊎-elim
     (λ p.
-    let w : WellFormedIn e f (layout a b c) = record { otherwise = o; lawful = laws-kept a os ns many cells nodes p } in
+    let w : WellFormedIn e f (layout a b c) = record { otherwise = o; lawful = laws-kept a os ns many codes nodes p } in
     let g : readAs e f ≡ Accepted (layout a b c) = accepted-as e f (layout a b c) .1 w in
     let z : _≡_ {A = ℕ} 0 1 = cc in
     omega arith)
     (λ h.
-    let w = broken-refused-as e f a b c o (λ k. h (kept-laws a os ns many cells nodes k)) in
+    let w = broken-refused-as e f a b c o (λ k. h (kept-laws a os ns many codes nodes k)) in
     let q : n ≡ lawBroken = ap (λ x. numbered x .number) (sym r ∙ w .1) ∙ w .2 in
     refused-law-as e f (plain n at) r q .shows)
     (passed-or-not (lawsFrom ns 0 os))

@@ -11,7 +11,7 @@ use Rattle.words.proofs.Records.{length-records}
 use Rattle.policy.specs.Numbers.{headerLengthIn, headerOf, operatorLengthIn, atomLengthIn, nodeLength, mostOperators, mostAtoms, mostNodes}
 use Rattle.policy.specs.Read.{atomsAtIn, nodesAtIn, endIn, operatorsIn, atomsIn, nodesIn, layout}
 use Rattle.policy.specs.WellFormed.{Present, RightHeader, OtherwiseIn, WellFormedIn}
-use Rattle.policy.specs.Parts.{Parts, recordWords, sectionWords, fileWordsIn, partsIn, layoutOfParts, EachLong, RightPartsIn, LawfulParts}
+use Rattle.policy.specs.Parts.{Parts, recordWords, sectionWords, fileWordsIn, partsIn, layoutOfParts, EachLong, RightPartsIn, LawfulPartsIn}
 use Rattle.policy.specs.Theorems.{PartsAccepted, AcceptedParts, PartsWhole, PartsRead}
 use Rattle.policy.specs.declared.Edition.{Edition}
 use Rattle.policy.specs.declared.Edition.the-variants.{First}
@@ -201,7 +201,7 @@ right-whole e P r =
 pub parts-accepted : PartsAccepted
 parts-accepted e P r laws =
     accepted-as e (fileWordsIn e P) (layoutOfParts P) .1
-    (record { otherwise = right-whole e P r; lawful = subst (λ (Q : Parts). LawfulParts Q) (sym (parts-read e P r)) laws })
+    (record { otherwise = right-whole e P r; lawful = subst (λ (Q : Parts). LawfulPartsIn e Q) (sym (parts-read e P r)) laws })
 
 pub accepted-parts : AcceptedParts
 accepted-parts e f l g =

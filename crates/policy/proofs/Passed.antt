@@ -1,7 +1,7 @@
 -- A stage is passed exactly when what it tests holds: of every record, of every cell, of every operator that is named. Assumes nothing.
 use Prim.Native.Nat.{ℕ, zero, suc, _+_, _*_, _≤_, _<_}
 use native.Mathlib.Omega.{arith}
-use mathlib.Core.Path.{_≡_, refl, _∙_}
+use mathlib.Core.Path.{_≡_, refl, sym, subst, _∙_}
 use mathlib.Core.Bool.{Bool, true, _&&_, and-eq-true-iff}
 use mathlib.Core.List.{List, [], _∷_}
 use mathlib.Core.Logic.{⊎-elim}
@@ -21,6 +21,7 @@ use Rattle.policy.specs.Read.{unless, _else_, each, cellsFrom, cellsFaul
 use Rattle.policy.specs.Read.{recordFault, sectionFault, innerOf, parentOf, siblingOf, ownOf, childrenOf, names, named, broken, cellsOf, operatorFault}
 use Rattle.policy.specs.Read.{lawsFrom}
 use Rattle.policy.specs.Atom.{rightAtomMatch, rightAtomAction}
+use Rattle.policy.specs.Cells.{rightCellIn, operatorRow, operatorRows}
 use Rattle.policy.specs.File.{operatorAt}
 use Rattle.policy.specs.WellFormed.{Present, RightHeader, RightNode, KeepsLaws, LawsKept}
 use Rattle.policy.specs.Order.{RightRecord, recordAt, Good}
@@ -66,30 +67,30 @@ record-long (suc n) k ws (suc i) h l =
     record-long n k (drop k ws) i (rw length-drop (omega arith)) (omega arith)
 
 -- the cells of an operator
-cells-right : (j at : ℕ) (cs : List ℕ) → cellsFrom j at cs ≡ Passed → (i : ℕ) → i < length cs → rightCell (j + i) (getD cs i 0) ≡ true
-cells-right j at [] e i h = absurd (omega arith)
-cells-right j at (c ∷ cs) e zero h =
+cells-right : (ed : Edition) (j at : ℕ) (cs : List ℕ) → cellsFrom ed j at cs ≡ Passed → (i : ℕ) → i < length cs → rightCellIn ed (j + i) (getD cs i 0) ≡ true
+cells-right ed j at [] e i h = absurd (omega arith)
+cells-right ed j at (c ∷ cs) e zero h =
     let z : j + 0 ≡ j = omega arith in
-    rw z (unless-true (rightCell j c) wrongCell at (else-both (unless (rightCell j c) wrongCell at) (cellsFrom (suc j) (suc at) cs) e .0))
-cells-right j at (c ∷ cs) e (suc i) h =
+    rw z (unless-true (rightCellIn ed j c) wrongCell at (else-both (unless (rightCellIn ed j c) wrongCell at) (cellsFrom ed (suc j) (suc at) cs) e .0))
+cells-right ed j at (c ∷ cs) e (suc i) h =
     let z : j + suc i ≡ suc j + i = omega arith in
-    rw z (cells-right (suc j) (suc at) cs (else-both (unless (rightCell j c) wrongCell at) (cellsFrom (suc j) (suc at) cs) e .1) i (omega arith))
+    rw z (cells-right ed (suc j) (suc at) cs (else-both (unless (rightCellIn ed j c) wrongCell at) (cellsFrom ed (suc j) (suc at) cs) e .1) i (omega arith))
 
-right-cells : (j at : ℕ) (cs : List ℕ) → ((i : ℕ) → i < length cs → rightCell (j + i) (getD cs i 0) ≡ true) → cellsFrom j at cs ≡ Passed
-right-cells j at [] h = refl
-right-cells j at (c ∷ cs) h =
+right-cells : (ed : Edition) (j at : ℕ) (cs : List ℕ) → ((i : ℕ) → i < length cs → rightCellIn ed (j + i) (getD cs i 0) ≡ true) → cellsFrom ed j at cs ≡ Passed
+right-cells ed j at [] h = refl
+right-cells ed j at (c ∷ cs) h =
     let z : j + 0 ≡ j = omega arith in
-    let first : rightCell j c ≡ true = rw z at (h 0 (omega arith)) in
+    let first : rightCellIn ed j c ≡ true = rw z at (h 0 (omega arith)) in
     rw first
-    (right-cells (suc j) (suc at) cs (λ i l. let y : j + suc i ≡ suc j + i = omega arith in rw y at (h (suc i) (omega arith))))
+    (right-cells ed (suc j) (suc at) cs (λ i l. let y : j + suc i ≡ suc j + i = omega arith in rw y at (h (suc i) (omega arith))))
 
-cells-fault : (at : ℕ) (cs : List ℕ) → cellsFault at cs ≡ Passed → (j : ℕ) → j < length cs → rightCell j (getD cs j 0) ≡ true
+cells-fault : (ed : Edition) (at : ℕ) (cs : List ℕ) → cellsFault ed at cs ≡ Passed → (j : ℕ) → j < length cs → rightCellIn ed j (getD cs j 0) ≡ true
 unfolding cellsFault
-cells-fault at cs e j h = let z : 0 + j ≡ j = omega arith in rw z at (cells-right 0 at cs e j h)
+cells-fault ed at cs e j h = let z : 0 + j ≡ j = omega arith in rw z at (cells-right ed 0 at cs e j h)
 
-fault-cells : (at : ℕ) (cs : List ℕ) → ((j : ℕ) → j < length cs → rightCell j (getD cs j 0) ≡ true) → cellsFault at cs ≡ Passed
+fault-cells : (ed : Edition) (at : ℕ) (cs : List ℕ) → ((j : ℕ) → j < length cs → rightCellIn ed j (getD cs j 0) ≡ true) → cellsFault ed at cs ≡ Passed
 unfolding cellsFault
-fault-cells at cs h = right-cells 0 at cs (λ i l. let z : 0 + i ≡ i = omega arith in rw z (h i l))
+fault-cells ed at cs h = right-cells ed 0 at cs (λ i l. let z : 0 + i ≡ i = omega arith in rw z (h i l))
 
 -- an atom's match and action
 atom-fault : (e : Edition) (at : ℕ) (r : List ℕ) → atomFault e at r ≡ Passed → (rightAtomMatch e r ≡ true) × (rightAtomAction e r ≡ true)
@@ -112,10 +113,6 @@ passed-header First f p = refl
 -- and then the first count may follow
 pub header-long : (e : Edition) (f : List ℕ) → headerFault e f ≡ Passed → headerLengthIn e ≤ length f
 header-long First f p = omega arith
-
--- the operators of every edition have nine cells
-pub operator-cells : (e : Edition) → operatorLengthIn e ≡ operatorLength
-operator-cells First = refl
 
 -- a node's indexes and counts
 pub node-fault : (a at : ℕ) (r : List ℕ) → nodeFault a at r ≡ Passed → RightNode a r
@@ -144,12 +141,12 @@ fault-node a at r n =
 
 -- a record of a section passes exactly when it is right
 record-right : (s : Section) (at : ℕ) (r : List ℕ) → length r ≡ recordLength s → recordFault s at r ≡ Passed → RightRecord s r
-record-right (Operators e) at r long g = λ j h. cells-fault at r g j (omega arith)
+record-right (Operators e) at r long g = λ j h. cells-fault e at r g j (omega arith)
 record-right (Atoms e) at r long g = atom-fault e at r g
 record-right (Nodes a) at r long e = node-fault a at r e
 
 pub right-record : (s : Section) (at : ℕ) (r : List ℕ) → length r ≡ recordLength s → RightRecord s r → recordFault s at r ≡ Passed
-right-record (Operators e) at r long h = fault-cells at r (λ j g. h j (omega arith))
+right-record (Operators e) at r long h = fault-cells e at r (λ j g. h j (omega arith))
 right-record (Atoms e) at r long h = fault-atom e at r (h .0) (h .1)
 right-record (Nodes a) at r long h = fault-node a at r h
 
@@ -250,9 +247,27 @@ right-codes r h = (refl, go)
     go (suc (suc (suc (suc (suc (suc (suc (suc zero)))))))) l = h 8 l
     go (suc (suc (suc (suc (suc (suc (suc (suc (suc j))))))))) l = absurd (omega arith)
 
+-- for each edition
+right-codes-in : (e : Edition) (r : List ℕ) → ((j : ℕ) → j < operatorLengthIn e → rightCellIn e j (getD r j 0) ≡ true) → RightCodes (cellsOf (operatorRow e r))
+right-codes-in First r h = right-codes r h
+
+-- the operators of an edition in their newest form: as many, and one by one
+pub operators-many : (e : Edition) (os : List (List ℕ)) → length (operatorRows e os) ≡ length os
+operators-many First os = refl
+
+operators-at : (e : Edition) (os : List (List ℕ)) (i : ℕ) → i < length os → getD (operatorRows e os) i [] ≡ operatorRow e (getD os i [])
+operators-at First os i h = refl
+
+-- so they have right codes
+pub right-operators : (e : Edition) (os : List (List ℕ)) (a : ℕ) → length os ≡ a
+    → ((i j : ℕ) → i < a → j < operatorLengthIn e → rightCellIn e j (getD (getD os i []) j 0) ≡ true) → (i : ℕ) → i < a → RightCodes
+    (operatorAt (operatorRows e os) i)
+right-operators e os a many cells i l =
+    subst (λ r. RightCodes (cellsOf r)) (sym (operators-at e os i (omega arith))) (right-codes-in e (getD os i []) (λ j. cells i j l))
+
 -- THE LAWS: the stage is passed exactly when every operator that a node names as inner or sibling keeps them at all allowed rates
 module _ (a : ℕ) (os ns : List (List ℕ)) (many : length os ≡ a)
-    (cells : (i j : ℕ) → i < a → j < operatorLength → rightCell j (getD (getD os i []) j 0) ≡ true)
+    (codes : (i : ℕ) → i < a → RightCodes (operatorAt os i))
     (nodes : (i : ℕ) → i < length ns → RightNode a (getD ns i [])) where
   pub laws-kept : lawsFrom ns 0 os ≡ Passed → LawsKept os ns
   laws-kept e n h =
@@ -266,7 +281,7 @@ module _ (a : ℕ) (os ns : List (List ℕ)) (many : length os ≡ a)
     where
       kept : (i : ℕ) → i < a → named i ns ≡ true → KeepsLaws (operatorAt os i)
       kept i l t =
-          search-exact (operatorAt os i) (right-codes (getD os i []) (λ j. cells i j l)) .0
+          search-exact (operatorAt os i) (codes i l) .0
           (laws-passed ns 0 os e i (omega arith) (let z : 0 + i ≡ i = omega arith in rw z t))
 
   pub kept-laws : LawsKept os ns → lawsFrom ns 0 os ≡ Passed
@@ -279,7 +294,7 @@ module _ (a : ℕ) (os ns : List (List ℕ)) (many : length os ≡ a)
           let r : List ℕ = getD ns (n .at) [] in
           let k : KeepsLaws (operatorAt os (innerOf r)) × KeepsLaws (operatorAt os (siblingOf r)) = keeps (n .at) (n .within) in
           let exact : KeepsLaws (operatorAt os j) → lawSearch (operatorAt os j) ≡ Yes =
-          search-exact (operatorAt os j) (right-codes (getD os j []) (λ i. cells j i (omega arith))) .1 in
+          search-exact (operatorAt os j) (codes j (omega arith)) .1 in
           ⊎-elim
           (λ e. let q : innerOf r ≡ j = eqb-true (innerOf r) j e in exact (rw (← q) (k .0)))
           (λ e. let q : siblingOf r ≡ j = eqb-true (siblingOf r) j e in exact (rw (← q) (k .1)))

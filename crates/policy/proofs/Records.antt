@@ -11,9 +11,10 @@ use lib.Seq.{drop-cons}
 use borrow.Author.Tests.{leb-true, ltb-true}
 use Rattle.words.specs.Records.{records}
 use Rattle.words.proofs.Records.{records-next, records-none}
-use Rattle.action.specs.Operator.{rightCell}
+use Rattle.policy.specs.Cells.{rightCellIn}
 use Rattle.policy.specs.Numbers.{short, wrongCount, wrongCell}
 use Rattle.policy.specs.Read.{unless, _else_, each, recordLength, least, most, countFault, cellsFrom, recordFault, behind, sectionFault}
+use Rattle.policy.specs.declared.Edition.{Edition}
 use Rattle.policy.specs.declared.Edition.the-variants.{First}
 use Rattle.policy.specs.declared.Refusal.{Refusal}
 use Rattle.policy.specs.declared.Section.{Section}
@@ -52,9 +53,9 @@ pub done : (t : ℕ → List ℕ → Test) (k from left : ℕ) (f : List ℕ) (w
 done t k from left f w h e = rw (records-none k left (drop from f) h) at e
 
 -- the same for the cells of one operator
-module _ (at j : ℕ) (l : List ℕ) (w : Test) (inv : cellsFrom j (at + j) (drop j l) ≡ w) (h : j < length l) (b : Bool)
-    (p : b ≡ rightCell j (getD l j 0)) (x : Test) (e : x ≡ unless b wrongCell (at + j)) where
-  next-cell : w ≡ _else_ x (cellsFrom (j + 1) (at + (j + 1)) (drop (j + 1) l))
+module _ (ed : Edition) (at j : ℕ) (l : List ℕ) (w : Test) (inv : cellsFrom ed j (at + j) (drop j l) ≡ w) (h : j < length l) (b : Bool)
+    (p : b ≡ rightCellIn ed j (getD l j 0)) (x : Test) (e : x ≡ unless b wrongCell (at + j)) where
+  next-cell : w ≡ _else_ x (cellsFrom ed (j + 1) (at + (j + 1)) (drop (j + 1) l))
   next-cell =
       let a : at + (j + 1) ≡ suc (at + j) = omega arith in
       sym inv ∙ rw (a, add-one j, drop-cons l j 0 h, e, p)
@@ -62,11 +63,11 @@ module _ (at j : ℕ) (l : List ℕ) (w : Test) (inv : cellsFrom j (at + j) (dro
   pub hit-cell : (r : Refusal) → x ≡ Failed r → x ≡ w
   hit-cell r g = cc next-cell
 
-  pub miss-cell : x ≡ Passed → cellsFrom (j + 1) (at + (j + 1)) (drop (j + 1) l) ≡ w
+  pub miss-cell : x ≡ Passed → cellsFrom ed (j + 1) (at + (j + 1)) (drop (j + 1) l) ≡ w
   miss-cell g = cc next-cell
 
-pub done-cell : (at j : ℕ) (l : List ℕ) (w : Test) → length l ≤ j → cellsFrom j (at + j) (drop j l) ≡ w → Passed ≡ w
-done-cell at j l w h e = rw (drop-of-length-le l h) at e
+pub done-cell : (ed : Edition) (at j : ℕ) (l : List ℕ) (w : Test) → length l ≤ j → cellsFrom ed j (at + j) (drop j l) ≡ w → Passed ≡ w
+done-cell ed at j l w h e = rw (drop-of-length-le l h) at e
 
 -- what a passed test shows
 pub unless-true : (b : Bool) (n at : ℕ) → unless b n at ≡ Passed → b ≡ true

@@ -1,7 +1,7 @@
 -- What a refusal says: every stage but the last refuses with a number below 10 and no law, and the last with what the law search found. Assumes nothing.
 use Prim.Native.Nat.{ℕ, zero, suc, _+_, _≤_, _<_}
 use native.Mathlib.Omega.{arith}
-use mathlib.Core.Path.{_≡_, refl}
+use mathlib.Core.Path.{_≡_, refl, _∙_}
 use mathlib.Core.Bool.{Bool, true, false, cond, _&&_}
 use mathlib.Core.List.{List, [], _∷_, _++_, map}
 use mathlib.Core.Logic.{_⊎_, inl, inr, ⊎-elim}
@@ -9,7 +9,6 @@ use lib.Dec.{eqb, leb, ltb}
 use lib.ListN.{getD, length, drop}
 use Rattle.words.proofs.Records.{length-records}
 use Rattle.words.specs.Records.{records}
-use Rattle.action.specs.Operator.{rightCell}
 use Rattle.action.specs.Laws.{lawSearch, Shows}
 use Rattle.action.specs.declared.Lawful.{Lawful}
 use Rattle.action.specs.declared.Lawful.the-variants.{Yes, Broken}
@@ -21,6 +20,7 @@ use Rattle.policy.specs.Read.{nodeFault, recordFault, behind, sectionFau
 use Rattle.policy.specs.Read.{shapeFault, ownAtoms, sumFault, named, broken, cellsOf, operatorFault, lawsFrom, lawsFault, atomsAtIn, nodesAtIn, endIn}
 use Rattle.policy.specs.Read.{operatorsIn, nodesIn, extraFault, wholeStages, stages, layout, answer, readAs}
 use Rattle.policy.specs.Atom.{rightAtomMatch, rightAtomAction}
+use Rattle.policy.specs.Cells.{rightCellIn, operatorRows}
 use Rattle.policy.specs.File.{operatorAt}
 use Rattle.policy.specs.WellFormed.{OtherwiseIn}
 use Rattle.policy.specs.Theorems.{RefusedLawAs, RefusedLaw, BrokenRefusedAs, BrokenRefused, RefusedPlainAs, RefusedPlain}
@@ -33,7 +33,7 @@ use Rattle.policy.specs.declared.Section.{Section}
 use Rattle.policy.specs.declared.Section.the-variants.{Operators, Atoms, Nodes}
 use Rattle.policy.specs.declared.Test.{Test}
 use Rattle.policy.specs.declared.Test.the-variants.{Passed, Failed}
-use Rattle.policy.proofs.Passed.{operator-cells, right-codes, laws-kept, unbroken}
+use Rattle.policy.proofs.Passed.{operators-many, right-operators, laws-kept, unbroken}
 use Rattle.policy.proofs.Accepted.{AllPassed, Stages, otherwise-of, of-otherwise}
 use Rattle.logic.proofs.Tests.{by-test}
 
@@ -63,15 +63,16 @@ each-plain : (t : ℕ → List ℕ → Test) (at k : ℕ) (rs : List (List ℕ))
 each-plain t at k [] h = passed-plain
 each-plain t at k (r ∷ rs) h = else-plain (t at r) (each t (at + k) k rs) (h at r) (each-plain t (at + k) k rs h)
 
-cells-plain : (j at : ℕ) (cs : List ℕ) → Plain (cellsFrom j at cs)
-cells-plain j at [] = passed-plain
-cells-plain j at (c ∷ cs) =
-    else-plain (unless (rightCell j c) wrongCell at) (cellsFrom (suc j) (suc at) cs) (unless-plain (rightCell j c) wrongCell at (omega arith) (omega arith))
-    (cells-plain (suc j) (suc at) cs)
+cells-plain : (ed : Edition) (j at : ℕ) (cs : List ℕ) → Plain (cellsFrom ed j at cs)
+cells-plain ed j at [] = passed-plain
+cells-plain ed j at (c ∷ cs) =
+    else-plain (unless (rightCellIn ed j c) wrongCell at) (cellsFrom ed (suc j) (suc at) cs)
+    (unless-plain (rightCellIn ed j c) wrongCell at (omega arith) (omega arith))
+    (cells-plain ed (suc j) (suc at) cs)
 
 record-plain : (s : Section) (at : ℕ) (r : List ℕ) → Plain (recordFault s at r)
 unfolding cellsFault atomFault nodeFault
-record-plain (Operators e) at r = cells-plain 0 at r
+record-plain (Operators e) at r = cells-plain e 0 at r
 record-plain (Atoms e) at r =
     else-plain (unless (rightAtomMatch e r) wrongMatch at) (unless (rightAtomAction e r) wrongAction at)
     (unless-plain (rightAtomMatch e r) wrongMatch at (omega arith) (omega arith))
@@ -156,7 +157,7 @@ module _ (e : Edition) (f : List ℕ) (a b c : ℕ) where
   )
 
   laws : Test
-  laws = lawsFault (nodesIn e f a b c) (operatorsIn e f a)
+  laws = lawsFault (nodesIn e f a b c) (operatorRows e (operatorsIn e f a))
 
   split : (r : Refusal) → answer (stages e f a b c) (layout a b c) ≡ Refused r → PlainRefusal r ⊎ (Stages e f a b c × (laws ≡ Failed r))
   unfolding stages wholeStages before laws
@@ -240,7 +241,7 @@ refused-plain-as e f r g n =
     let c : ℕ = getD f (nodesAtIn e a b) 0 in
     ⊎-elim
     (λ h. h)
-    (λ h. absurd (n (first-broken (nodesIn e f a b c) 0 (operatorsIn e f a) r (h .1) .number)))
+    (λ h. absurd (n (first-broken (nodesIn e f a b c) 0 (operatorRows e (operatorsIn e f a)) r (h .1) .number)))
     (split e f a b c r g)
 
 -- THE LAST STAGE'S SHOWS A BROKEN LAW
@@ -250,7 +251,9 @@ refused-law-as e f r g n =
     let a : ℕ = getD f (headerLengthIn e) 0 in
     let b : ℕ = getD f (atomsAtIn e a) 0 in
     let c : ℕ = getD f (nodesAtIn e a b) 0 in
-    let os : List (List ℕ) = operatorsIn e f a in
+    let raw : List (List ℕ) = operatorsIn e f a in
+    let os : List (List ℕ) = operatorRows e raw in
+    let counted : length raw ≡ a = length-records a (operatorLengthIn e) (drop (headerLengthIn e + 1) f) in
     let ns : List (List ℕ) = nodesIn e f a b c in
     ⊎-elim
     (λ h. absurd (omega (arith, h .1)))
@@ -259,7 +262,7 @@ refused-law-as e f r g n =
     let o : OtherwiseIn e f a b c = otherwise-of e f a b c refl refl refl (h .0) in
     let z : r .place ≡ w .at = omega (arith, w .place) in
     let y : 0 + w .at ≡ w .at = omega arith in
-    let many : length os ≡ a = length-records a (operatorLengthIn e) (drop (headerLengthIn e + 1) f) in
+    let many : length os ≡ a = operators-many e raw ∙ counted in
     record {
       operators = a;
       atoms = b;
@@ -270,7 +273,7 @@ refused-law-as e f r g n =
       shows = rw z (w .shows);
       first-such = λ i l t.
           let v : 0 + i ≡ i = omega arith in
-          search-exact (operatorAt os i) (right-codes (getD os i []) (λ j m. o .cells i j (omega (arith, w .within)) (rw operator-cells m))) .0
+          search-exact (operatorAt os i) (right-operators e raw a counted (o .cells) i (omega (arith, w .within))) .0
           (w .quiet i (omega arith) (rw v t));
     })
     (split e f a b c r g)
@@ -285,12 +288,14 @@ last-answer (Failed r) l n = (r, refl, refl)
 pub broken-refused-as : BrokenRefusedAs
 unfolding readAs stages wholeStages answer lawsFault
 broken-refused-as e f a b c o n =
-    let os : List (List ℕ) = operatorsIn e f a in
+    let raw : List (List ℕ) = operatorsIn e f a in
+    let os : List (List ℕ) = operatorRows e raw in
+    let counted : length raw ≡ a = length-records a (operatorLengthIn e) (drop (headerLengthIn e + 1) f) in
     let ns : List (List ℕ) = nodesIn e f a b c in
     let s : Stages e f a b c = of-otherwise e f a b c o in
     let w : (r : Refusal) × (answer (lawsFrom ns 0 os ∷ []) (layout a b c) ≡ Refused r) × (lawsFrom ns 0 os ≡ Failed r) =
     last-answer (lawsFrom ns 0 os) (layout a b c)
-    (λ p. n (laws-kept a os ns (length-records a (operatorLengthIn e) (drop (headerLengthIn e + 1) f)) (λ i j h m. o .cells i j h (rw operator-cells m))
+    (λ p. n (laws-kept a os ns (operators-many e raw ∙ counted) (right-operators e raw a counted (o .cells))
     (λ i h. o .right-nodes i (rw length-records at h)) p)) in (
       w .0,
       rw (o .operators .count, o .atoms .count, o .nodes .count, s .header, s .operators, s .atoms, s .nodes, s .extra, s .tree, s .sum) (w .1),

@@ -18,6 +18,7 @@ use Rattle.flow.specs.declared.Match.{Match}
 use Rattle.action.specs.declared.Action.{Action}
 use Rattle.policy.specs.Numbers.{latest}
 use Rattle.policy.specs.Atom.{atomRow}
+use Rattle.policy.specs.Cells.{operatorRows}
 use Rattle.policy.specs.Read.{cellsOf, innerOf, parentOf, siblingOf, ownOf, childrenOf}
 use Rattle.policy.specs.Read.{operatorsIn, atomsIn, nodesIn}
 use Rattle.policy.specs.declared.Edition.{Edition}
@@ -56,7 +57,8 @@ atomsOfIn e f l = map (λ r. rowOf (atomRow e r)) (atomsIn e f (l .operators) (l
 -- the nodes of a file
 abbrev pub fileNodesIn : Edition → List ℕ → Layout → List (Listed PolicyNode)
 fileNodesIn e f l =
-    held (operatorsIn e f (l .operators)) (atomsOfIn e f l) (nodesIn e f (l .operators) (l .atoms) (l .nodes))
+    held (operatorRows e (operatorsIn e f (l .operators))) (atomsOfIn e f l)
+    (nodesIn e f (l .operators) (l .atoms) (l .nodes))
 
 -- the first tree of a forest; a forest without trees has none, and a node that holds nothing stands for it
 abbrev pub firstTree : Forest PolicyNode → PolicyTree

@@ -22,11 +22,11 @@ use mathlib.Core.Logic.{_↔_, _⊎_}
 use lib.Dec.{eqb}
 use lib.ListN.{getD, length, take, drop}
 use Rattle.words.specs.Records.{records}
-use Rattle.action.specs.Operator.{rightCell}
 use Rattle.policy.specs.Numbers.{headerLengthIn, operatorLengthIn, deepest}
 use Rattle.policy.specs.Numbers.{short, wrongCount, wrongCell, wrongMatch, wrongAction, wrongNode}
 use Rattle.policy.specs.Numbers.{extraWords, noTree, wrongSum}
 use Rattle.policy.specs.Atom.{rightAtomMatch, rightAtomAction}
+use Rattle.policy.specs.Cells.{rightCellIn}
 use Rattle.policy.specs.Read.{plain, recordLength, least, most, childrenOf, ownAtoms, readAs}
 use Rattle.policy.specs.Read.{atomsAtIn, nodesAtIn, endIn, nodesIn}
 use Rattle.policy.specs.File.{fileNodesIn}
@@ -45,7 +45,7 @@ pub record FirstWrong (Right : ℕ → Type 0) (n i : ℕ) : Type 0 where
 
 -- a record of a section is right: each cell of an operator, an atom's match and action, a node's indexes and counts
 abbrev pub RightRecord : Section → List ℕ → Type 0
-RightRecord (Operators e) r = (j : ℕ) → j < operatorLengthIn e → rightCell j (getD r j 0) ≡ true
+RightRecord (Operators e) r = (j : ℕ) → j < operatorLengthIn e → rightCellIn e j (getD r j 0) ≡ true
 RightRecord (Atoms e) r = (rightAtomMatch e r ≡ true) × (rightAtomAction e r ≡ true)
 RightRecord (Nodes a) r = RightNode a r
 
@@ -61,7 +61,7 @@ pub record Good (f : List ℕ) (at : ℕ) (s : Section) (n : ℕ) : Type 0 where
 -- what is due to a wrong record r that begins at a place
 pub data RecordDue (at : ℕ) (r : List ℕ) : Section → ℕ → ℕ → Type 0 where
   -- an operator: 3 at the word of its first wrong cell
-  cell : {e : Edition} {j : ℕ} → FirstWrong (λ i. rightCell i (getD r i 0) ≡ true) (operatorLengthIn e) j
+  cell : {e : Edition} {j : ℕ} → FirstWrong (λ i. rightCellIn e i (getD r i 0) ≡ true) (operatorLengthIn e) j
       → RecordDue at r (Operators e) wrongCell (at + j)
   -- an atom: 4 at its first word if its match is wrong, whatever its action is; 5 there if only its action is
   match : {e : Edition} → rightAtomMatch e r ≡ false → RecordDue at r (Atoms e) wrongMatch at

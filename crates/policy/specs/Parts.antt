@@ -7,7 +7,7 @@
 --   layoutOfParts P    how many there are of each
 --   EachLong k rs      each record has k words
 --   RightPartsIn e P   the parts are right, but for the laws
---   LawfulParts P      the operators keep the laws where nodes name them as inner or sibling
+--   LawfulPartsIn e P  the operators keep the laws where nodes name them as inner or sibling
 use Prim.Native.Nat.{ℕ, _≤_, _<_}
 use mathlib.Core.Path.{_≡_}
 use mathlib.Core.Bool.{true}
@@ -15,10 +15,10 @@ use mathlib.Core.List.{List, [], _∷_, _++_, map}
 use lib.ListN.{getD, length}
 use Rattle.words.specs.Records.{flat}
 use Rattle.row.specs.Row.{rowOf}
-use Rattle.action.specs.Operator.{rightCell}
 use Rattle.policy.specs.Numbers.{headerOf, operatorLengthIn, atomLengthIn, nodeLength}
 use Rattle.policy.specs.Numbers.{mostOperators, mostAtoms, mostNodes}
 use Rattle.policy.specs.Atom.{atomRow, rightAtomMatch, rightAtomAction}
+use Rattle.policy.specs.Cells.{rightCellIn, operatorRows}
 use Rattle.policy.specs.Read.{ownAtoms, operatorsIn, atomsIn, nodesIn, layout}
 use Rattle.policy.specs.File.{held}
 use Rattle.policy.specs.WellFormed.{OneTree, RightNode, LawsKept}
@@ -71,13 +71,13 @@ pub record RightPartsIn (e : Edition) (P : Parts) : Type 0 where
   pub some-nodes : 1 ≤ length (P .nodes)
   pub few-nodes : length (P .nodes) ≤ mostNodes
   pub cells : (i j : ℕ) → i < length (P .operators) → j < operatorLengthIn e
-      → rightCell j (getD (getD (P .operators) i []) j 0) ≡ true
+      → rightCellIn e j (getD (getD (P .operators) i []) j 0) ≡ true
   pub matches : (i : ℕ) → i < length (P .atoms) → rightAtomMatch e (getD (P .atoms) i []) ≡ true
   pub actions : (i : ℕ) → i < length (P .atoms) → rightAtomAction e (getD (P .atoms) i []) ≡ true
   pub right-nodes : (i : ℕ) → i < length (P .nodes) → RightNode (length (P .operators)) (getD (P .nodes) i [])
-  pub one-tree : OneTree (held (P .operators) (map (λ r. rowOf (atomRow e r)) (P .atoms)) (P .nodes))
+  pub one-tree : OneTree (held (operatorRows e (P .operators)) (map (λ r. rowOf (atomRow e r)) (P .atoms)) (P .nodes))
   pub all-taken : ownAtoms (P .nodes) ≡ length (P .atoms)
 
 -- the operators keep the laws where nodes name them as inner or sibling
-abbrev pub LawfulParts : Parts → Type 0
-LawfulParts P = LawsKept (P .operators) (P .nodes)
+abbrev pub LawfulPartsIn : Edition → Parts → Type 0
+LawfulPartsIn e P = LawsKept (operatorRows e (P .operators)) (P .nodes)

@@ -23,7 +23,6 @@ use mathlib.Core.List.{List, [], _∷_, map}
 use lib.Dec.{eqb, leb, ltb}
 use lib.ListN.{getD, length, drop}
 use Rattle.words.specs.Records.{records}
-use Rattle.action.specs.Operator.{rightCell}
 use Rattle.action.specs.Laws.{lawSearch}
 use Rattle.action.specs.declared.Action.the-variants.{DontCare}
 use Rattle.action.specs.declared.Law.the-variants.{Unnamed}
@@ -34,6 +33,7 @@ use Rattle.policy.specs.Numbers.{mostOperators, mostAtoms, mostNodes, mo
 use Rattle.policy.specs.Numbers.{short, wrongCount, wrongCell, wrongMatch, wrongAction, wrongNode}
 use Rattle.policy.specs.Numbers.{extraWords, noTree, wrongSum, lawBroken}
 use Rattle.policy.specs.Atom.{rightAtomMatch, rightAtomAction}
+use Rattle.policy.specs.Cells.{rightCellIn, operatorRows}
 use Rattle.policy.specs.declared.Edition.{Edition}
 use Rattle.policy.specs.declared.Edition.the-variants.{First}
 use Rattle.policy.specs.declared.Layout.{Layout}
@@ -92,13 +92,13 @@ countFault f at s =
     (unless (leb (least s) (getD f at 0) && leb (getD f at 0) (most s)) wrongCount at)
 
 -- the cells from the j-th on are right, the first of them at a place
-abbrev pub cellsFrom : ℕ → ℕ → List ℕ → Test
-cellsFrom j at [] = Passed
-cellsFrom j at (c ∷ cs) = _else_ (unless (rightCell j c) wrongCell at) (cellsFrom (suc j) (suc at) cs)
+abbrev pub cellsFrom : Edition → ℕ → ℕ → List ℕ → Test
+cellsFrom e j at [] = Passed
+cellsFrom e j at (c ∷ cs) = _else_ (unless (rightCellIn e j c) wrongCell at) (cellsFrom e (suc j) (suc at) cs)
 
 -- the cells of an operator are right
-unfoldable pub cellsFault : ℕ → List ℕ → Test
-cellsFault at r = cellsFrom 0 at r
+unfoldable pub cellsFault : Edition → ℕ → List ℕ → Test
+cellsFault e at r = cellsFrom e 0 at r
 
 -- the match of an atom is right, then its action
 unfoldable pub atomFault : Edition → ℕ → List ℕ → Test
@@ -134,7 +134,7 @@ nodeFault operators at r =
 
 -- a record of a section is right
 abbrev pub recordFault : Section → ℕ → List ℕ → Test
-recordFault (Operators e) at r = cellsFault at r
+recordFault (Operators e) at r = cellsFault e at r
 recordFault (Atoms e) at r = atomFault e at r
 recordFault (Nodes n) at r = nodeFault n at r
 
@@ -271,7 +271,7 @@ wholeStages e f h a b c q =
     extraFault f (behind q (Nodes a) c)
     ∷ shapeFault ns
     ∷ sumFault ns b
-    ∷ lawsFault ns (records a (operatorLengthIn e) (drop (h + 1) f))
+    ∷ lawsFault ns (operatorRows e (records a (operatorLengthIn e) (drop (h + 1) f)))
     ∷ []
 
 -- the stages of reading a file of a operators, b atoms and c nodes, in order

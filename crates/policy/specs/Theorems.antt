@@ -11,9 +11,10 @@ use Rattle.action.specs.Laws.{Shows}
 use Rattle.policy.specs.Numbers.{latest, deepest, lawBroken}
 use Rattle.policy.specs.Read.{operatorsIn, nodesIn, operatorRecords, nodeRecords}
 use Rattle.policy.specs.Read.{plain, named, layout, readAs, readOf}
+use Rattle.policy.specs.Cells.{operatorRows}
 use Rattle.policy.specs.File.{operatorAt, atomsOf, fileNodes, treeOf, allAtoms}
 use Rattle.policy.specs.WellFormed.{depth, OtherwiseIn, Otherwise, LawsKept, KeepsLaws, WellFormedIn, WellFormed}
-use Rattle.policy.specs.Parts.{Parts, fileWordsIn, partsIn, layoutOfParts, RightPartsIn, LawfulParts}
+use Rattle.policy.specs.Parts.{Parts, fileWordsIn, partsIn, layoutOfParts, RightPartsIn, LawfulPartsIn}
 use Rattle.policy.specs.declared.Edition.{Edition}
 use Rattle.policy.specs.declared.Layout.{Layout}
 use Rattle.policy.specs.declared.Reading.the-variants.{Accepted, Refused}
@@ -50,9 +51,10 @@ pub record BrokenLawIn (e : Edition) (f : List ℕ) (r : Refusal) : Type 0 where
   pub otherwise : OtherwiseIn e f operators atoms nodes
   pub within : r .place < operators
   pub used : named (r .place) (nodesIn e f operators atoms nodes) ≡ true
-  pub shows : Shows (operatorAt (operatorsIn e f operators) (r .place)) (r .law) (r .first) (r .second) (r .third)
+  pub shows : Shows (operatorAt (operatorRows e (operatorsIn e f operators)) (r .place)) (r .law) (r .first) (r .second)
+      (r .third)
   pub first-such : (i : ℕ) → i < r .place → named i (nodesIn e f operators atoms nodes) ≡ true
-      → KeepsLaws (operatorAt (operatorsIn e f operators) i)
+      → KeepsLaws (operatorAt (operatorRows e (operatorsIn e f operators)) i)
 
 abbrev pub BrokenLaw : List ℕ → Refusal → Type 0
 BrokenLaw f r = BrokenLawIn latest f r
@@ -68,7 +70,7 @@ RefusedLaw = (f : List ℕ) (r : Refusal) → readOf f ≡ Refused r → r .numb
 
 abbrev pub BrokenRefusedAs : Type 0
 BrokenRefusedAs = (e : Edition) (f : List ℕ) (a b c : ℕ) → OtherwiseIn e f a b c
-    → ¬ LawsKept (operatorsIn e f a) (nodesIn e f a b c)
+    → ¬ LawsKept (operatorRows e (operatorsIn e f a)) (nodesIn e f a b c)
     → (r : Refusal) × (readAs e f ≡ Refused r) × (r .number ≡ lawBroken)
 
 abbrev pub BrokenRefused : Type 0
@@ -86,13 +88,13 @@ RefusedPlain = (f : List ℕ) (r : Refusal) → readOf f ≡ Refused r → ¬ (r
 
 -- the file that right and lawful parts make is accepted, with their layout (parts-accepted)
 abbrev pub PartsAccepted : Type 0
-PartsAccepted = (e : Edition) (P : Parts) → RightPartsIn e P → LawfulParts P
+PartsAccepted = (e : Edition) (P : Parts) → RightPartsIn e P → LawfulPartsIn e P
     → readAs e (fileWordsIn e P) ≡ Accepted (layoutOfParts P)
 
 -- and an accepted file's parts are right and lawful (accepted-parts)
 abbrev pub AcceptedParts : Type 0
 AcceptedParts = (e : Edition) (f : List ℕ) (l : Layout) → readAs e f ≡ Accepted l
-    → RightPartsIn e (partsIn e f l) × LawfulParts (partsIn e f l)
+    → RightPartsIn e (partsIn e f l) × LawfulPartsIn e (partsIn e f l)
 
 -- a file well formed but for the laws is what its parts make (parts-whole)
 abbrev pub PartsWhole : Type 0

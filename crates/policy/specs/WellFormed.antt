@@ -14,7 +14,6 @@ use mathlib.Core.List.{List, []}
 use lib.ListN.{getD, length, take}
 use Rattle.theory.specs.Tree.{Tree, Forest, node, bare, _▸_}
 use Rattle.theory.specs.Nodes.{Listed, listTree}
-use Rattle.action.specs.Operator.{rightCell}
 use Rattle.action.specs.Laws.{Commutative, Associative}
 use Rattle.policy.specs.Numbers.{latest, headerLengthIn, headerOf, operatorLengthIn, atomLengthIn, nodeLength}
 use Rattle.policy.specs.Numbers.{mostOperators, mostAtoms, mostNodes, mostChildren, deepest}
@@ -22,6 +21,7 @@ use Rattle.policy.specs.Read.{innerOf, parentOf, siblingOf, ownOf, child
 use Rattle.policy.specs.Read.{atomsAtIn, nodesAtIn, endIn, operatorsIn, atomsIn, nodesIn}
 use Rattle.policy.specs.File.{operatorAt, fileNodesIn}
 use Rattle.policy.specs.Atom.{rightAtomMatch, rightAtomAction}
+use Rattle.policy.specs.Cells.{rightCellIn, operatorRows}
 use Rattle.policy.specs.declared.Edition.{Edition}
 use Rattle.policy.specs.declared.Layout.{Layout}
 
@@ -72,7 +72,8 @@ pub record OtherwiseIn (e : Edition) (f : List ℕ) (a b c : ℕ) : Type 0 where
   pub operators : Present f (headerLengthIn e) 1 mostOperators (operatorLengthIn e) a
   pub atoms : Present f (atomsAtIn e a) 0 mostAtoms (atomLengthIn e) b
   pub nodes : Present f (nodesAtIn e a b) 1 mostNodes nodeLength c
-  pub cells : (i j : ℕ) → i < a → j < operatorLengthIn e → rightCell j (getD (getD (operatorsIn e f a) i []) j 0) ≡ true
+  pub cells : (i j : ℕ) → i < a → j < operatorLengthIn e
+      → rightCellIn e j (getD (getD (operatorsIn e f a) i []) j 0) ≡ true
   pub matches : (i : ℕ) → i < b → rightAtomMatch e (getD (atomsIn e f a b) i []) ≡ true
   pub actions : (i : ℕ) → i < b → rightAtomAction e (getD (atomsIn e f a b) i []) ≡ true
   pub right-nodes : (i : ℕ) → i < c → RightNode a (getD (nodesIn e f a b c) i [])
@@ -88,7 +89,8 @@ LawsKept os ns = (i : ℕ) → i < length ns
 -- a well-formed file of an edition
 pub record WellFormedIn (e : Edition) (f : List ℕ) (l : Layout) : Type 0 where
   pub otherwise : OtherwiseIn e f (l .operators) (l .atoms) (l .nodes)
-  pub lawful : LawsKept (operatorsIn e f (l .operators)) (nodesIn e f (l .operators) (l .atoms) (l .nodes))
+  pub lawful : LawsKept (operatorRows e (operatorsIn e f (l .operators)))
+      (nodesIn e f (l .operators) (l .atoms) (l .nodes))
 
 -- the same for the newest edition
 abbrev pub Otherwise : List ℕ → ℕ → ℕ → ℕ → Type 0

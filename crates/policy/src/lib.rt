@@ -16,6 +16,7 @@ use words::word;
 
 mod atoms;
 mod laws;
+mod operators;
 mod places;
 mod sections;
 mod shape;

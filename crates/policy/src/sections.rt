@@ -19,11 +19,11 @@ use crate::WRONG_CELL;
 use crate::WRONG_COUNT;
 use crate::WRONG_NODE;
 use crate::atoms;
+use crate::operators::right_cell_in;
 use crate::places::behind;
 use crate::places::record_words;
 use action::Action;
 use action::Law;
-use action::right_cell;
 use words::word;
 
 // How many records a section may have.
@@ -101,21 +101,21 @@ fn record_fault(words: &[u32], at: usize, section: Section) -> Test
     ensures { λ r. ⌜ r ≡ recordFault section at (now (words .entry)) ⌝ }
 {
     match section {
-        Section::Operators(_) => cells_fault(words, at),
+        Section::Operators(edition) => cells_fault(words, at, edition),
         Section::Atoms(edition) => atoms::atom_fault(words, at, edition),
         Section::Nodes(operators) => node_fault(words, at, operators),
     }
 }
 
 // The first wrong cell of an operator.
-fn cells_fault(operator: &[u32], at: usize) -> Test
+fn cells_fault(operator: &[u32], at: usize, edition: Edition) -> Test
     requires { ⌜ at + length (now operator) < 2 ^ 64 ⌝ }
-    ensures { λ r. ⌜ r ≡ cellsFault at (now (operator .entry)) ⌝ }
+    ensures { λ r. ⌜ r ≡ cellsFault edition at (now (operator .entry)) ⌝ }
 {
     let mut j = 0;
     // The first j cells are right.
     while j < operator.len() {
-        let found = unless(right_cell(j, operator[j]), WRONG_CELL, at + j);
+        let found = unless(right_cell_in(j, operator[j], edition), WRONG_CELL, at + j);
         if let Test::Failed(_) = found {
             return found;
         }

@@ -8,6 +8,7 @@ use denote.Ref.{now}
 use lib.ListN.{length, drop}
 use Rattle.words.specs.Records.{records}
 use Rattle.policy.specs.Numbers.{nodeLength, mostOperators}
+use Rattle.policy.specs.Cells.{operatorRows}
 use Rattle.policy.specs.Read.{lawsFrom, lawsFault}
 use Rattle.policy.proofs.Nodes.{law-broken, law-kept, laws-kept}
 use Rattle.policy.proofs.Records.{fits}
@@ -15,13 +16,13 @@ use Rattle.policy.proofs.laws.laws_fault.Statement.{statement}
 use Rattle.policy.proofs.laws.laws_fault.Tie as tie
 
 abbrev Inv-loop : tie.InvT-loop
-Inv-loop file h operators at count step i₀ from₀ left₀ i from left =
+Inv-loop file edition h operators at count step i₀ from₀ left₀ i from left =
     ((from + step * left ≤ length file) × (at + nodeLength * count ≤ length file) × (i + left ≤ operators) × (operators ≤ mostOperators))
-    × (lawsFrom (records count nodeLength (drop at file)) i (records left step (drop from file))
-    ≡ lawsFault (records count nodeLength (drop at file)) (records operators step (drop (h + 1) file)))
+    × (lawsFrom (records count nodeLength (drop at file)) i (operatorRows edition (records left step (drop from file)))
+    ≡ lawsFault (records count nodeLength (drop at file)) (operatorRows edition (records operators step (drop (h + 1) file))))
 
 abbrev μ-loop : tie.MeasureT-loop
-μ-loop file h operators at count step i₀ from₀ left₀ i from left = left
+μ-loop file edition h operators at count step i₀ from₀ left₀ i from left = left
 
 operator-words-requires : tie.Need-operator-words-requires Inv-loop μ-loop
 operator-words-requires c κs = search needs
@@ -58,9 +59,10 @@ returns : tie.Need-returns Inv-loop μ-loop
 returns c =
     let l = c .before .before .before .before .before .loop in
     let g = c .before .before .before .before .before .before .before .before .args in
-    law-broken (records (g .count) nodeLength (drop (g .at) (now (g .file)))) _ (l .i) (l .from) (l .left) (now (g .file)) _ (l .inv .1)
+    law-broken (g .edition) (records (g .count) nodeLength (drop (g .at) (now (g .file)))) _ (l .i) (l .from) (l .left) (now (g .file)) _ (l .inv .1)
     (c .before .before .before .before .loop-test .taken) _ (c .before .before .operator-fault .ensures) _ (c .enum-told .given .1)
-    ∙ ap (λ k. lawsFault (records (g .count) nodeLength (drop (g .at) (now (g .file)))) (records (g .operators) k (drop (g .h + 1) (now (g .file)))))
+    ∙ ap (λ k. lawsFault (records (g .count) nodeLength (drop (g .at) (now (g .file))))
+    (operatorRows (g .edition) (records (g .operators) k (drop (g .h + 1) (now (g .file))))))
     (c .before .before .before .before .before .before .operator-words .ensures)
 
 enum-told-2 : tie.Need-enum-told-2 Inv-loop μ-loop
@@ -81,7 +83,7 @@ loop-again c =
     let g = c .before .before .before .before .before .before .before .before .args in
     let m = fits _ (l .from) (l .left) _ (c .before .before .before .before .loop-test .taken) (l .inv .0 .0) in (
       omega (arith, m .others),
-      law-kept (records (g .count) nodeLength (drop (g .at) (now (g .file)))) _ (l .i) (l .from) (l .left) (now (g .file)) _
+      law-kept (g .edition) (records (g .count) nodeLength (drop (g .at) (now (g .file)))) _ (l .i) (l .from) (l .left) (now (g .file)) _
           (l .inv .1) (c .before .before .before .before .loop-test .taken) _ (c .before .before .operator-fault .ensures) (c .enum-told2 .given .1),
     )
 
@@ -89,8 +91,10 @@ returns-2 : tie.Need-returns-2 Inv-loop μ-loop
 returns-2 c =
     let l = c .before .loop in
     let g = c .before .before .before .before .args in
-    laws-kept (records (g .count) nodeLength (drop (g .at) (now (g .file)))) _ (l .i) (l .from) (l .left) (now (g .file)) _ (l .inv .1) (c .loop-test .left)
-    ∙ ap (λ k. lawsFault (records (g .count) nodeLength (drop (g .at) (now (g .file)))) (records (g .operators) k (drop (g .h + 1) (now (g .file)))))
+    laws-kept (g .edition) (records (g .count) nodeLength (drop (g .at) (now (g .file)))) _ (l .i) (l .from) (l .left) (now (g .file)) _ (l .inv .1)
+    (c .loop-test .left)
+    ∙ ap (λ k. lawsFault (records (g .count) nodeLength (drop (g .at) (now (g .file))))
+    (operatorRows (g .edition) (records (g .operators) k (drop (g .h + 1) (now (g .file))))))
     (c .before .before .operator-words .ensures)
 
 pub laws-fault-spec : {M : Type 1} → statement M
