@@ -4,14 +4,8 @@ use borrow.Author.Needs.{needs}
 use Rattle.policy.proofs.extra_fault.Statement.{statement}
 use Rattle.policy.proofs.extra_fault.Tie as tie
 
-behind-requires : tie.Need-behind-requires
-behind-requires c κs = search needs
-
-unless-requires : tie.Need-unless-requires
-unless-requires c κs = search needs
-
 returns : tie.Need-returns
 returns c = rw (c .unless .ensures, c .before .behind .ensures)
 
 pub extra-fault-spec : {M : Type 1} → statement M
-extra-fault-spec = tie.close (tie.spec behind-requires unless-requires returns)
+extra-fault-spec = tie.close (tie.spec (search needs) (search needs) returns)

@@ -11,21 +11,9 @@ use Rattle.policy.proofs.Passed.{header-long}
 use Rattle.policy.proofs.read_as.Statement.{statement}
 use Rattle.policy.proofs.read_as.Tie as tie
 
-header-fault-requires : tie.Need-header-fault-requires
-header-fault-requires c κs = search needs
-
-enum-known-found : tie.Need-enum-known-found
-enum-known-found c = search needs
-
 returns : tie.Need-returns
 unfolding readAs stages
 returns c = stop _ _ _ _ (c .before .before .before .header-fault .ensures) _ (c .before .found .given .1)
-
-enum-told : tie.Need-enum-told
-enum-told c = search needs
-
-header-words-requires : tie.Need-header-words-requires
-header-words-requires c κs = search needs
 
 read-operators-requires : tie.Need-read-operators-requires
 read-operators-requires c κs =
@@ -47,11 +35,4 @@ returns-2 c =
 pub read-as-spec : {M : Type 1} → statement M
 read-as-spec =
     tie.close
-    (tie.spec
-    header-fault-requires
-    enum-known-found
-    returns
-    enum-told
-    header-words-requires
-    read-operators-requires
-    returns-2)
+    (tie.spec (search needs) (search needs) returns (search needs) (search needs) read-operators-requires returns-2)

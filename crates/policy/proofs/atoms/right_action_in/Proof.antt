@@ -12,11 +12,8 @@ slice-aggregate-right-row-action c =
     let g = c .before .before in
     row-long _ (now (g .args .atom)) (one-edition (g .args .edition)) (g .pre)
 
-right-row-action-requires : tie.Need-right-row-action-requires
-right-row-action-requires c κs = search needs
-
 returns : tie.Need-returns
 returns c = rw (one-edition (c .before .before .before .args .edition), c .right-row-action .ensures, action-first)
 
 pub right-action-in-spec : {M : Type 1} → statement M
-right-action-in-spec = tie.close (tie.spec slice-aggregate-right-row-action right-row-action-requires returns)
+right-action-in-spec = tie.close (tie.spec slice-aggregate-right-row-action (search needs) returns)

@@ -12,11 +12,8 @@ slice-aggregate-right-row-match c =
     let g = c .before .before in
     row-long _ (now (g .args .atom)) (one-edition (g .args .edition)) (g .pre)
 
-right-row-match-requires : tie.Need-right-row-match-requires
-right-row-match-requires c κs = search needs
-
 returns : tie.Need-returns
 returns c = rw (one-edition (c .before .before .before .args .edition), c .right-row-match .ensures, match-first)
 
 pub right-match-in-spec : {M : Type 1} → statement M
-right-match-in-spec = tie.close (tie.spec slice-aggregate-right-row-match right-row-match-requires returns)
+right-match-in-spec = tie.close (tie.spec slice-aggregate-right-row-match (search needs) returns)

@@ -5,18 +5,6 @@ use Rattle.policy.proofs.Nodes.{tested, untested}
 use Rattle.policy.proofs.laws.operator_fault.Statement.{statement}
 use Rattle.policy.proofs.laws.operator_fault.Tie as tie
 
-is-named-requires : tie.Need-is-named-requires
-is-named-requires c κs = search needs
-
-operator-in-requires : tie.Need-operator-in-requires
-operator-in-requires c κs = search needs
-
-law-search-requires : tie.Need-law-search-requires
-law-search-requires c κs = search needs
-
-broken-requires : tie.Need-broken-requires
-broken-requires c κs = search needs
-
 returns : tie.Need-returns
 returns c = tested _ _ _ _ (c .before .before .before .before .is-named .ensures) _ _ _ (c .before .before .before .if1 .taken)
     (c .before .before .operator-in .ensures) (c .before .law-search .ensures) (c .broken .ensures)
@@ -27,10 +15,4 @@ returns-2 c = untested _ _ _ _ (c .before .is-named .ensures) (c .if1 .left)
 pub operator-fault-spec : {M : Type 1} → statement M
 operator-fault-spec =
     tie.close
-    (tie.spec
-    is-named-requires
-    operator-in-requires
-    law-search-requires
-    broken-requires
-    returns
-    returns-2)
+    (tie.spec (search needs) (search needs) (search needs) (search needs) returns returns-2)

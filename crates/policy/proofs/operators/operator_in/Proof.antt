@@ -5,11 +5,8 @@ use Rattle.policy.proofs.Editions.{one-edition}
 use Rattle.policy.proofs.operators.operator_in.Statement.{statement}
 use Rattle.policy.proofs.operators.operator_in.Tie as tie
 
-operator-of-requires : tie.Need-operator-of-requires
-operator-of-requires c κs = search needs
-
 returns : tie.Need-returns
 returns c = rw (one-edition (c .before .before .args .edition)) (c .operator-of .ensures)
 
 pub operator-in-spec : {M : Type 1} → statement M
-operator-in-spec = tie.close (tie.spec operator-of-requires returns)
+operator-in-spec = tie.close (tie.spec (search needs) returns)

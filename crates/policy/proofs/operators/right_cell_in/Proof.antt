@@ -5,11 +5,8 @@ use Rattle.policy.proofs.Editions.{one-edition}
 use Rattle.policy.proofs.operators.right_cell_in.Statement.{statement}
 use Rattle.policy.proofs.operators.right_cell_in.Tie as tie
 
-right-cell-requires : tie.Need-right-cell-requires
-right-cell-requires c κs = search needs
-
 returns : tie.Need-returns
 returns c = rw (one-edition (c .before .args .edition)) (c .right-cell .ensures)
 
 pub right-cell-in-spec : {M : Type 1} → statement M
-right-cell-in-spec = tie.close (tie.spec right-cell-requires returns)
+right-cell-in-spec = tie.close (tie.spec (search needs) returns)

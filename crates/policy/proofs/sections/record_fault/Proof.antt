@@ -5,23 +5,8 @@ use Rattle.policy.proofs.Lengths.{atom-long}
 use Rattle.policy.proofs.sections.record_fault.Statement.{statement}
 use Rattle.policy.proofs.sections.record_fault.Tie as tie
 
-enum-known-section : tie.Need-enum-known-section
-enum-known-section c = search needs
-
-cells-fault-requires : tie.Need-cells-fault-requires
-cells-fault-requires c κs = search needs
-
-enum-known-section-2 : tie.Need-enum-known-section-2
-enum-known-section-2 c = search needs
-
 atom-fault-requires : tie.Need-atom-fault-requires
 atom-fault-requires c κs = atom-long _ _ _ (c .before .section2 .given .1) (c .before .before .before .before .pre .1)
-
-enum-known-section-3 : tie.Need-enum-known-section-3
-enum-known-section-3 c = search needs
-
-node-fault-requires : tie.Need-node-fault-requires
-node-fault-requires c κs = search needs
 
 returns : tie.Need-returns
 returns c = rw (c .before .before .section .given .1) (c .cells-fault .ensures)
@@ -35,13 +20,5 @@ returns-3 c = rw (c .before .before .section3 .given .1) (c .node-fault .ensures
 pub record-fault-spec : {M : Type 1} → statement M
 record-fault-spec =
     tie.close
-    (tie.spec
-    enum-known-section
-    cells-fault-requires
-    enum-known-section-2
-    atom-fault-requires
-    enum-known-section-3
-    node-fault-requires
-    returns
-    returns-2
-    returns-3)
+    (tie.spec (search needs) (search needs) (search needs) atom-fault-requires (search needs) (search needs) returns
+    returns-2 returns-3)
