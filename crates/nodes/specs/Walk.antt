@@ -12,7 +12,7 @@ use mathlib.Core.Path.{_≡_}
 use mathlib.Core.List.{List}
 use lib.ListN.{getD, take}
 use Rattle.theory.specs.Nodes.{Listed}
-use Rattle.policy.specs.Numbers.{atomLength}
+use Rattle.policy.specs.Numbers.{headerLength, atomLength}
 use Rattle.policy.specs.Read.{ownAtoms, nodesAt, nodeRecords, layout, readOf}
 use Rattle.policy.specs.Read as read
 use Rattle.policy.specs.File.{PolicyNode, fileNodes}
@@ -24,7 +24,7 @@ use Rattle.nodes.specs.declared.Spot.{Spot}
 -- the layout that a file's counts say
 abbrev pub layoutOf : List ℕ → Layout
 layoutOf f =
-    let a : ℕ = getD f 0 0 in
+    let a : ℕ = getD f headerLength 0 in
     let b : ℕ = getD f (read.atomsAt a) 0 in
     layout a b (getD f (nodesAt a b) 0)
 

@@ -14,12 +14,16 @@ use Rattle.theory.specs.Tree.{bare, _▸_}
 use Rattle.row.specs.Row.{rowOf}
 use Rattle.flow.specs.declared.Match.{Match}
 use Rattle.action.specs.declared.Action.{Action}
-use Rattle.policy.specs.Numbers.{operatorLength, atomLength, extraWords, wrongSum}
-use Rattle.policy.specs.Read.{unless, sectionFault, childrenOf, ownOf, shape, shapeFault, ownAtoms, sumFault, lawsFault, atomsAt, nodesAt, endOf, operatorRecords, atomRecords, nodeRecords, wholeStages, stages, layout, answer, readOf}
-use Rattle.policy.specs.File.{held, atomsOf, fileNodes, firstTree, treeOf, allAtoms}
-use Rattle.policy.specs.WellFormed.{OneTree, Otherwise, WellFormed}
+use Rattle.policy.specs.Numbers.{latest, headerLengthIn, operatorLengthIn, atomLength, extraWords, wrongSum}
+use Rattle.policy.specs.Read.{headerFault, sectionFault, childrenOf, ownOf, shape, shapeFault, ownAtoms, sumFault, lawsFault, extraFault}
+use Rattle.policy.specs.Read.{atomsAtIn, nodesAtIn, endIn, operatorsIn, nodesIn, atomsAt, operatorRecords, atomRecords, nodeRecords}
+use Rattle.policy.specs.Read.{wholeStages, stages, layout, answer, readAs}
+use Rattle.policy.specs.Cells.{operatorRows}
+use Rattle.policy.specs.File.{held, atomsOfIn, fileNodesIn, atomsOf, fileNodes, firstTree, treeOf, allAtoms}
+use Rattle.policy.specs.WellFormed.{OneTree, OtherwiseIn, WellFormedIn}
 use Rattle.policy.specs.Order.{GoodSections}
-use Rattle.policy.specs.Theorems.{AcceptedExactly, AcceptedTree, AcceptedAtoms}
+use Rattle.policy.specs.Theorems.{AcceptedAs, AcceptedExactly, AcceptedTree, AcceptedAtoms}
+use Rattle.policy.specs.declared.Edition.{Edition}
 use Rattle.policy.specs.declared.Layout.{Layout}
 use Rattle.policy.specs.declared.Reading.the-variants.{Accepted}
 use Rattle.policy.specs.declared.Section.the-variants.{Operators, Atoms, Nodes}
@@ -27,16 +31,17 @@ use Rattle.policy.specs.declared.Test.{Test}
 use Rattle.policy.specs.declared.Test.the-variants.{Passed, Failed}
 use Rattle.policy.proofs.Records.{unless-true}
 use Rattle.policy.proofs.Trees.{shape-one-tree, one-tree-shape, one-tree-planted}
-use Rattle.policy.proofs.Passed.{good-passed, passed-good, laws-kept, kept-laws}
+use Rattle.policy.proofs.Passed.{header-passed, passed-header, operators-many, right-operators, good-passed, passed-good, laws-kept, kept-laws}
 
 -- the stages that are passed, each by its name
-pub record Stages (f : List ℕ) (a b c : ℕ) : Type 0 where
-  pub operators : sectionFault f 0 Operators ≡ Passed
-  pub atoms : sectionFault f (atomsAt a) Atoms ≡ Passed
-  pub nodes : sectionFault f (nodesAt a b) (Nodes a) ≡ Passed
-  pub extra : unless (leb (length f) (endOf a b c)) extraWords (endOf a b c) ≡ Passed
-  pub tree : shapeFault (nodeRecords f a b c) ≡ Passed
-  pub sum : sumFault (nodeRecords f a b c) b ≡ Passed
+pub record Stages (e : Edition) (f : List ℕ) (a b c : ℕ) : Type 0 where
+  pub header : headerFault e f ≡ Passed
+  pub operators : sectionFault f (headerLengthIn e) (Operators e) ≡ Passed
+  pub atoms : sectionFault f (atomsAtIn e a) (Atoms e) ≡ Passed
+  pub nodes : sectionFault f (nodesAtIn e a b) (Nodes a) ≡ Passed
+  pub extra : extraFault f (endIn e a b c) ≡ Passed
+  pub tree : shapeFault (nodesIn e f a b c) ≡ Passed
+  pub sum : sumFault (nodesIn e f a b c) b ≡ Passed
 
 -- all of some stages are passed
 abbrev pub AllPassed : List Test → Type 0
@@ -50,31 +55,44 @@ all-passed [] l m e = (tt, cc)
 all-passed (Passed ∷ ts) l m e = let r : AllPassed ts × (l ≡ m) = all-passed ts l m e in ((refl, r .0), r .1)
 all-passed (Failed r ∷ ts) l m e = let z : _≡_ {A = ℕ} 0 1 = cc in absurd (omega arith)
 
-answer-passed : (f : List ℕ) (a b c : ℕ) (m : Layout) → answer (stages f a b c) (layout a b c) ≡ Accepted m
-    → Stages f a b c × (lawsFault (nodeRecords f a b c) (operatorRecords f a) ≡ Passed) × (layout a b c ≡ m)
+answer-passed : (e : Edition) (f : List ℕ) (a b c : ℕ) (m : Layout) → answer (stages e f a b c) (layout a b c) ≡ Accepted m
+    → Stages e f a b c × (lawsFault (nodesIn e f a b c) (operatorRows e (operatorsIn e f a)) ≡ Passed) × (layout a b c ≡ m)
 unfolding stages wholeStages
-answer-passed f a b c m e =
-    let r : AllPassed (stages f a b c) × (layout a b c ≡ m) = all-passed (stages f a b c) (layout a b c) m e in
-    let p : AllPassed (stages f a b c) = r .0 in
-    (record { operators = p .0; atoms = p .1 .0; nodes = p .1 .1 .0; extra = p .1 .1 .1 .0; tree = p .1 .1 .1 .1 .0; sum = p .1 .1 .1 .1 .1 .0 }, p .1 .1 .1 .1 .1 .1 .0, r .1)
+answer-passed e f a b c m g =
+    let r : AllPassed (stages e f a b c) × (layout a b c ≡ m) = all-passed (stages e f a b c) (layout a b c) m g in
+    let p : AllPassed (stages e f a b c) = r .0 in (
+      record {
+        header = p .0;
+        operators = p .1 .0;
+        atoms = p .1 .1 .0;
+        nodes = p .1 .1 .1 .0;
+        extra = p .1 .1 .1 .1 .0;
+        tree = p .1 .1 .1 .1 .1 .0;
+        sum = p .1 .1 .1 .1 .1 .1 .0;
+      },
+      p .1 .1 .1 .1 .1 .1 .1 .0,
+      r .1,
+    )
 
-passed-answer : (f : List ℕ) (a b c : ℕ) → Stages f a b c → lawsFault (nodeRecords f a b c) (operatorRecords f a) ≡ Passed
-    → answer (stages f a b c) (layout a b c) ≡ Accepted (layout a b c)
+passed-answer : (e : Edition) (f : List ℕ) (a b c : ℕ) → Stages e f a b c → lawsFault (nodesIn e f a b c) (operatorRows e (operatorsIn e f a)) ≡ Passed
+    → answer (stages e f a b c) (layout a b c) ≡ Accepted (layout a b c)
 unfolding stages wholeStages answer
-passed-answer f a b c s laws = rw (s .operators, s .atoms, s .nodes, s .extra, s .tree, s .sum, laws)
+passed-answer e f a b c s laws = rw (s .header, s .operators, s .atoms, s .nodes, s .extra, s .tree, s .sum, laws)
 
 -- the child counts of the nodes are those of their records
 held-children : (os : List (List ℕ)) (xs : List (Row Match Action)) (rs : List (List ℕ)) → map (λ n. n .childCount) (held os xs rs) ≡ map childrenOf rs
 held-children os xs [] = refl
 held-children os xs (r ∷ rs) = ap (λ l. childrenOf r ∷ l) (held-children os (drop (ownOf r) xs) rs)
 
-module _ (f : List ℕ) (a b c : ℕ) where
-  pub children-shape : shape (map (λ n. n .childCount) (fileNodes f (layout a b c))) (1 ∷ []) 0 ≡ shape (map childrenOf (nodeRecords f a b c)) (1 ∷ []) 0
-  children-shape = ap (λ ks. shape ks (1 ∷ []) 0) (held-children (operatorRecords f a) (atomsOf f (layout a b c)) (nodeRecords f a b c))
+module _ (e : Edition) (f : List ℕ) (a b c : ℕ) where
+  pub children-shape : shape (map (λ n. n .childCount) (fileNodesIn e f (layout a b c))) (1 ∷ []) 0 ≡ shape (map childrenOf (nodesIn e f a b c)) (1 ∷ []) 0
+  children-shape = ap (λ ks. shape ks (1 ∷ []) 0) (held-children (operatorRows e (operatorsIn e f a)) (atomsOfIn e f (layout a b c)) (nodesIn e f a b c))
 
   -- a file well formed but for the laws is one of good sections that ends with them, and whose nodes are one tree and take all atoms
-  pub good-otherwise : GoodSections f a b c → length f ≡ endOf a b c → OneTree (fileNodes f (layout a b c)) → ownAtoms (nodeRecords f a b c) ≡ b → Otherwise f a b c
+  pub good-otherwise : GoodSections e f a b c → length f ≡ endIn e a b c → OneTree (fileNodesIn e f (layout a b c)) → ownAtoms (nodesIn e f a b c) ≡ b
+      → OtherwiseIn e f a b c
   good-otherwise g ends tree sum = record {
+    header = g .header;
     operators = g .operators .present;
     atoms = g .atoms .present;
     nodes = g .nodes .present;
@@ -88,57 +106,70 @@ module _ (f : List ℕ) (a b c : ℕ) where
   }
 
   -- what the stages before the laws say
-  pub otherwise-of : a ≡ getD f 0 0 → b ≡ getD f (atomsAt a) 0 → c ≡ getD f (nodesAt a b) 0 → Stages f a b c → Otherwise f a b c
+  pub otherwise-of : a ≡ getD f (headerLengthIn e) 0 → b ≡ getD f (atomsAtIn e a) 0 → c ≡ getD f (nodesAtIn e a b) 0 → Stages e f a b c → OtherwiseIn e f a b c
   unfolding shapeFault sumFault
   otherwise-of p q w s =
-      let g : GoodSections f a b c = record {
-        operators = passed-good f 0 Operators a (sym p) (s .operators);
-        atoms = passed-good f (atomsAt a) Atoms b (sym q) (s .atoms);
-        nodes = passed-good f (nodesAt a b) (Nodes a) c (sym w) (s .nodes);
+      let g : GoodSections e f a b c = record {
+        header = header-passed e f (s .header);
+        operators = passed-good f (headerLengthIn e) (Operators e) a (sym p) (s .operators);
+        atoms = passed-good f (atomsAtIn e a) (Atoms e) b (sym q) (s .atoms);
+        nodes = passed-good f (nodesAtIn e a b) (Nodes a) c (sym w) (s .nodes);
       } in
-      let extra : length f ≤ endOf a b c = leb-true _ _ (unless-true (leb (length f) (endOf a b c)) extraWords (endOf a b c) (s .extra)) in
+      let extra : length f ≤ endIn e a b c = leb-true _ _ (unless-true (leb (length f) (endIn e a b c)) extraWords (endIn e a b c) (s .extra)) in
       good-otherwise g (omega (arith, g .nodes .present .whole))
-      (shape-one-tree (fileNodes f (layout a b c)) (children-shape ∙ s .tree))
-      (eqb-true _ _ (unless-true (eqb (ownAtoms (nodeRecords f a b c)) b) wrongSum 0 (s .sum)))
+      (shape-one-tree (fileNodesIn e f (layout a b c)) (children-shape ∙ s .tree))
+      (eqb-true _ _ (unless-true (eqb (ownAtoms (nodesIn e f a b c)) b) wrongSum 0 (s .sum)))
 
   -- and the other way round
-  pub of-otherwise : Otherwise f a b c → Stages f a b c
+  pub of-otherwise : OtherwiseIn e f a b c → Stages e f a b c
   unfolding shapeFault sumFault
   of-otherwise o = record {
-    operators = good-passed f 0 Operators a (record { present = o .operators; right = λ i l j m. o .cells i j l m });
-    atoms = good-passed f (atomsAt a) Atoms b (record { present = o .atoms; right = λ i l. (o .matches i l, o .actions i l) });
-    nodes = good-passed f (nodesAt a b) (Nodes a) c (record { present = o .nodes; right = o .right-nodes });
-    extra = rw (le-leb (length f) (endOf a b c) (omega (arith, o .ends)));
-    tree = sym children-shape ∙ one-tree-shape (fileNodes f (layout a b c)) (o .one-tree);
-    sum = rw (eq-eqb (ownAtoms (nodeRecords f a b c)) b (o .all-taken));
+    header = passed-header e f (o .header);
+    operators = good-passed f (headerLengthIn e) (Operators e) a (record { present = o .operators; right = λ i l j m. o .cells i j l m });
+    atoms = good-passed f (atomsAtIn e a) (Atoms e) b (record { present = o .atoms; right = λ i l. (o .matches i l, o .actions i l) });
+    nodes = good-passed f (nodesAtIn e a b) (Nodes a) c (record { present = o .nodes; right = o .right-nodes });
+    extra = rw (le-leb (length f) (endIn e a b c) (omega (arith, o .ends)));
+    tree = sym children-shape ∙ one-tree-shape (fileNodesIn e f (layout a b c)) (o .one-tree);
+    sum = rw (eq-eqb (ownAtoms (nodesIn e f a b c)) b (o .all-taken));
   }
 
 -- ACCEPTED EXACTLY WHEN WELL FORMED
-pub accepted-exactly : AcceptedExactly
-unfolding readOf lawsFault
-accepted-exactly f l = (well, accepts)
+pub accepted-as : AcceptedAs
+unfolding readAs lawsFault
+accepted-as e f l = (well, accepts)
   where
-    well : readOf f ≡ Accepted l → WellFormed f l
-    well e =
-        let a : ℕ = getD f 0 0 in
-        let b : ℕ = getD f (atomsAt a) 0 in
-        let c : ℕ = getD f (nodesAt a b) 0 in
-        let p = answer-passed f a b c l e in
-        let o : Otherwise f a b c = otherwise-of f a b c refl refl refl (p .0) in
+    well : readAs e f ≡ Accepted l → WellFormedIn e f l
+    well g =
+        let a : ℕ = getD f (headerLengthIn e) 0 in
+        let b : ℕ = getD f (atomsAtIn e a) 0 in
+        let c : ℕ = getD f (nodesAtIn e a b) 0 in
+        let p = answer-passed e f a b c l g in
+        let os : List (List ℕ) = operatorsIn e f a in
+        let raw : length os ≡ a = length-records a (operatorLengthIn e) (drop (headerLengthIn e + 1) f) in
+        let many : length (operatorRows e os) ≡ a = operators-many e os ∙ raw in
+        let o : OtherwiseIn e f a b c = otherwise-of e f a b c refl refl refl (p .0) in
         rw (← p .2) (record {
           otherwise = o;
-          lawful = laws-kept a (operatorRecords f a) (nodeRecords f a b c) (length-records a operatorLength (drop 1 f)) (o .cells) (λ i h. o .right-nodes i (rw length-records at h)) (p .1);
+          lawful = laws-kept a (operatorRows e os) (nodesIn e f a b c) many (right-operators e os a raw (o .cells))
+              (λ i h. o .right-nodes i (rw length-records at h)) (p .1);
         })
 
-    accepts : WellFormed f l → readOf f ≡ Accepted l
+    accepts : WellFormedIn e f l → readAs e f ≡ Accepted l
     accepts w =
         let a : ℕ = l .operators in
         let b : ℕ = l .atoms in
         let c : ℕ = l .nodes in
-        let o : Otherwise f a b c = w .otherwise in
+        let os : List (List ℕ) = operatorsIn e f a in
+        let raw : length os ≡ a = length-records a (operatorLengthIn e) (drop (headerLengthIn e + 1) f) in
+        let many : length (operatorRows e os) ≡ a = operators-many e os ∙ raw in
+        let o : OtherwiseIn e f a b c = w .otherwise in
         rw (o .operators .count, o .atoms .count, o .nodes .count)
-        (passed-answer f a b c (of-otherwise f a b c o)
-        (kept-laws a (operatorRecords f a) (nodeRecords f a b c) (length-records a operatorLength (drop 1 f)) (o .cells) (λ i h. o .right-nodes i (rw length-records at h)) (w .lawful)))
+        (passed-answer e f a b c (of-otherwise e f a b c o)
+        (kept-laws a (operatorRows e os) (nodesIn e f a b c) many (right-operators e os a raw (o .cells)) (λ i h. o .right-nodes i (rw length-records at h))
+        (w .lawful)))
+
+pub accepted-exactly : AcceptedExactly
+accepted-exactly f l = accepted-as latest f l
 
 -- ONE TREE, whose nodes in file order are the file's
 pub accepted-tree : AcceptedTree
@@ -164,7 +195,8 @@ accepted-atoms f l e =
     let os : List (List ℕ) = operatorRecords f (l .operators) in
     let xs : List (Row Match Action) = atomsOf f l in
     let rs : List (List ℕ) = nodeRecords f (l .operators) (l .atoms) (l .nodes) in
-    let many : length xs ≡ l .atoms = length-map (atomRecords f (l .operators) (l .atoms)) rowOf ∙ length-records (l .atoms) atomLength (drop (atomsAt (l .operators) + 1) f) in
+    let many : length xs ≡ l .atoms =
+    length-map (atomRecords f (l .operators) (l .atoms)) rowOf ∙ length-records (l .atoms) atomLength (drop (atomsAt (l .operators) + 1) f) in
     let sum : ownAtoms rs ≡ l .atoms = accepted-exactly f l .0 e .otherwise .all-taken in
     let none : drop (ownAtoms rs) xs ≡ [] = drop-of-length-le xs {i = ownAtoms rs} (omega arith) in
     sym (append-nil (allAtoms (held os xs rs))) ∙ ap (λ l. allAtoms (held os xs rs) ++ l) (sym none) ∙ taken os xs rs

@@ -1,3 +1,5 @@
+pub mod Editions
+pub mod Lengths
 pub mod Records
 pub mod Nodes
 pub mod Stack
@@ -7,5 +9,6 @@ pub mod Trees
 pub mod Passed
 pub mod Accepted
 pub mod Refused
+pub mod Parts
 pub mod Depths
 pub mod Order

@@ -2,15 +2,18 @@
 use Prim.Native.Nat.{ℕ, zero, suc, _+_, _-_, _≤_, _<_}
 use native.Mathlib.Omega.{arith}
 use native.Mathlib.Numerals.{add-one}
-use mathlib.Core.Path.{_≡_, sym, _∙_}
+use mathlib.Core.Path.{_≡_, refl, sym, _∙_}
 use mathlib.Core.Bool.{Bool, true, false, _||_}
-use mathlib.Core.List.{List}
+use mathlib.Core.List.{List, [], _∷_}
 use lib.ListN.{getD, take, drop}
 use Rattle.action.specs.Laws.{lawSearch}
 use Rattle.action.specs.declared.Lawful.{Lawful}
 use Rattle.words.specs.Records.{records}
 use Rattle.words.proofs.Records.{records-next, record-word}
 use Rattle.policy.specs.Read.{_else_, ownAtoms, names, named, broken, operatorFault, lawsFrom, cellsOf}
+use Rattle.policy.specs.Cells.{operatorRow, operatorRows}
+use Rattle.policy.specs.declared.Edition.{Edition}
+use Rattle.policy.specs.declared.Edition.the-variants.{First}
 use Rattle.policy.specs.declared.Refusal.{Refusal}
 use Rattle.policy.specs.declared.Test.{Test}
 use Rattle.policy.specs.declared.Test.the-variants.{Passed, Failed}
@@ -49,23 +52,32 @@ module _ (i from left : ℕ) (f : List ℕ) (v : Bool) (inv : named i (records l
       none-left zero g e = e
       none-left (suc n) g e = absurd (omega arith)
 
+-- the first operator in its newest form, and the others
+operators-next : (ed : Edition) (r : List ℕ) (rs : List (List ℕ)) → operatorRows ed (r ∷ rs) ≡ operatorRow ed r ∷ operatorRows ed rs
+operators-next First r rs = refl
+
+operators-none : (ed : Edition) → operatorRows ed [] ≡ []
+operators-none First = refl
+
 -- laws
-module _ (ns : List (List ℕ)) (i from left : ℕ) (f : List ℕ) (v : Test) (inv : lawsFrom ns i (records left 9 (drop from f)) ≡ v) where
-  module _ (m : 0 < left) (x : Test) (e : x ≡ operatorFault ns i (take (from + 9 - from) (drop from f))) where
-    next-law : v ≡ _else_ x (lawsFrom ns (i + 1) (records (left - 1) 9 (drop (from + 9) f)))
-    next-law = sym inv ∙ rw (records-next 9 from left f m, e, add-one i)
+module _ (ed : Edition) (ns : List (List ℕ)) (k i from left : ℕ) (f : List ℕ) (v : Test)
+    (inv : lawsFrom ns i (operatorRows ed (records left k (drop from f))) ≡ v) where
+  module _ (m : 0 < left) (x : Test) (e : x ≡ operatorFault ns i (operatorRow ed (take (from + k - from) (drop from f)))) where
+    next-law : v ≡ _else_ x (lawsFrom ns (i + 1) (operatorRows ed (records (left - 1) k (drop (from + k) f))))
+    next-law = sym inv ∙ rw
+        (records-next k from left f m, operators-next ed (take (from + k - from) (drop from f)) (records (left - 1) k (drop (from + k) f)), e, add-one i)
 
     pub law-broken : (r : Refusal) → x ≡ Failed r → x ≡ v
     law-broken r g = cc next-law
 
-    pub law-kept : x ≡ Passed → lawsFrom ns (i + 1) (records (left - 1) 9 (drop (from + 9) f)) ≡ v
+    pub law-kept : x ≡ Passed → lawsFrom ns (i + 1) (operatorRows ed (records (left - 1) k (drop (from + k) f))) ≡ v
     law-kept g = cc next-law
 
   pub laws-kept : left ≤ 0 → Passed ≡ v
   laws-kept m = none-left left m inv
     where
-      none-left : (n : ℕ) → n ≤ 0 → lawsFrom ns i (records n 9 (drop from f)) ≡ v → Passed ≡ v
-      none-left zero g e = e
+      none-left : (n : ℕ) → n ≤ 0 → lawsFrom ns i (operatorRows ed (records n k (drop from f))) ≡ v → Passed ≡ v
+      none-left zero g e = rw operators-none at e
       none-left (suc n) g e = absurd (omega arith)
 
 module _ (ns : List (List ℕ)) (i : ℕ) (o : List ℕ) (t : Bool) (e : t ≡ named i ns) where

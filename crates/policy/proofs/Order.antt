@@ -1,5 +1,5 @@
--- The order of refusals 1 to 9: what is due is what the first stage that refuses finds, and to every file that is not well formed but for the laws something is.
--- Assumes nothing.
+-- The order of refusals 1 to 9: what is due is what the first stage that refuses finds, and to every file that is not well formed but for the laws
+-- something is. Assumes nothing.
 use Prim.Native.Nat.{ℕ, zero, suc, _+_, _*_, _<_}
 use native.Mathlib.Omega.{arith}
 use mathlib.Core.Path.{_≡_, refl, sym, ap, _∙_}
@@ -11,28 +11,36 @@ use lib.ListN.{getD, length, drop, length-map}
 use borrow.Author.Tests.{lt-ltb, le-ltb, le-leb, lt-leb, eqb-true, eqb-false, ne-eqb}
 use Rattle.words.specs.Records.{records}
 use Rattle.words.proofs.Records.{length-records}
-use Rattle.row.specs.Row.{rightRowMatch, rightRowAction}
-use Rattle.action.specs.Operator.{rightCell}
-use Rattle.policy.specs.Numbers.{operatorLength, nodeLength, mostAtoms, mostChildren, wrongCell, wrongNode, extraWords, noTree, wrongSum, lawBroken}
-use Rattle.policy.specs.Read.{plain, unless, each, recordLength, least, most}
+use Rattle.action.specs.Operator.{RightCodes}
+use Rattle.policy.specs.Numbers.{headerLengthIn, operatorLengthIn, nodeLength, mostAtoms, mostChildren, wrongCell, wrongNode, extraWords}
+use Rattle.policy.specs.Numbers.{noTree, wrongSum, lawBroken}
+use Rattle.policy.specs.Atom.{rightAtomMatch, rightAtomAction}
+use Rattle.policy.specs.Cells.{rightCellIn, operatorRows}
+use Rattle.policy.specs.Read.{plain, unless, each, recordLength, least, most, headerFault}
 use Rattle.policy.specs.Read.{countFault, cellsFrom, cellsFault, atomFault, nodeFault, recordFault, sectionFault}
 use Rattle.policy.specs.Read.{innerOf, parentOf, siblingOf, ownOf, childrenOf, shape, shapeFault, ownAtoms, sumFault, lawsFrom}
-use Rattle.policy.specs.Read.{atomsAt, nodesAt, endOf, operatorRecords, nodeRecords, wholeStages, stages, layout, answer, readOf, numbered}
+use Rattle.policy.specs.Read.{atomsAtIn, nodesAtIn, endIn, operatorsIn, nodesIn, wholeStages, stages, layout, answer, readAs, numbered}
 use Rattle.policy.specs.Steps.{withWhole}
-use Rattle.policy.specs.File.{fileNodes}
-use Rattle.policy.specs.WellFormed.{Present, RightNode, OneTree, Otherwise, WellFormed}
-use Rattle.policy.specs.Order.{FirstWrong, RightRecord, recordAt, Good, RecordDue, cell, match, action, node, SectionDue, no-count, beyond, cut, wrong-record}
-use Rattle.policy.specs.Order.{ended, HasPlace, childCounts, GoodSections, Due, in-operators, in-atoms, in-nodes, extra, no-place, missing, sum, FileOrder}
+use Rattle.policy.specs.File.{operatorAt, fileNodesIn}
+use Rattle.policy.specs.WellFormed.{Present, RightHeader, RightNode, OneTree, OtherwiseIn, WellFormedIn}
+use Rattle.policy.specs.Order.{FirstWrong, RightRecord, recordAt, Good, RecordDue, cell, match, action, node, SectionDue, no-count, beyond, cut}
+use Rattle.policy.specs.Order.{wrong-record}
+use Rattle.policy.specs.Order.{ended, HasPlace, childCountsIn, HeaderDue, GoodSections, Due, in-header, in-operators, in-atoms, in-nodes, extra, no-place}
+use Rattle.policy.specs.Order.{missing, sum, FileOrder}
+use Rattle.policy.specs.declared.Edition.{Edition}
+use Rattle.policy.specs.declared.Edition.the-variants.{First}
 use Rattle.policy.specs.declared.Reading.the-variants.{Accepted, Refused}
 use Rattle.policy.specs.declared.Refusal.{Refusal}
 use Rattle.policy.specs.declared.Section.{Section}
 use Rattle.policy.specs.declared.Section.the-variants.{Operators, Atoms, Nodes}
 use Rattle.policy.specs.declared.Test.{Test}
 use Rattle.policy.specs.declared.Test.the-variants.{Passed, Failed}
-use Rattle.policy.proofs.Passed.{node-fault, fault-node, right-record, present-long, present-fault, good-passed, laws-kept, kept-laws}
+use Rattle.policy.proofs.Passed.{passed-header, operators-many, right-operators, node-fault, fault-node, right-record, present-long, present-fault}
+use Rattle.policy.proofs.Passed.{good-passed}
+use Rattle.policy.proofs.Passed.{laws-kept, kept-laws}
 use Rattle.policy.proofs.Trees.{shape-one-tree, one-tree-shape}
-use Rattle.policy.proofs.Accepted.{children-shape, good-otherwise, accepted-exactly}
-use Rattle.policy.proofs.Refused.{refused-law, broken-refused}
+use Rattle.policy.proofs.Accepted.{children-shape, good-otherwise, accepted-as}
+use Rattle.policy.proofs.Refused.{refused-law-as, broken-refused-as}
 use Rattle.policy.proofs.Depths.{shape-first, shape-places, has-place}
 use Rattle.logic.proofs.Tests.{by-test, by-le}
 
@@ -61,20 +69,20 @@ each-first t at k (r ∷ rs) (suc i) x h b e =
     rw (b 0 (omega arith) at) (each-first t (at + k) k rs i x (omega arith) (λ j l p. b (suc j) (omega arith) p) (rw z at e))
 
 -- and of cells the first that is wrong
-cells-first : (j at : ℕ) (cs : List ℕ) (m : ℕ) → m < length cs → ((i : ℕ) → i < m → rightCell (j + i) (getD cs i 0) ≡ true)
-    → rightCell (j + m) (getD cs m 0) ≡ false → cellsFrom j at cs ≡ Failed (plain wrongCell (at + m))
-cells-first j at [] m h b e = absurd (omega arith)
-cells-first j at (c ∷ cs) zero h b e =
+cells-first : (ed : Edition) (j at : ℕ) (cs : List ℕ) (m : ℕ) → m < length cs → ((i : ℕ) → i < m → rightCellIn ed (j + i) (getD cs i 0) ≡ true)
+    → rightCellIn ed (j + m) (getD cs m 0) ≡ false → cellsFrom ed j at cs ≡ Failed (plain wrongCell (at + m))
+cells-first ed j at [] m h b e = absurd (omega arith)
+cells-first ed j at (c ∷ cs) zero h b e =
     let z : j + 0 ≡ j = omega arith in
     let y : at + 0 ≡ at = omega arith in
-    let e′ : rightCell j c ≡ false = rw z at e in
+    let e′ : rightCellIn ed j c ≡ false = rw z at e in
     rw (e′, y)
-cells-first j at (c ∷ cs) (suc m) h b e =
+cells-first ed j at (c ∷ cs) (suc m) h b e =
     let z : j + 0 ≡ j = omega arith in
     let y : at + suc m ≡ suc at + m = omega arith in
     let x : (i : ℕ) → j + suc i ≡ suc j + i = λ i. omega arith in
-    let first : rightCell j c ≡ true = rw z at (b 0 (omega arith)) in
-    rw (first, y) (cells-first (suc j) (suc at) cs m (omega arith) (λ i l. rw (x i) at (b (suc i) (omega arith))) (rw (x m) at e))
+    let first : rightCellIn ed j c ≡ true = rw z at (b 0 (omega arith)) in
+    rw (first, y) (cells-first ed (suc j) (suc at) cs m (omega arith) (λ i l. rw (x i) at (b (suc i) (omega arith))) (rw (x m) at e))
 
 -- tests and stages, by their outcome
 not-true : (b : Bool) → ¬ (b ≡ true) → b ≡ false
@@ -96,23 +104,23 @@ passed-or-not (Failed x) = inr (λ e. let z : _≡_ {A = ℕ} 0 1 = cc in omega 
 -- a wrong record is refused as is due
 record-due : (at : ℕ) (r : List ℕ) {s : Section} {n p : ℕ} → RecordDue at r s n p → length r ≡ recordLength s → recordFault s at r ≡ Failed (plain n p)
 unfolding cellsFault atomFault nodeFault
-record-due at r (cell {j} w) long =
+record-due at r (cell {e} {j} w) long =
     let z : (i : ℕ) → 0 + i ≡ i = λ i. omega arith in
-    cells-first 0 at r j (omega (arith, w .within)) (λ i l. rw (z i) (w .before i l)) (rw (z j) (not-true _ (w .wrong)))
-record-due at r (match e) long = rw e
-record-due at r (action e g) long = rw (e, g)
+    cells-first e 0 at r j (omega (arith, w .within)) (λ i l. rw (z i) (w .before i l)) (rw (z j) (not-true _ (w .wrong)))
+record-due at r (match t) long = rw t
+record-due at r (action t u) long = rw (t, u)
 record-due at r (node {a} h) long =
     let t : Bool = ltb (innerOf r) a && ltb (parentOf r) a && ltb (siblingOf r) a && leb (ownOf r) mostAtoms && leb (childrenOf r) mostChildren in
     unless-failed t wrongNode at (λ e. h (node-fault a at r e))
 
 -- a record is right, or something is due to it
 record-cases : (s : Section) (at : ℕ) (r : List ℕ) → RightRecord s r ⊎ ((n : ℕ) × (p : ℕ) × RecordDue at r s n p)
-record-cases Operators at r = ⊎-elim
+record-cases (Operators e) at r = ⊎-elim
     (λ h. inl h)
     (λ w. inr (_, _, cell (w .1)))
-    (first-wrong (λ j. rightCell j (getD r j 0) ≡ true) (λ j. true-or-not _) operatorLength)
-record-cases Atoms at r = by-test (rightRowMatch r)
-    (λ t. by-test (rightRowAction r) (λ u. inl (t, u)) (λ u. inr (_, _, action t u)))
+    (first-wrong (λ j. rightCellIn e j (getD r j 0) ≡ true) (λ j. true-or-not _) (operatorLengthIn e))
+record-cases (Atoms e) at r = by-test (rightAtomMatch e r)
+    (λ t. by-test (rightAtomAction e r) (λ u. inl (t, u)) (λ u. inr (_, _, action t u)))
     (λ t. inr (_, _, match t))
 record-cases (Nodes a) at r = ⊎-elim
     (λ e. inl (node-fault a at r e))
@@ -121,9 +129,9 @@ record-cases (Nodes a) at r = ⊎-elim
 
 -- and not both
 not-right : (at : ℕ) (r : List ℕ) {s : Section} {n p : ℕ} → RecordDue at r s n p → ¬ RightRecord s r
-not-right at r (cell {j} w) h = w .wrong (h j (w .within))
-not-right at r (match e) h = let z : _≡_ {A = ℕ} 0 1 = cc (h .0) in omega arith
-not-right at r (action e g) h = let z : _≡_ {A = ℕ} 0 1 = cc (h .1) in omega arith
+not-right at r (cell {e} {j} w) h = w .wrong (h j (w .within))
+not-right at r (match t) h = let z : _≡_ {A = ℕ} 0 1 = cc (h .0) in omega arith
+not-right at r (action t u) h = let z : _≡_ {A = ℕ} 0 1 = cc (h .1) in omega arith
 not-right at r (node n) h = n h
 
 -- SECTIONS
@@ -169,123 +177,148 @@ module _ (f : List ℕ) (at : ℕ) (s : Section) where
           (record-cases s (at + 1 + recordLength s * w .0) (recordAt f at s (getD f at 0) (w .0))))
           (first-wrong (λ j. RightRecord s (recordAt f at s (getD f at 0) j)) decide (getD f at 0))
 
--- THE FILE. Once all three sections are good the other stages answer.
-module _ (f : List ℕ) (a b c : ℕ) where
-  sections-read : GoodSections f a b c → readOf f ≡ withWhole f a b c (nodesAt a b)
-  unfolding readOf withWhole stages answer
+-- THE HEADER: what is due to it is what it is refused with, and it is right or something is
+header-due : (e : Edition) (f : List ℕ) (n at : ℕ) → HeaderDue e f n at → headerFault e f ≡ Failed (plain n at)
+header-due First f n at d = absurd d
+
+header-cases : (e : Edition) (f : List ℕ) → RightHeader e f ⊎ ((n : ℕ) × (at : ℕ) × HeaderDue e f n at)
+header-cases First f = inl refl
+
+-- THE FILE. Once the header and all three sections are good the other stages answer.
+module _ (e : Edition) (f : List ℕ) (a b c : ℕ) where
+  sections-read : GoodSections e f a b c → readAs e f ≡ withWhole e f (headerLengthIn e) a b c (nodesAtIn e a b)
+  unfolding readAs withWhole stages answer
   sections-read g =
       rw (g .operators .present .count, g .atoms .present .count, g .nodes .present .count)
-      (rw (good-passed f 0 Operators a (g .operators), good-passed f (atomsAt a) Atoms b (g .atoms), good-passed f (nodesAt a b) (Nodes a) c (g .nodes)))
+      (rw (
+        passed-header e f (g .header),
+        good-passed f (headerLengthIn e) (Operators e) a (g .operators),
+        good-passed f (atomsAtIn e a) (Atoms e) b (g .atoms),
+        good-passed f (nodesAtIn e a b) (Nodes a) c (g .nodes),
+      ))
 
-  extra-read : endOf a b c < length f → withWhole f a b c (nodesAt a b) ≡ Refused (plain extraWords (endOf a b c))
+  extra-read : endIn e a b c < length f → withWhole e f (headerLengthIn e) a b c (nodesAtIn e a b) ≡ Refused (plain extraWords (endIn e a b c))
   unfolding withWhole wholeStages answer
-  extra-read h = rw (lt-leb (length f) (endOf a b c) h)
+  extra-read h = rw (lt-leb (length f) (endIn e a b c) h)
 
-  shape-read : length f ≡ endOf a b c → (i : ℕ) → shape (childCounts f a b c) (1 ∷ []) 0 ≡ Failed (plain noTree i)
-      → withWhole f a b c (nodesAt a b) ≡ Refused (plain noTree i)
+  shape-read : length f ≡ endIn e a b c → (i : ℕ) → shape (childCountsIn e f a b c) (1 ∷ []) 0 ≡ Failed (plain noTree i)
+      → withWhole e f (headerLengthIn e) a b c (nodesAtIn e a b) ≡ Refused (plain noTree i)
   unfolding withWhole wholeStages answer shapeFault
-  shape-read h i e = rw (le-leb (length f) (endOf a b c) (omega arith), e)
+  shape-read h i x = rw (le-leb (length f) (endIn e a b c) (omega arith), x)
 
-  sum-read : length f ≡ endOf a b c → shape (childCounts f a b c) (1 ∷ []) 0 ≡ Passed → ¬ (ownAtoms (nodeRecords f a b c) ≡ b)
-      → withWhole f a b c (nodesAt a b) ≡ Refused (plain wrongSum 0)
+  sum-read : length f ≡ endIn e a b c → shape (childCountsIn e f a b c) (1 ∷ []) 0 ≡ Passed → ¬ (ownAtoms (nodesIn e f a b c) ≡ b)
+      → withWhole e f (headerLengthIn e) a b c (nodesAtIn e a b) ≡ Refused (plain wrongSum 0)
   unfolding withWhole wholeStages answer shapeFault sumFault
-  sum-read h e n = rw (le-leb (length f) (endOf a b c) (omega arith), e, ne-eqb (ownAtoms (nodeRecords f a b c)) b n)
+  sum-read h x n = rw (le-leb (length f) (endIn e a b c) (omega arith), x, ne-eqb (ownAtoms (nodesIn e f a b c)) b n)
 
-  nodes-many : length (childCounts f a b c) ≡ c
-  nodes-many = length-map (nodeRecords f a b c) childrenOf ∙ length-records c nodeLength (drop (nodesAt a b + 1) f)
+  nodes-many : length (childCountsIn e f a b c) ≡ c
+  nodes-many = length-map (nodesIn e f a b c) childrenOf ∙ length-records c nodeLength (drop (nodesAtIn e a b + 1) f)
 
 -- WHAT IS DUE IS GIVEN
-due-read : (f : List ℕ) {n at : ℕ} → Due f n at → readOf f ≡ Refused (plain n at)
-unfolding readOf stages answer
-due-read f (in-operators d) = rw (section-due f 0 Operators d)
-due-read f (in-atoms {a} g d) = rw (g .present .count) (rw (good-passed f 0 Operators a g, section-due f (atomsAt a) Atoms d))
-due-read f (in-nodes {a} {b} g h d) =
-    rw (g .present .count, h .present .count)
-    (rw (good-passed f 0 Operators a g, good-passed f (atomsAt a) Atoms b h, section-due f (nodesAt a b) (Nodes a) d))
-due-read f (extra {a} {b} {c} g h) = sections-read f a b c g ∙ extra-read f a b c h
-due-read f (no-place {a} {b} {c} {i} g h w) =
-    sections-read f a b c g ∙ shape-read f a b c h i (shape-first (childCounts f a b c) i (rw (nodes-many f a b c) w))
-due-read f (missing {a} {b} {c} g h p e) =
-    let ks : List ℕ = childCounts f a b c in
-    let l : length ks ≡ c = nodes-many f a b c in
-    sections-read f a b c g ∙ shape-read f a b c h c (shape-places ks (λ i m. p i (omega arith)) ∙ rw (e, l))
-due-read f (sum {a} {b} {c} g h t n) =
-    sections-read f a b c g ∙ sum-read f a b c h (sym (children-shape f a b c) ∙ one-tree-shape (fileNodes f (layout a b c)) t) n
+due-read : (e : Edition) (f : List ℕ) {n at : ℕ} → Due e f n at → readAs e f ≡ Refused (plain n at)
+unfolding readAs stages answer
+due-read e f (in-header {n} {at} d) = rw (header-due e f n at d)
+due-read e f (in-operators h d) = rw (passed-header e f h, section-due f (headerLengthIn e) (Operators e) d)
+due-read e f (in-atoms {a} h g d) =
+    rw (g .present .count) (rw (passed-header e f h, good-passed f (headerLengthIn e) (Operators e) a g, section-due f (atomsAtIn e a) (Atoms e) d))
+due-read e f (in-nodes {a} {b} h g k d) =
+    rw (g .present .count, k .present .count)
+    (rw (
+      passed-header e f h,
+      good-passed f (headerLengthIn e) (Operators e) a g,
+      good-passed f (atomsAtIn e a) (Atoms e) b k,
+      section-due f (nodesAtIn e a b) (Nodes a) d,
+    ))
+due-read e f (extra {a} {b} {c} g h) = sections-read e f a b c g ∙ extra-read e f a b c h
+due-read e f (no-place {a} {b} {c} {i} g h w) =
+    sections-read e f a b c g ∙ shape-read e f a b c h i (shape-first (childCountsIn e f a b c) i (rw (nodes-many e f a b c) w))
+due-read e f (missing {a} {b} {c} g h p x) =
+    let ks : List ℕ = childCountsIn e f a b c in
+    let l : length ks ≡ c = nodes-many e f a b c in
+    sections-read e f a b c g ∙ shape-read e f a b c h c (shape-places ks (λ i m. p i (omega arith)) ∙ rw (x, l))
+due-read e f (sum {a} {b} {c} g h t n) =
+    sections-read e f a b c g ∙ sum-read e f a b c h (sym (children-shape e f a b c) ∙ one-tree-shape (fileNodesIn e f (layout a b c)) t) n
 
 -- a file is well formed but for the laws, or something is due to it
-abbrev Cases : List ℕ → Type 0
-Cases f = ((a : ℕ) × (b : ℕ) × (c : ℕ) × Otherwise f a b c) ⊎ ((n : ℕ) × (at : ℕ) × Due f n at)
+abbrev Cases : Edition → List ℕ → Type 0
+Cases e f = ((a : ℕ) × (b : ℕ) × (c : ℕ) × OtherwiseIn e f a b c) ⊎ ((n : ℕ) × (at : ℕ) × Due e f n at)
 
-module _ (f : List ℕ) (a b c : ℕ) (g : GoodSections f a b c) where
-  tree-cases : length f ≡ endOf a b c → OneTree (fileNodes f (layout a b c)) → Cases f
-  tree-cases h t = by-test (eqb (ownAtoms (nodeRecords f a b c)) b)
-      (λ e. inl (a, b, c, good-otherwise f a b c g h t (eqb-true _ _ e)))
-      (λ e. inr (_, _, sum g h t (eqb-false _ _ e)))
+module _ (e : Edition) (f : List ℕ) (a b c : ℕ) (g : GoodSections e f a b c) where
+  tree-cases : length f ≡ endIn e a b c → OneTree (fileNodesIn e f (layout a b c)) → Cases e f
+  tree-cases h t = by-test (eqb (ownAtoms (nodesIn e f a b c)) b)
+      (λ x. inl (a, b, c, good-otherwise e f a b c g h t (eqb-true _ _ x)))
+      (λ x. inr (_, _, sum g h t (eqb-false _ _ x)))
 
-  shape-cases : length f ≡ endOf a b c → Cases f
+  shape-cases : length f ≡ endIn e a b c → Cases e f
   shape-cases h =
-      let ks : List ℕ = childCounts f a b c in
-      let l : length ks ≡ c = nodes-many f a b c in
+      let ks : List ℕ = childCountsIn e f a b c in
+      let l : length ks ≡ c = nodes-many e f a b c in
       ⊎-elim
       (λ p. by-test (ended ks)
-      (λ e. tree-cases h (shape-one-tree (fileNodes f (layout a b c)) (children-shape f a b c ∙ shape-places ks (λ i m. p i (omega arith)) ∙ rw e)))
-      (λ e. inr (_, _, missing g h p e)))
+      (λ x. tree-cases h (shape-one-tree (fileNodesIn e f (layout a b c)) (children-shape e f a b c ∙ shape-places ks (λ i m. p i (omega arith)) ∙ rw x)))
+      (λ x. inr (_, _, missing g h p x)))
       (λ w. inr (_, _, no-place g h (w .1)))
       (first-wrong (HasPlace ks) (has-place ks) c)
 
-  end-cases : Cases f
-  end-cases = by-le (length f) (endOf a b c)
+  end-cases : Cases e f
+  end-cases = by-le (length f) (endIn e a b c)
       (λ h. shape-cases (omega (arith, g .nodes .present .whole)))
       (λ h. inr (_, _, extra g h))
 
-cases : (f : List ℕ) → Cases f
-cases f =
-    let a : ℕ = getD f 0 0 in
-    let b : ℕ = getD f (atomsAt a) 0 in
-    let c : ℕ = getD f (nodesAt a b) 0 in
+cases : (e : Edition) (f : List ℕ) → Cases e f
+cases e f =
+    let a : ℕ = getD f (headerLengthIn e) 0 in
+    let b : ℕ = getD f (atomsAtIn e a) 0 in
+    let c : ℕ = getD f (nodesAtIn e a b) 0 in
     ⊎-elim
-    (λ g. ⊎-elim
     (λ h. ⊎-elim
-    (λ k. end-cases f a b c (record { operators = g; atoms = h; nodes = k }))
-    (λ d. inr (_, _, in-nodes g h (d .2)))
-    (section-cases f (nodesAt a b) (Nodes a)))
-    (λ d. inr (_, _, in-atoms g (d .2)))
-    (section-cases f (atomsAt a) Atoms))
-    (λ d. inr (_, _, in-operators (d .2)))
-    (section-cases f 0 Operators)
+    (λ g. ⊎-elim
+    (λ k. ⊎-elim
+    (λ m. end-cases e f a b c (record { header = h; operators = g; atoms = k; nodes = m }))
+    (λ d. inr (_, _, in-nodes h g k (d .2)))
+    (section-cases f (nodesAtIn e a b) (Nodes a)))
+    (λ d. inr (_, _, in-atoms h g (d .2)))
+    (section-cases f (atomsAtIn e a) (Atoms e)))
+    (λ d. inr (_, _, in-operators h (d .2)))
+    (section-cases f (headerLengthIn e) (Operators e)))
+    (λ d. inr (_, _, in-header (d .2)))
+    (header-cases e f)
 
 -- a refusal without a law is given to no file that is well formed but for the laws: it is accepted, or a law is shown
-lawless : (f : List ℕ) (a b c n at : ℕ) → Otherwise f a b c → ¬ (readOf f ≡ Refused (plain n at))
-lawless f a b c n at o e =
-    let os : List (List ℕ) = operatorRecords f a in
-    let ns : List (List ℕ) = nodeRecords f a b c in
-    let many : length os ≡ a = length-records a operatorLength (drop 1 f) in
+lawless : (e : Edition) (f : List ℕ) (a b c n at : ℕ) → OtherwiseIn e f a b c → ¬ (readAs e f ≡ Refused (plain n at))
+lawless e f a b c n at o r =
+    let raw : List (List ℕ) = operatorsIn e f a in
+    let os : List (List ℕ) = operatorRows e raw in
+    let ns : List (List ℕ) = nodesIn e f a b c in
+    let counted : length raw ≡ a = length-records a (operatorLengthIn e) (drop (headerLengthIn e + 1) f) in
+    let many : length os ≡ a = operators-many e raw ∙ counted in
+    let codes : (i : ℕ) → i < a → RightCodes (operatorAt os i) = right-operators e raw a counted (o .cells) in
     let nodes : (i : ℕ) → i < length ns → RightNode a (getD ns i []) = λ i h. o .right-nodes i (rw length-records at h) in
     ⊎-elim
     (λ p.
-    let w : WellFormed f (layout a b c) = record { otherwise = o; lawful = laws-kept a os ns many (o .cells) nodes p } in
-    let g : readOf f ≡ Accepted (layout a b c) = accepted-exactly f (layout a b c) .1 w in
+    let w : WellFormedIn e f (layout a b c) = record { otherwise = o; lawful = laws-kept a os ns many codes nodes p } in
+    let g : readAs e f ≡ Accepted (layout a b c) = accepted-as e f (layout a b c) .1 w in
     let z : _≡_ {A = ℕ} 0 1 = cc in
     omega arith)
     (λ h.
-    let w = broken-refused f a b c o (λ k. h (kept-laws a os ns many (o .cells) nodes k)) in
-    let q : n ≡ lawBroken = ap (λ x. numbered x .number) (sym e ∙ w .1) ∙ w .2 in
-    refused-law f (plain n at) e q .shows)
+    let w = broken-refused-as e f a b c o (λ k. h (kept-laws a os ns many codes nodes k)) in
+    let q : n ≡ lawBroken = ap (λ x. numbered x .number) (sym r ∙ w .1) ∙ w .2 in
+    refused-law-as e f (plain n at) r q .shows)
     (passed-or-not (lawsFrom ns 0 os))
 
 -- AND NOTHING ELSE IS
-given-due : (f : List ℕ) (n at : ℕ) → readOf f ≡ Refused (plain n at) → Due f n at
-given-due f n at e = ⊎-elim
-    (λ o. absurd (lawless f (o .0) (o .1) (o .2) n at (o .3) e))
+given-due : (e : Edition) (f : List ℕ) (n at : ℕ) → readAs e f ≡ Refused (plain n at) → Due e f n at
+given-due e f n at r = ⊎-elim
+    (λ o. absurd (lawless e f (o .0) (o .1) (o .2) n at (o .3) r))
     (λ d.
-    let q : Refused (plain (d .0) (d .1)) ≡ Refused (plain n at) = sym (due-read f (d .2)) ∙ e in
+    let q : Refused (plain (d .0) (d .1)) ≡ Refused (plain n at) = sym (due-read e f (d .2)) ∙ r in
     let p : d .0 ≡ n = ap (λ x. numbered x .number) q in
     let w : d .1 ≡ at = ap (λ x. numbered x .place) q in
     rw (p, w) at (d .2))
-    (cases f)
+    (cases e f)
 
 pub file-order : FileOrder
 file-order = record {
-  due = λ f n at. (given-due f n at, due-read f);
-  last = λ f h. ⊎-elim (λ o. o) (λ d. absurd (h (d .0) (d .1) (d .2))) (cases f);
+  due = λ e f n at. (given-due e f n at, due-read e f);
+  last = λ e f h. ⊎-elim (λ o. o) (λ d. absurd (h (d .0) (d .1) (d .2))) (cases e f);
 }

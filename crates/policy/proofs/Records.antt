@@ -11,9 +11,11 @@ use lib.Seq.{drop-cons}
 use borrow.Author.Tests.{leb-true, ltb-true}
 use Rattle.words.specs.Records.{records}
 use Rattle.words.proofs.Records.{records-next, records-none}
-use Rattle.action.specs.Operator.{rightCell}
-use Rattle.policy.specs.Numbers.{short, wrongCount, wrongCell, atomLength, mostAtoms}
+use Rattle.policy.specs.Cells.{rightCellIn}
+use Rattle.policy.specs.Numbers.{short, wrongCount, wrongCell}
 use Rattle.policy.specs.Read.{unless, _else_, each, recordLength, least, most, countFault, cellsFrom, recordFault, behind, sectionFault}
+use Rattle.policy.specs.declared.Edition.{Edition}
+use Rattle.policy.specs.declared.Edition.the-variants.{First}
 use Rattle.policy.specs.declared.Refusal.{Refusal}
 use Rattle.policy.specs.declared.Section.{Section}
 use Rattle.policy.specs.declared.Section.the-variants.{Operators, Atoms, Nodes}
@@ -51,9 +53,9 @@ pub done : (t : ℕ → List ℕ → Test) (k from left : ℕ) (f : List ℕ) (w
 done t k from left f w h e = rw (records-none k left (drop from f) h) at e
 
 -- the same for the cells of one operator
-module _ (at j : ℕ) (l : List ℕ) (w : Test) (inv : cellsFrom j (at + j) (drop j l) ≡ w) (h : j < length l) (b : Bool)
-    (p : b ≡ rightCell j (getD l j 0)) (x : Test) (e : x ≡ unless b wrongCell (at + j)) where
-  next-cell : w ≡ _else_ x (cellsFrom (j + 1) (at + (j + 1)) (drop (j + 1) l))
+module _ (ed : Edition) (at j : ℕ) (l : List ℕ) (w : Test) (inv : cellsFrom ed j (at + j) (drop j l) ≡ w) (h : j < length l) (b : Bool)
+    (p : b ≡ rightCellIn ed j (getD l j 0)) (x : Test) (e : x ≡ unless b wrongCell (at + j)) where
+  next-cell : w ≡ _else_ x (cellsFrom ed (j + 1) (at + (j + 1)) (drop (j + 1) l))
   next-cell =
       let a : at + (j + 1) ≡ suc (at + j) = omega arith in
       sym inv ∙ rw (a, add-one j, drop-cons l j 0 h, e, p)
@@ -61,11 +63,11 @@ module _ (at j : ℕ) (l : List ℕ) (w : Test) (inv : cellsFrom j (at + j) (dro
   pub hit-cell : (r : Refusal) → x ≡ Failed r → x ≡ w
   hit-cell r g = cc next-cell
 
-  pub miss-cell : x ≡ Passed → cellsFrom (j + 1) (at + (j + 1)) (drop (j + 1) l) ≡ w
+  pub miss-cell : x ≡ Passed → cellsFrom ed (j + 1) (at + (j + 1)) (drop (j + 1) l) ≡ w
   miss-cell g = cc next-cell
 
-pub done-cell : (at j : ℕ) (l : List ℕ) (w : Test) → length l ≤ j → cellsFrom j (at + j) (drop j l) ≡ w → Passed ≡ w
-done-cell at j l w h e = rw (drop-of-length-le l h) at e
+pub done-cell : (ed : Edition) (at j : ℕ) (l : List ℕ) (w : Test) → length l ≤ j → cellsFrom ed j (at + j) (drop j l) ≡ w → Passed ≡ w
+done-cell ed at j l w h e = rw (drop-of-length-le l h) at e
 
 -- what a passed test shows
 pub unless-true : (b : Bool) (n at : ℕ) → unless b n at ≡ Passed → b ≡ true
@@ -94,10 +96,13 @@ counted f at s e =
       many = leb-true n (most s) (and-right (leb (least s) n) (leb n (most s)) k);
     }
 
--- no record is longer than an atom, and no section has more records than atoms may be: a section's words are few
-pub section-small : (s : Section) (n : ℕ) → n ≤ most s → recordLength s * n ≤ atomLength * mostAtoms
-section-small Operators n h = omega arith
-section-small Atoms n h = omega arith
+-- more words than any section has
+abbrev pub sectionLimit : ℕ
+sectionLimit = 16384
+
+pub section-small : (s : Section) (n : ℕ) → n ≤ most s → recordLength s * n ≤ sectionLimit
+section-small (Operators First) n h = omega arith
+section-small (Atoms First) n h = omega arith
 section-small (Nodes k) n h = omega arith
 
 -- a section that passes: its count, its whole length and its records
@@ -128,7 +133,7 @@ module _ (f : List ℕ) (at : ℕ) (s : Section) (t : Test) (e : t ≡ countFaul
   count-fails r g = rw (← e, g)
 
   module _ (passes : t ≡ Passed) (n m : ℕ) (q : n ≡ m) (w : m ≡ getD f at 0) where
-    pub words-few : behind at s n ≤ at + 1 + atomLength * mostAtoms
+    pub words-few : behind at s n ≤ at + 1 + sectionLimit
     words-few = rw (q, w) (omega (arith, section-small s (getD f at 0) (counted f at s (sym e ∙ passes) .many)))
 
     module _ (x : ℕ) (p : x ≡ behind at s n) (y : Test) (d : y ≡ unless (leb x (length f)) short (length f)) where

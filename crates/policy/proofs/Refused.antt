@@ -1,7 +1,7 @@
 -- What a refusal says: every stage but the last refuses with a number below 10 and no law, and the last with what the law search found. Assumes nothing.
-use Prim.Native.Nat.{ℕ, zero, suc, _+_, _*_, _≤_, _<_}
+use Prim.Native.Nat.{ℕ, zero, suc, _+_, _≤_, _<_}
 use native.Mathlib.Omega.{arith}
-use mathlib.Core.Path.{_≡_, refl}
+use mathlib.Core.Path.{_≡_, refl, _∙_}
 use mathlib.Core.Bool.{Bool, true, false, cond, _&&_}
 use mathlib.Core.List.{List, [], _∷_, _++_, map}
 use mathlib.Core.Logic.{_⊎_, inl, inr, ⊎-elim}
@@ -9,17 +9,23 @@ use lib.Dec.{eqb, leb, ltb}
 use lib.ListN.{getD, length, drop}
 use Rattle.words.proofs.Records.{length-records}
 use Rattle.words.specs.Records.{records}
-use Rattle.row.specs.Row.{rightRowMatch, rightRowAction}
-use Rattle.action.specs.Operator.{rightCell}
 use Rattle.action.specs.Laws.{lawSearch, Shows}
 use Rattle.action.specs.declared.Lawful.{Lawful}
 use Rattle.action.specs.declared.Lawful.the-variants.{Yes, Broken}
 use Rattle.action.proofs.Exact.{search-exact, search-shows}
-use Rattle.policy.specs.Numbers.{operatorLength, mostAtoms, mostChildren, deepest, short, wrongCount, wrongCell, wrongMatch, wrongAction, wrongNode, extraWords, noTree, wrongSum, lawBroken}
-use Rattle.policy.specs.Read.{plain, unless, _else_, each, recordLength, least, most, countFault, cellsFrom, cellsFault, atomFault, nodeFault, recordFault, sectionFault, innerOf, parentOf, siblingOf, ownOf, childrenOf, waitingNodes, oneLess, shape, shapeFault, ownAtoms, sumFault, named, broken, cellsOf, operatorFault, lawsFrom, lawsFault, atomsAt, nodesAt, endOf, operatorRecords, nodeRecords, wholeStages, stages, layout, answer, readOf}
+use Rattle.policy.specs.Numbers.{latest, headerLengthIn, operatorLengthIn, mostAtoms, mostChildren, deepest, short, wrongCount, wrongCell, wrongMatch}
+use Rattle.policy.specs.Numbers.{wrongAction, wrongNode, extraWords, noTree, wrongSum, lawBroken}
+use Rattle.policy.specs.Read.{plain, unless, _else_, each, recordLength, least, most, headerFault, countFault, cellsFrom, cellsFault, atomFault}
+use Rattle.policy.specs.Read.{nodeFault, recordFault, behind, sectionFault, innerOf, parentOf, siblingOf, ownOf, childrenOf, waitingNodes, oneLess, shape}
+use Rattle.policy.specs.Read.{shapeFault, ownAtoms, sumFault, named, broken, cellsOf, operatorFault, lawsFrom, lawsFault, atomsAtIn, nodesAtIn, endIn}
+use Rattle.policy.specs.Read.{operatorsIn, nodesIn, extraFault, wholeStages, stages, layout, answer, readAs}
+use Rattle.policy.specs.Atom.{rightAtomMatch, rightAtomAction}
+use Rattle.policy.specs.Cells.{rightCellIn, operatorRows}
 use Rattle.policy.specs.File.{operatorAt}
-use Rattle.policy.specs.WellFormed.{Otherwise}
-use Rattle.policy.specs.Theorems.{RefusedLaw, BrokenRefused, RefusedPlain}
+use Rattle.policy.specs.WellFormed.{OtherwiseIn}
+use Rattle.policy.specs.Theorems.{RefusedLawAs, RefusedLaw, BrokenRefusedAs, BrokenRefused, RefusedPlainAs, RefusedPlain}
+use Rattle.policy.specs.declared.Edition.{Edition}
+use Rattle.policy.specs.declared.Edition.the-variants.{First}
 use Rattle.policy.specs.declared.Layout.{Layout}
 use Rattle.policy.specs.declared.Reading.the-variants.{Refused}
 use Rattle.policy.specs.declared.Refusal.{Refusal}
@@ -27,7 +33,7 @@ use Rattle.policy.specs.declared.Section.{Section}
 use Rattle.policy.specs.declared.Section.the-variants.{Operators, Atoms, Nodes}
 use Rattle.policy.specs.declared.Test.{Test}
 use Rattle.policy.specs.declared.Test.the-variants.{Passed, Failed}
-use Rattle.policy.proofs.Passed.{right-codes, laws-kept, unbroken}
+use Rattle.policy.proofs.Passed.{operators-many, right-operators, laws-kept, unbroken}
 use Rattle.policy.proofs.Accepted.{AllPassed, Stages, otherwise-of, of-otherwise}
 use Rattle.logic.proofs.Tests.{by-test}
 
@@ -57,19 +63,26 @@ each-plain : (t : ℕ → List ℕ → Test) (at k : ℕ) (rs : List (List ℕ))
 each-plain t at k [] h = passed-plain
 each-plain t at k (r ∷ rs) h = else-plain (t at r) (each t (at + k) k rs) (h at r) (each-plain t (at + k) k rs h)
 
-cells-plain : (j at : ℕ) (cs : List ℕ) → Plain (cellsFrom j at cs)
-cells-plain j at [] = passed-plain
-cells-plain j at (c ∷ cs) =
-    else-plain (unless (rightCell j c) wrongCell at) (cellsFrom (suc j) (suc at) cs) (unless-plain (rightCell j c) wrongCell at (omega arith) (omega arith)) (cells-plain (suc j) (suc at) cs)
+cells-plain : (ed : Edition) (j at : ℕ) (cs : List ℕ) → Plain (cellsFrom ed j at cs)
+cells-plain ed j at [] = passed-plain
+cells-plain ed j at (c ∷ cs) =
+    else-plain (unless (rightCellIn ed j c) wrongCell at) (cellsFrom ed (suc j) (suc at) cs)
+    (unless-plain (rightCellIn ed j c) wrongCell at (omega arith) (omega arith))
+    (cells-plain ed (suc j) (suc at) cs)
 
 record-plain : (s : Section) (at : ℕ) (r : List ℕ) → Plain (recordFault s at r)
 unfolding cellsFault atomFault nodeFault
-record-plain Operators at r = cells-plain 0 at r
-record-plain Atoms at r =
-    else-plain (unless (rightRowMatch r) wrongMatch at) (unless (rightRowAction r) wrongAction at)
-    (unless-plain (rightRowMatch r) wrongMatch at (omega arith) (omega arith)) (unless-plain (rightRowAction r) wrongAction at (omega arith) (omega arith))
+record-plain (Operators e) at r = cells-plain e 0 at r
+record-plain (Atoms e) at r =
+    else-plain (unless (rightAtomMatch e r) wrongMatch at) (unless (rightAtomAction e r) wrongAction at)
+    (unless-plain (rightAtomMatch e r) wrongMatch at (omega arith) (omega arith))
+    (unless-plain (rightAtomAction e r) wrongAction at (omega arith) (omega arith))
 record-plain (Nodes n) at r =
-    unless-plain (ltb (innerOf r) n && ltb (parentOf r) n && ltb (siblingOf r) n && leb (ownOf r) mostAtoms && leb (childrenOf r) mostChildren) wrongNode at (omega arith) (omega arith)
+    unless-plain (ltb (innerOf r) n && ltb (parentOf r) n && ltb (siblingOf r) n && leb (ownOf r) mostAtoms && leb (childrenOf r) mostChildren) wrongNode at
+    (omega arith) (omega arith)
+
+header-plain : (e : Edition) (f : List ℕ) → Plain (headerFault e f)
+header-plain First f = passed-plain
 
 section-plain : (f : List ℕ) (at : ℕ) (s : Section) → Plain (sectionFault f at s)
 unfolding sectionFault countFault
@@ -78,11 +91,13 @@ section-plain f at s =
     let k : ℕ = recordLength s in
     let there : Test = unless (ltb at (length f)) short (length f) in
     let limits : Test = unless (leb (least s) n && leb n (most s)) wrongCount at in
-    let whole : Test = unless (leb (at + 1 + k * n) (length f)) short (length f) in
+    let whole : Test = unless (leb (behind at s n) (length f)) short (length f) in
     let all : Test = each (recordFault s) (at + 1) k (records n k (drop (at + 1) f)) in
     else-plain (_else_ there limits) (_else_ whole all)
-    (else-plain there limits (unless-plain (ltb at (length f)) short (length f) (omega arith) (omega arith)) (unless-plain (leb (least s) n && leb n (most s)) wrongCount at (omega arith) (omega arith)))
-    (else-plain whole all (unless-plain (leb (at + 1 + k * n) (length f)) short (length f) (omega arith) (omega arith)) (each-plain (recordFault s) (at + 1) k (records n k (drop (at + 1) f)) (record-plain s)))
+    (else-plain there limits (unless-plain (ltb at (length f)) short (length f) (omega arith) (omega arith))
+    (unless-plain (leb (least s) n && leb n (most s)) wrongCount at (omega arith) (omega arith)))
+    (else-plain whole all (unless-plain (leb (behind at s n) (length f)) short (length f) (omega arith) (omega arith))
+    (each-plain (recordFault s) (at + 1) k (records n k (drop (at + 1) f)) (record-plain s)))
 
 shape-plain : (ks st : List ℕ) (i : ℕ) → Plain (shape ks st i)
 shape-plain [] st i = unless-plain (eqb (length (waitingNodes st)) 0) noTree i (omega arith) (omega arith)
@@ -98,38 +113,43 @@ AllPlain : List Test → Type 0
 AllPlain [] = Unit {0}
 AllPlain (t ∷ ts) = Plain t × AllPlain ts
 
-first-refusal : (ts : List Test) (u : Test) (l : Layout) (r : Refusal) → AllPlain ts → answer (ts ++ (u ∷ [])) l ≡ Refused r → PlainRefusal r ⊎ (AllPassed ts × (u ≡ Failed r))
+first-refusal : (ts : List Test) (u : Test) (l : Layout) (r : Refusal) → AllPlain ts → answer (ts ++ (u ∷ [])) l ≡ Refused r
+    → PlainRefusal r ⊎ (AllPassed ts × (u ≡ Failed r))
 unfolding answer AllPlain
 first-refusal [] Passed l r p e = let z : _≡_ {A = ℕ} 0 1 = cc in absurd (omega arith)
 first-refusal [] (Failed s) l r p e = inr (tt, cc)
 first-refusal (Passed ∷ ts) u l r p e = ⊎-elim (λ h. inl h) (λ h. inr ((refl, h .0), h .1)) (first-refusal ts u l r (p .1) e)
 first-refusal (Failed s ∷ ts) u l r p e = inl (p .0 .only r (cc))
 
-module _ (f : List ℕ) (a b c : ℕ) where
+module _ (e : Edition) (f : List ℕ) (a b c : ℕ) where
   -- the stages before the laws
   before : List Test
   before =
-      sectionFault f 0 Operators
-      ∷ sectionFault f (atomsAt a) Atoms
-      ∷ sectionFault f (nodesAt a b) (Nodes a)
-      ∷ unless (leb (length f) (endOf a b c)) extraWords (endOf a b c)
-      ∷ shapeFault (nodeRecords f a b c)
-      ∷ sumFault (nodeRecords f a b c) b
+      headerFault e f
+      ∷ sectionFault f (headerLengthIn e) (Operators e)
+      ∷ sectionFault f (atomsAtIn e a) (Atoms e)
+      ∷ sectionFault f (nodesAtIn e a b) (Nodes a)
+      ∷ extraFault f (endIn e a b c)
+      ∷ shapeFault (nodesIn e f a b c)
+      ∷ sumFault (nodesIn e f a b c) b
       ∷ []
 
   before-plain : AllPlain before
   unfolding before AllPlain shapeFault sumFault
   before-plain = (
-    section-plain f 0 Operators,
+    header-plain e f,
     (
-      section-plain f (atomsAt a) Atoms,
+      section-plain f (headerLengthIn e) (Operators e),
       (
-        section-plain f (nodesAt a b) (Nodes a),
+        section-plain f (atomsAtIn e a) (Atoms e),
         (
-          unless-plain (leb (length f) (endOf a b c)) extraWords (endOf a b c) (omega arith) (omega arith),
+          section-plain f (nodesAtIn e a b) (Nodes a),
           (
-            shape-plain (map childrenOf (nodeRecords f a b c)) (1 ∷ []) 0,
-            (unless-plain (eqb (ownAtoms (nodeRecords f a b c)) b) wrongSum 0 (omega arith) (omega arith), tt),
+            unless-plain (leb (length f) (endIn e a b c)) extraWords (endIn e a b c) (omega arith) (omega arith),
+            (
+              shape-plain (map childrenOf (nodesIn e f a b c)) (1 ∷ []) 0,
+              (unless-plain (eqb (ownAtoms (nodesIn e f a b c)) b) wrongSum 0 (omega arith) (omega arith), tt),
+            ),
           ),
         ),
       ),
@@ -137,18 +157,30 @@ module _ (f : List ℕ) (a b c : ℕ) where
   )
 
   laws : Test
-  laws = lawsFault (nodeRecords f a b c) (operatorRecords f a)
+  laws = lawsFault (nodesIn e f a b c) (operatorRows e (operatorsIn e f a))
 
-  split : (r : Refusal) → answer (stages f a b c) (layout a b c) ≡ Refused r → PlainRefusal r ⊎ (Stages f a b c × (laws ≡ Failed r))
+  split : (r : Refusal) → answer (stages e f a b c) (layout a b c) ≡ Refused r → PlainRefusal r ⊎ (Stages e f a b c × (laws ≡ Failed r))
   unfolding stages wholeStages before laws
-  split r e =
+  split r g =
       ⊎-elim
       (λ h. inl h)
-      (λ h. let p : AllPassed before = h .0 in inr (record { operators = p .0; atoms = p .1 .0; nodes = p .1 .1 .0; extra = p .1 .1 .1 .0; tree = p .1 .1 .1 .1 .0; sum = p .1 .1 .1 .1 .1 .0 }, h .1))
-      (first-refusal before laws (layout a b c) r before-plain e)
+      (λ h. let p : AllPassed before = h .0 in
+      inr (
+        record {
+          header = p .0;
+          operators = p .1 .0;
+          atoms = p .1 .1 .0;
+          nodes = p .1 .1 .1 .0;
+          extra = p .1 .1 .1 .1 .0;
+          tree = p .1 .1 .1 .1 .1 .0;
+          sum = p .1 .1 .1 .1 .1 .1 .0;
+        },
+        h .1,
+      ))
+      (first-refusal before laws (layout a b c) r before-plain g)
 
 -- the first operator that is named and breaks a law
-record First (ns : List (List ℕ)) (i : ℕ) (os : List (List ℕ)) (r : Refusal) : Type 0 where
+record FirstBroken (ns : List (List ℕ)) (i : ℕ) (os : List (List ℕ)) (r : Refusal) : Type 0 where
   at : ℕ
   within : at < length os
   used : named (i + at) ns ≡ true
@@ -169,7 +201,7 @@ else-cases : (x y : Test) (r : Refusal) → _else_ x y ≡ Failed r → (x ≡ F
 else-cases Passed y r e = inr (refl, e)
 else-cases (Failed s) y r e = inl e
 
-first-broken : (ns : List (List ℕ)) (i : ℕ) (os : List (List ℕ)) (r : Refusal) → lawsFrom ns i os ≡ Failed r → First ns i os r
+first-broken : (ns : List (List ℕ)) (i : ℕ) (os : List (List ℕ)) (r : Refusal) → lawsFrom ns i os ≡ Failed r → FirstBroken ns i os r
 unfolding operatorFault
 first-broken ns i [] r e = let z : _≡_ {A = ℕ} 0 1 = cc in absurd (omega arith)
 first-broken ns i (o ∷ os) r e =
@@ -181,7 +213,7 @@ first-broken ns i (o ∷ os) r e =
     record { at = 0; within = omega arith; used = rw z t; number = w .0; place = rw z (w .1); shows = w .2; quiet = λ j l. absurd (omega arith) })
     (λ t. let k : Passed ≡ Failed r = rw t at h in let z : _≡_ {A = ℕ} 0 1 = cc in absurd (omega arith)))
     (λ h.
-    let n : First ns (suc i) os r = first-broken ns (suc i) os r (h .1) in
+    let n : FirstBroken ns (suc i) os r = first-broken ns (suc i) os r (h .1) in
     let z : i + suc (n .at) ≡ suc i + n .at = omega arith in
     record {
       at = suc (n .at);
@@ -201,34 +233,36 @@ first-broken ns i (o ∷ os) r e =
     earlier ns i o os at here later (suc j) l t = let z : i + suc j ≡ suc i + j = omega arith in later j (omega arith) (rw z at t)
 
 -- EVERY REFUSAL BUT THE LAST STAGE'S IS PLAIN
-pub refused-plain : RefusedPlain
-unfolding readOf lawsFault laws
-refused-plain f r e n =
-    let a : ℕ = getD f 0 0 in
-    let b : ℕ = getD f (atomsAt a) 0 in
-    let c : ℕ = getD f (nodesAt a b) 0 in
+pub refused-plain-as : RefusedPlainAs
+unfolding readAs lawsFault laws
+refused-plain-as e f r g n =
+    let a : ℕ = getD f (headerLengthIn e) 0 in
+    let b : ℕ = getD f (atomsAtIn e a) 0 in
+    let c : ℕ = getD f (nodesAtIn e a b) 0 in
     ⊎-elim
     (λ h. h)
-    (λ h. absurd (n (first-broken (nodeRecords f a b c) 0 (operatorRecords f a) r (h .1) .number)))
-    (split f a b c r e)
+    (λ h. absurd (n (first-broken (nodesIn e f a b c) 0 (operatorRows e (operatorsIn e f a)) r (h .1) .number)))
+    (split e f a b c r g)
 
 -- THE LAST STAGE'S SHOWS A BROKEN LAW
-pub refused-law : RefusedLaw
-unfolding readOf lawsFault laws
-refused-law f r e n =
-    let a : ℕ = getD f 0 0 in
-    let b : ℕ = getD f (atomsAt a) 0 in
-    let c : ℕ = getD f (nodesAt a b) 0 in
-    let os : List (List ℕ) = operatorRecords f a in
-    let ns : List (List ℕ) = nodeRecords f a b c in
+pub refused-law-as : RefusedLawAs
+unfolding readAs lawsFault laws
+refused-law-as e f r g n =
+    let a : ℕ = getD f (headerLengthIn e) 0 in
+    let b : ℕ = getD f (atomsAtIn e a) 0 in
+    let c : ℕ = getD f (nodesAtIn e a b) 0 in
+    let raw : List (List ℕ) = operatorsIn e f a in
+    let os : List (List ℕ) = operatorRows e raw in
+    let counted : length raw ≡ a = length-records a (operatorLengthIn e) (drop (headerLengthIn e + 1) f) in
+    let ns : List (List ℕ) = nodesIn e f a b c in
     ⊎-elim
     (λ h. absurd (omega (arith, h .1)))
     (λ h.
-    let w : First ns 0 os r = first-broken ns 0 os r (h .1) in
-    let o : Otherwise f a b c = otherwise-of f a b c refl refl refl (h .0) in
+    let w : FirstBroken ns 0 os r = first-broken ns 0 os r (h .1) in
+    let o : OtherwiseIn e f a b c = otherwise-of e f a b c refl refl refl (h .0) in
     let z : r .place ≡ w .at = omega (arith, w .place) in
     let y : 0 + w .at ≡ w .at = omega arith in
-    let many : length os ≡ a = length-records a operatorLength (drop 1 f) in
+    let many : length os ≡ a = operators-many e raw ∙ counted in
     record {
       operators = a;
       atoms = b;
@@ -239,9 +273,10 @@ refused-law f r e n =
       shows = rw z (w .shows);
       first-such = λ i l t.
           let v : 0 + i ≡ i = omega arith in
-          search-exact (operatorAt os i) (right-codes (getD os i []) (λ j. o .cells i j (omega (arith, w .within)))) .0 (w .quiet i (omega arith) (rw v t));
+          search-exact (operatorAt os i) (right-operators e raw a counted (o .cells) i (omega (arith, w .within))) .0
+          (w .quiet i (omega arith) (rw v t));
     })
-    (split f a b c r e)
+    (split e f a b c r g)
 
 -- where the last stage is not passed it is the answer
 last-answer : (u : Test) (l : Layout) → ¬ (u ≡ Passed) → (r : Refusal) × (answer (u ∷ []) l ≡ Refused r) × (u ≡ Failed r)
@@ -250,16 +285,29 @@ last-answer Passed l n = absurd (n refl)
 last-answer (Failed r) l n = (r, refl, refl)
 
 -- A BROKEN LAW IS REFUSED
-pub broken-refused : BrokenRefused
-unfolding readOf stages wholeStages answer lawsFault
-broken-refused f a b c o n =
-    let os : List (List ℕ) = operatorRecords f a in
-    let ns : List (List ℕ) = nodeRecords f a b c in
-    let s : Stages f a b c = of-otherwise f a b c o in
+pub broken-refused-as : BrokenRefusedAs
+unfolding readAs stages wholeStages answer lawsFault
+broken-refused-as e f a b c o n =
+    let raw : List (List ℕ) = operatorsIn e f a in
+    let os : List (List ℕ) = operatorRows e raw in
+    let counted : length raw ≡ a = length-records a (operatorLengthIn e) (drop (headerLengthIn e + 1) f) in
+    let ns : List (List ℕ) = nodesIn e f a b c in
+    let s : Stages e f a b c = of-otherwise e f a b c o in
     let w : (r : Refusal) × (answer (lawsFrom ns 0 os ∷ []) (layout a b c) ≡ Refused r) × (lawsFrom ns 0 os ≡ Failed r) =
     last-answer (lawsFrom ns 0 os) (layout a b c)
-    (λ p. n (laws-kept a os ns (length-records a operatorLength (drop 1 f)) (o .cells) (λ i h. o .right-nodes i (rw length-records at h)) p)) in (
+    (λ p. n (laws-kept a os ns (operators-many e raw ∙ counted) (right-operators e raw a counted (o .cells))
+    (λ i h. o .right-nodes i (rw length-records at h)) p)) in (
       w .0,
-      rw (o .operators .count, o .atoms .count, o .nodes .count, s .operators, s .atoms, s .nodes, s .extra, s .tree, s .sum) (w .1),
+      rw (o .operators .count, o .atoms .count, o .nodes .count, s .header, s .operators, s .atoms, s .nodes, s .extra, s .tree, s .sum) (w .1),
       first-broken ns 0 os (w .0) (w .2) .number,
     )
+
+-- the same for the newest edition
+pub refused-plain : RefusedPlain
+refused-plain f r g n = refused-plain-as latest f r g n
+
+pub refused-law : RefusedLaw
+refused-law f r g n = refused-law-as latest f r g n
+
+pub broken-refused : BrokenRefused
+broken-refused f a b c o n = broken-refused-as latest f a b c o n

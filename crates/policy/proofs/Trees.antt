@@ -30,7 +30,8 @@ length-less [] = refl
 length-less (n ∷ st) = refl
 
 module _ {X : Type 0} where
-  -- the trees awaited by a stack of open nodes, the innermost first, and no more: those of the node at the bottom may be as deep as is allowed, and each node above it leaves one less
+  -- the trees awaited by a stack of open nodes, the innermost first, and no more: those of the node at the bottom may be as deep as is allowed, and each
+  -- node above it leaves one less
   abbrev Awaited : List ℕ → Forest X → Type 0
   Awaited [] ts = ts ≡ bare
   Awaited (n ∷ st) ts = (n ≤ countTrees ts) × (depths (takeTrees n ts) ≤ deepest - length st) × Awaited st (dropTrees n ts)
@@ -71,7 +72,8 @@ module _ {X : Type 0} where
       let s : List ℕ = waitingNodes st in
       let k : ℕ = n .childCount in
       let rest : Test = shape (map (λ n. n .childCount) ns) (k ∷ oneLess s) (suc i) in
-      let g : ((leb 1 (length s) && leb (length s) deepest) ≡ true) × (rest ≡ Passed) = guarded (leb 1 (length s) && leb (length s) deepest) rest (plain noTree i) e in
+      let g : ((leb 1 (length s) && leb (length s) deepest) ≡ true) × (rest ≡ Passed) =
+      guarded (leb 1 (length s) && leb (length s) deepest) rest (plain noTree i) e in
       let waits : 1 ≤ length s = leb-true 1 (length s) (and-left (leb 1 (length s)) (leb (length s) deepest) (g .0)) in
       let few : length s ≤ deepest = leb-true (length s) deepest (and-right (leb 1 (length s)) (leb (length s) deepest) (g .0)) in
       let ih : ChildrenFound ns × Awaited (k ∷ oneLess s) (plant ns) = shape-trees ns (k ∷ oneLess s) (suc i) (g .1) in

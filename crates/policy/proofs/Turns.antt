@@ -34,7 +34,8 @@ module _ (f : List ℕ) (from left i : ℕ) (w : List ℕ) (h d : ℕ) (v : Test
   too-deep m g = sym (turn m ∙ rw (le-leb 1 d (omega arith), lt-leb d 16 g))
 
   pub on : 0 < left → 0 < d → d ≤ 16 → length w ≡ 17
-      → shape (map childrenOf (records (left - 1) 5 (drop (from + 5) f))) (stacked (set (set w (d - 1) (getD w (d - 1) 0 - 1)) d (getD f (from + 4) 0)) (d + 1)) (i + 1) ≡ v
+      → shape (map childrenOf (records (left - 1) 5 (drop (from + 5) f)))
+      (stacked (set (set w (d - 1) (getD w (d - 1) 0 - 1)) d (getD f (from + 4) 0)) (d + 1)) (i + 1) ≡ v
   on m p q n = rw (add-one i, enter w d (getD f (from + 4) 0) p (omega arith)) (sym (turn m ∙ rw (le-leb 1 d p, le-leb d 16 q)))
 
   pub finished : left ≤ 0 → unless (eqb d 0) 8 i ≡ v

@@ -1,10 +1,11 @@
--- What an accepted file holds: its operators, its atoms and its nodes, and the tree that the nodes are. See docs/FORMAT.md, "The policy file".
+-- What an accepted file holds: its operators, its atoms and its nodes, and the tree that the nodes are. See
+-- docs/FORMAT.md, "The policy file".
 --
 --   PolicyNode, PolicyTree   a node with its operators' cells and its atoms; a tree of such nodes
---   atomsOf                  the atoms of a file, each a match and an action
+--   atomsOfIn, atomsOf       the atoms of a file of an edition, each a match and an action; of the newest
 --   held                     the nodes, each with its own atoms, taken from where the node before it stopped
---   fileNodes                the nodes of a file
---   treeOf                   the tree that they are
+--   fileNodesIn, fileNodes   the nodes of a file
+--   treeIn, treeOf           the tree that they are
 --   allAtoms                 the atoms of some nodes, one node's behind the other's
 use Prim.Native.Nat.{ℕ}
 use mathlib.Core.List.{List, [], _∷_, _++_, map}
@@ -15,7 +16,12 @@ use Rattle.theory.specs.Nodes.{Listed, plant}
 use Rattle.row.specs.Row.{rowOf}
 use Rattle.flow.specs.declared.Match.{Match}
 use Rattle.action.specs.declared.Action.{Action}
-use Rattle.policy.specs.Read.{cellsOf, innerOf, parentOf, siblingOf, ownOf, childrenOf, operatorRecords, atomRecords, nodeRecords}
+use Rattle.policy.specs.Numbers.{latest}
+use Rattle.policy.specs.Atom.{atomRow}
+use Rattle.policy.specs.Cells.{operatorRows}
+use Rattle.policy.specs.Read.{cellsOf, innerOf, parentOf, siblingOf, ownOf, childrenOf}
+use Rattle.policy.specs.Read.{operatorsIn, atomsIn, nodesIn}
+use Rattle.policy.specs.declared.Edition.{Edition}
 use Rattle.policy.specs.declared.Layout.{Layout}
 
 -- a node: its operators, each by its cells, and its atoms
@@ -45,12 +51,14 @@ held os xs [] = []
 held os xs (r ∷ rs) = record { what = nodeOf os xs r; childCount = childrenOf r } ∷ held os (drop (ownOf r) xs) rs
 
 -- the atoms of a file
-abbrev pub atomsOf : List ℕ → Layout → List (Row Match Action)
-atomsOf f l = map rowOf (atomRecords f (l .operators) (l .atoms))
+abbrev pub atomsOfIn : Edition → List ℕ → Layout → List (Row Match Action)
+atomsOfIn e f l = map (λ r. rowOf (atomRow e r)) (atomsIn e f (l .operators) (l .atoms))
 
 -- the nodes of a file
-abbrev pub fileNodes : List ℕ → Layout → List (Listed PolicyNode)
-fileNodes f l = held (operatorRecords f (l .operators)) (atomsOf f l) (nodeRecords f (l .operators) (l .atoms) (l .nodes))
+abbrev pub fileNodesIn : Edition → List ℕ → Layout → List (Listed PolicyNode)
+fileNodesIn e f l =
+    held (operatorRows e (operatorsIn e f (l .operators))) (atomsOfIn e f l)
+    (nodesIn e f (l .operators) (l .atoms) (l .nodes))
 
 -- the first tree of a forest; a forest without trees has none, and a node that holds nothing stands for it
 abbrev pub firstTree : Forest PolicyNode → PolicyTree
@@ -58,8 +66,18 @@ firstTree bare = node (record { inner = []; parent = []; sibling = []; atoms = [
 firstTree (t ▸ ts) = t
 
 -- the tree that the nodes of a file are
+abbrev pub treeIn : Edition → List ℕ → Layout → PolicyTree
+treeIn e f l = firstTree (plant (fileNodesIn e f l))
+
+-- the same for the newest edition
+abbrev pub atomsOf : List ℕ → Layout → List (Row Match Action)
+atomsOf f l = atomsOfIn latest f l
+
+abbrev pub fileNodes : List ℕ → Layout → List (Listed PolicyNode)
+fileNodes f l = fileNodesIn latest f l
+
 abbrev pub treeOf : List ℕ → Layout → PolicyTree
-treeOf f l = firstTree (plant (fileNodes f l))
+treeOf f l = treeIn latest f l
 
 -- the atoms of some nodes, one node's behind the other's
 abbrev pub allAtoms : List (Listed PolicyNode) → List (Row Match Action)

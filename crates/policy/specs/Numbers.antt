@@ -1,24 +1,45 @@
--- The numbers of a policy file, each named once: how many words a record has, how many records and how deep, and the refusals.
--- See docs/FORMAT.md, "The policy file" and "Numbers a caller can get back".
+-- The numbers of a policy file, each named once: how many words a record has in each edition, how many records and how
+-- deep, and the refusals. See docs/FORMAT.md, "The policy file" and "Numbers a caller can get back".
 use Prim.Native.Nat.{ℕ, _+_, _*_}
+use mathlib.Core.List.{List, []}
 use Rattle.action.specs.Operator.{cellCount}
 use Rattle.row.specs.Row.{rowLength}
+use Rattle.policy.specs.declared.Edition.{Edition}
+use Rattle.policy.specs.declared.Edition.the-variants.{First}
+
+-- the newest edition
+abbrev pub latest : Edition
+latest = First
 
 -- the words before the first count
+abbrev pub headerLengthIn : Edition → ℕ
+headerLengthIn First = 0
+
+-- those words
+abbrev pub headerOf : Edition → List ℕ
+headerOf First = []
+
+-- the words of an operator: its cells
+abbrev pub operatorLengthIn : Edition → ℕ
+operatorLengthIn First = cellCount
+
+-- the words of an atom: a match, then an action
+abbrev pub atomLengthIn : Edition → ℕ
+atomLengthIn First = rowLength
+
+-- the same for the newest edition
 abbrev pub headerLength : ℕ
-headerLength = 0
+headerLength = headerLengthIn latest
+
+abbrev pub operatorLength : ℕ
+operatorLength = operatorLengthIn latest
+
+abbrev pub atomLength : ℕ
+atomLength = atomLengthIn latest
 
 -- where the first operator stands, behind the count of the operators
 abbrev pub firstOperator : ℕ
 firstOperator = headerLength + 1
-
--- the words of an operator: its cells
-abbrev pub operatorLength : ℕ
-operatorLength = cellCount
-
--- the words of an atom: a match, then an action
-abbrev pub atomLength : ℕ
-atomLength = rowLength
 
 -- the words of a node: inner, parent and sibling operator indexes, own-atom count, child count
 abbrev pub nodeLength : ℕ

@@ -1,18 +1,21 @@
--- What reading a policy file answers, for every list of words: the first refusal in the order of the stages, or the layout.
+-- What reading a policy file of an edition answers, for every list of words: the first refusal in the order of the
+-- stages, or the layout.
 -- See docs/FORMAT.md, "The policy file" and "Numbers a caller can get back".
 --
 --   unless, _else_         a refusal where a test is not met; the first of two
 --   each                   the first refusal of some records in order
+--   headerFault            the header is the edition's
 --   countFault             a section's count is there (1) and within its limits (2)
 --   sectionFault           the count, then the whole section (1), then its records in order
---   recordFault            an operator's cells (3), an atom's match (4) and then its action (5), a node's indexes and counts (6)
+--   recordFault            an operator's cells (3), an atom's match (4) and then its action (5), a node's words (6)
 --   shapeFault             the nodes are one tree, no deeper than allowed (8)
 --   sumFault               the own-atom counts add up to the atoms (9)
 --   lawsFault              the operators that some node names as inner or sibling keep the laws (10)
 --   behind                 where a section ends: the next one's count stands there
---   wholeStages            once the sections are good: words after the last node (7), then the tree, the sum and the laws
+--   extraFault             no words stand behind the last node (7)
+--   wholeStages            once the sections are good: the end, the tree, the sum and the laws
 --   stages, answer         all stages in order
---   readOf                 the answer
+--   readAs, readOf         the answer, for an edition and for the newest
 --   numbered               the answer's number, place, law and actions
 use Prim.Native.Nat.{ℕ, zero, suc, _+_, _*_, pred}
 use mathlib.Core.Bool.{Bool, false, cond, _&&_, _||_}
@@ -20,16 +23,19 @@ use mathlib.Core.List.{List, [], _∷_, map}
 use lib.Dec.{eqb, leb, ltb}
 use lib.ListN.{getD, length, drop}
 use Rattle.words.specs.Records.{records}
-use Rattle.row.specs.Row.{rightRowMatch, rightRowAction}
-use Rattle.action.specs.Operator.{rightCell}
 use Rattle.action.specs.Laws.{lawSearch}
 use Rattle.action.specs.declared.Action.the-variants.{DontCare}
 use Rattle.action.specs.declared.Law.the-variants.{Unnamed}
 use Rattle.action.specs.declared.Lawful.{Lawful}
 use Rattle.action.specs.declared.Lawful.the-variants.{Yes, Broken}
-use Rattle.policy.specs.Numbers.{headerLength, firstOperator, operatorLength, atomLength, nodeLength}
+use Rattle.policy.specs.Numbers.{latest, headerLengthIn, operatorLengthIn, atomLengthIn, nodeLength}
 use Rattle.policy.specs.Numbers.{mostOperators, mostAtoms, mostNodes, mostChildren, deepest}
-use Rattle.policy.specs.Numbers.{short, wrongCount, wrongCell, wrongMatch, wrongAction, wrongNode, extraWords, noTree, wrongSum, lawBroken}
+use Rattle.policy.specs.Numbers.{short, wrongCount, wrongCell, wrongMatch, wrongAction, wrongNode}
+use Rattle.policy.specs.Numbers.{extraWords, noTree, wrongSum, lawBroken}
+use Rattle.policy.specs.Atom.{rightAtomMatch, rightAtomAction}
+use Rattle.policy.specs.Cells.{rightCellIn, operatorRows}
+use Rattle.policy.specs.declared.Edition.{Edition}
+use Rattle.policy.specs.declared.Edition.the-variants.{First}
 use Rattle.policy.specs.declared.Layout.{Layout}
 use Rattle.policy.specs.declared.Reading.{Reading}
 use Rattle.policy.specs.declared.Reading.the-variants.{Accepted, Refused}
@@ -59,21 +65,25 @@ each t at k (r ∷ rs) = _else_ (t at r) (each t (at + k) k rs)
 
 -- the words of a section's records
 abbrev pub recordLength : Section → ℕ
-recordLength Operators = operatorLength
-recordLength Atoms = atomLength
+recordLength (Operators e) = operatorLengthIn e
+recordLength (Atoms e) = atomLengthIn e
 recordLength (Nodes n) = nodeLength
 
 -- the fewest records that a section may have
 abbrev pub least : Section → ℕ
-least Operators = 1
-least Atoms = 0
+least (Operators e) = 1
+least (Atoms e) = 0
 least (Nodes n) = 1
 
 -- the most records that a section may have
 abbrev pub most : Section → ℕ
-most Operators = mostOperators
-most Atoms = mostAtoms
+most (Operators e) = mostOperators
+most (Atoms e) = mostAtoms
 most (Nodes n) = mostNodes
+
+-- the header of an edition: the first has none
+abbrev pub headerFault : Edition → List ℕ → Test
+headerFault First f = Passed
 
 -- the count of a section is there, and within its limits
 unfoldable pub countFault : List ℕ → ℕ → Section → Test
@@ -82,17 +92,17 @@ countFault f at s =
     (unless (leb (least s) (getD f at 0) && leb (getD f at 0) (most s)) wrongCount at)
 
 -- the cells from the j-th on are right, the first of them at a place
-abbrev pub cellsFrom : ℕ → ℕ → List ℕ → Test
-cellsFrom j at [] = Passed
-cellsFrom j at (c ∷ cs) = _else_ (unless (rightCell j c) wrongCell at) (cellsFrom (suc j) (suc at) cs)
+abbrev pub cellsFrom : Edition → ℕ → ℕ → List ℕ → Test
+cellsFrom e j at [] = Passed
+cellsFrom e j at (c ∷ cs) = _else_ (unless (rightCellIn e j c) wrongCell at) (cellsFrom e (suc j) (suc at) cs)
 
 -- the cells of an operator are right
-unfoldable pub cellsFault : ℕ → List ℕ → Test
-cellsFault at r = cellsFrom 0 at r
+unfoldable pub cellsFault : Edition → ℕ → List ℕ → Test
+cellsFault e at r = cellsFrom e 0 at r
 
 -- the match of an atom is right, then its action
-unfoldable pub atomFault : ℕ → List ℕ → Test
-atomFault at r = _else_ (unless (rightRowMatch r) wrongMatch at) (unless (rightRowAction r) wrongAction at)
+unfoldable pub atomFault : Edition → ℕ → List ℕ → Test
+atomFault e at r = _else_ (unless (rightAtomMatch e r) wrongMatch at) (unless (rightAtomAction e r) wrongAction at)
 
 -- the words of a node: inner, parent and sibling operator indexes, own-atom count, child count
 abbrev pub innerOf : List ℕ → ℕ
@@ -124,8 +134,8 @@ nodeFault operators at r =
 
 -- a record of a section is right
 abbrev pub recordFault : Section → ℕ → List ℕ → Test
-recordFault Operators at r = cellsFault at r
-recordFault Atoms at r = atomFault at r
+recordFault (Operators e) at r = cellsFault e at r
+recordFault (Atoms e) at r = atomFault e at r
 recordFault (Nodes n) at r = nodeFault n at r
 
 -- where a section of n records ends, whose count stands at a place
@@ -152,7 +162,8 @@ abbrev pub oneLess : List ℕ → List ℕ
 oneLess [] = []
 oneLess (n ∷ st) = pred n ∷ st
 
--- nodes in order, by their child counts: first whether the tree had already ended, then depth; at the end, whether children are missing
+-- nodes in order, by their child counts: first whether the tree had already ended, then depth; at the end, whether
+-- children are missing
 abbrev pub shape : List ℕ → List ℕ → ℕ → Test
 shape [] st i = unless (eqb (length (waitingNodes st)) 0) noTree i
 shape (k ∷ ks) st i =
@@ -189,7 +200,9 @@ broken i (Broken l a b c) = Failed (record { number = lawBroken; place = i; law 
 
 -- the nine cells of an operator; words that are missing count as 0
 abbrev pub cellsOf : List ℕ → List ℕ
-cellsOf r = getD r 0 0 ∷ getD r 1 0 ∷ getD r 2 0 ∷ getD r 3 0 ∷ getD r 4 0 ∷ getD r 5 0 ∷ getD r 6 0 ∷ getD r 7 0 ∷ getD r 8 0 ∷ []
+cellsOf r =
+    getD r 0 0 ∷ getD r 1 0 ∷ getD r 2 0 ∷ getD r 3 0 ∷ getD r 4 0
+    ∷ getD r 5 0 ∷ getD r 6 0 ∷ getD r 7 0 ∷ getD r 8 0 ∷ []
 
 -- the operator i keeps the laws, if some node names it
 unfoldable pub operatorFault : List (List ℕ) → ℕ → List ℕ → Test
@@ -205,47 +218,70 @@ unfoldable pub lawsFault : List (List ℕ) → List (List ℕ) → Test
 lawsFault ns os = lawsFrom ns 0 os
 
 -- where the count of the atoms stands in a file of a operators
-abbrev pub atomsAt : ℕ → ℕ
-atomsAt a = behind headerLength Operators a
+abbrev pub atomsAtIn : Edition → ℕ → ℕ
+atomsAtIn e a = behind (headerLengthIn e) (Operators e) a
 
 -- where the count of the nodes stands in a file of a operators and b atoms
-abbrev pub nodesAt : ℕ → ℕ → ℕ
-nodesAt a b = behind (atomsAt a) Atoms b
-
--- the operators of a file, each by its words
-abbrev pub operatorRecords : List ℕ → ℕ → List (List ℕ)
-operatorRecords f a = records a operatorLength (drop firstOperator f)
-
--- the atoms
-abbrev pub atomRecords : List ℕ → ℕ → ℕ → List (List ℕ)
-atomRecords f a b = records b atomLength (drop (atomsAt a + 1) f)
-
--- the nodes
-abbrev pub nodeRecords : List ℕ → ℕ → ℕ → ℕ → List (List ℕ)
-nodeRecords f a b c = records c nodeLength (drop (nodesAt a b + 1) f)
+abbrev pub nodesAtIn : Edition → ℕ → ℕ → ℕ
+nodesAtIn e a b = behind (atomsAtIn e a) (Atoms e) b
 
 -- where a file of a operators, b atoms and c nodes ends
-abbrev pub endOf : ℕ → ℕ → ℕ → ℕ
-endOf a b c = behind (nodesAt a b) (Nodes a) c
+abbrev pub endIn : Edition → ℕ → ℕ → ℕ → ℕ
+endIn e a b c = behind (nodesAtIn e a b) (Nodes a) c
 
--- what is tested once all three sections are good: the count of the nodes stands at q
-unfoldable pub wholeStages : List ℕ → ℕ → ℕ → ℕ → ℕ → List Test
-wholeStages f a b c q =
-    let end : ℕ = behind q (Nodes a) c in
+-- the operators of a file, each by its words
+abbrev pub operatorsIn : Edition → List ℕ → ℕ → List (List ℕ)
+operatorsIn e f a = records a (operatorLengthIn e) (drop (headerLengthIn e + 1) f)
+
+-- the atoms
+abbrev pub atomsIn : Edition → List ℕ → ℕ → ℕ → List (List ℕ)
+atomsIn e f a b = records b (atomLengthIn e) (drop (atomsAtIn e a + 1) f)
+
+-- the nodes
+abbrev pub nodesIn : Edition → List ℕ → ℕ → ℕ → ℕ → List (List ℕ)
+nodesIn e f a b c = records c nodeLength (drop (nodesAtIn e a b + 1) f)
+
+-- the same for the newest edition
+abbrev pub atomsAt : ℕ → ℕ
+atomsAt a = atomsAtIn latest a
+
+abbrev pub nodesAt : ℕ → ℕ → ℕ
+nodesAt a b = nodesAtIn latest a b
+
+abbrev pub endOf : ℕ → ℕ → ℕ → ℕ
+endOf a b c = endIn latest a b c
+
+abbrev pub operatorRecords : List ℕ → ℕ → List (List ℕ)
+operatorRecords f a = operatorsIn latest f a
+
+abbrev pub atomRecords : List ℕ → ℕ → ℕ → List (List ℕ)
+atomRecords f a b = atomsIn latest f a b
+
+abbrev pub nodeRecords : List ℕ → ℕ → ℕ → ℕ → List (List ℕ)
+nodeRecords f a b c = nodesIn latest f a b c
+
+-- no words stand behind the end of a file
+abbrev pub extraFault : List ℕ → ℕ → Test
+extraFault f end = unless (leb (length f) end) extraWords end
+
+-- what is tested once all three sections are good: the count of the operators stands at h, that of the nodes at q
+unfoldable pub wholeStages : Edition → List ℕ → ℕ → ℕ → ℕ → ℕ → ℕ → List Test
+wholeStages e f h a b c q =
     let ns : List (List ℕ) = records c nodeLength (drop (q + 1) f) in
-    unless (leb (length f) end) extraWords end
+    extraFault f (behind q (Nodes a) c)
     ∷ shapeFault ns
     ∷ sumFault ns b
-    ∷ lawsFault ns (operatorRecords f a)
+    ∷ lawsFault ns (operatorRows e (records a (operatorLengthIn e) (drop (h + 1) f)))
     ∷ []
 
 -- the stages of reading a file of a operators, b atoms and c nodes, in order
-unfoldable pub stages : List ℕ → ℕ → ℕ → ℕ → List Test
-stages f a b c =
-    sectionFault f headerLength Operators
-    ∷ sectionFault f (atomsAt a) Atoms
-    ∷ sectionFault f (nodesAt a b) (Nodes a)
-    ∷ wholeStages f a b c (nodesAt a b)
+unfoldable pub stages : Edition → List ℕ → ℕ → ℕ → ℕ → List Test
+stages e f a b c =
+    headerFault e f
+    ∷ sectionFault f (headerLengthIn e) (Operators e)
+    ∷ sectionFault f (atomsAtIn e a) (Atoms e)
+    ∷ sectionFault f (nodesAtIn e a b) (Nodes a)
+    ∷ wholeStages e f (headerLengthIn e) a b c (nodesAtIn e a b)
 
 -- the layout of a file of a operators, b atoms and c nodes
 abbrev pub layout : ℕ → ℕ → ℕ → Layout
@@ -257,13 +293,17 @@ answer [] l = Accepted l
 answer (Passed ∷ ts) l = answer ts l
 answer (Failed r ∷ ts) l = Refused r
 
--- WHAT READING ANSWERS: the three counts are the words that stand in their places
-unfoldable pub readOf : List ℕ → Reading
-readOf f =
-    let a : ℕ = getD f headerLength 0 in
-    let b : ℕ = getD f (atomsAt a) 0 in
-    let c : ℕ = getD f (nodesAt a b) 0 in
-    answer (stages f a b c) (layout a b c)
+-- WHAT READING ANSWERS, for each edition: the three counts are the words that stand in their places
+unfoldable pub readAs : Edition → List ℕ → Reading
+readAs e f =
+    let a : ℕ = getD f (headerLengthIn e) 0 in
+    let b : ℕ = getD f (atomsAtIn e a) 0 in
+    let c : ℕ = getD f (nodesAtIn e a b) 0 in
+    answer (stages e f a b c) (layout a b c)
+
+-- for the newest edition
+abbrev pub readOf : List ℕ → Reading
+readOf f = readAs latest f
 
 -- the number, place, law and actions of an answer: 0, 0, no law and three don't cares where the file is accepted
 abbrev pub numbered : Reading → Refusal

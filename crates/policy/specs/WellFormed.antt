@@ -1,23 +1,28 @@
--- When a policy file is well formed, in the words of the scope, without the order in which it is read. See docs/FORMAT.md, "The policy file".
+-- When a policy file is well formed, in the words of the scope, without the order in which it is read. See
+-- docs/FORMAT.md, "The policy file".
 --
 --   Present              a section: its count is there and within limits, and so are all its records
 --   depth, depths        how deep a tree is; the deepest of some trees
 --   OneTree              some nodes in file order are those of one tree, no deeper than allowed
+--   RightHeader          a file begins with the header of an edition
 --   KeepsLaws            an operator is commutative and associative over all actions with allowed rates
---   WellFormed f l       the file f is well formed, with the layout l
+--   WellFormedIn e f l   the file f of the edition e is well formed, with the layout l; WellFormed of the newest
 use Prim.Native.Nat.{ℕ, suc, _+_, _*_, _≤_, _<_, max}
 use mathlib.Core.Path.{_≡_}
 use mathlib.Core.Bool.{true}
 use mathlib.Core.List.{List, []}
-use lib.ListN.{getD, length}
+use lib.ListN.{getD, length, take}
 use Rattle.theory.specs.Tree.{Tree, Forest, node, bare, _▸_}
 use Rattle.theory.specs.Nodes.{Listed, listTree}
-use Rattle.row.specs.Row.{rightRowMatch, rightRowAction}
-use Rattle.action.specs.Operator.{rightCell}
 use Rattle.action.specs.Laws.{Commutative, Associative}
-use Rattle.policy.specs.Numbers.{operatorLength, atomLength, nodeLength, mostOperators, mostAtoms, mostNodes, mostChildren, deepest}
-use Rattle.policy.specs.Read.{innerOf, parentOf, siblingOf, ownOf, childrenOf, ownAtoms, atomsAt, nodesAt, endOf, operatorRecords, atomRecords, nodeRecords}
-use Rattle.policy.specs.File.{operatorAt, fileNodes}
+use Rattle.policy.specs.Numbers.{latest, headerLengthIn, headerOf, operatorLengthIn, atomLengthIn, nodeLength}
+use Rattle.policy.specs.Numbers.{mostOperators, mostAtoms, mostNodes, mostChildren, deepest}
+use Rattle.policy.specs.Read.{innerOf, parentOf, siblingOf, ownOf, childrenOf, ownAtoms}
+use Rattle.policy.specs.Read.{atomsAtIn, nodesAtIn, endIn, operatorsIn, atomsIn, nodesIn}
+use Rattle.policy.specs.File.{operatorAt, fileNodesIn}
+use Rattle.policy.specs.Atom.{rightAtomMatch, rightAtomAction}
+use Rattle.policy.specs.Cells.{rightCellIn, operatorRows}
+use Rattle.policy.specs.declared.Edition.{Edition}
 use Rattle.policy.specs.declared.Layout.{Layout}
 
 -- the count at a place is n, from low to high, and the n records of k words behind it are there
@@ -57,25 +62,39 @@ pub record RightNode (operators : ℕ) (r : List ℕ) : Type 0 where
   pub own : ownOf r ≤ mostAtoms
   pub children : childrenOf r ≤ mostChildren
 
--- a well-formed file of a operators, b atoms and c nodes, but for the laws
-pub record Otherwise (f : List ℕ) (a b c : ℕ) : Type 0 where
-  pub operators : Present f 0 1 mostOperators operatorLength a
-  pub atoms : Present f (atomsAt a) 0 mostAtoms atomLength b
-  pub nodes : Present f (nodesAt a b) 1 mostNodes nodeLength c
-  pub cells : (i j : ℕ) → i < a → j < operatorLength → rightCell j (getD (getD (operatorRecords f a) i []) j 0) ≡ true
-  pub matches : (i : ℕ) → i < b → rightRowMatch (getD (atomRecords f a b) i []) ≡ true
-  pub actions : (i : ℕ) → i < b → rightRowAction (getD (atomRecords f a b) i []) ≡ true
-  pub right-nodes : (i : ℕ) → i < c → RightNode a (getD (nodeRecords f a b c) i [])
-  pub ends : length f ≡ endOf a b c
-  pub one-tree : OneTree (fileNodes f (record { operators = a; atoms = b; nodes = c }))
-  pub all-taken : ownAtoms (nodeRecords f a b c) ≡ b
+-- a file begins with the header of an edition
+abbrev pub RightHeader : Edition → List ℕ → Type 0
+RightHeader e f = take (headerLengthIn e) f ≡ headerOf e
+
+-- a well-formed file of an edition, of a operators, b atoms and c nodes, but for the laws
+pub record OtherwiseIn (e : Edition) (f : List ℕ) (a b c : ℕ) : Type 0 where
+  pub header : RightHeader e f
+  pub operators : Present f (headerLengthIn e) 1 mostOperators (operatorLengthIn e) a
+  pub atoms : Present f (atomsAtIn e a) 0 mostAtoms (atomLengthIn e) b
+  pub nodes : Present f (nodesAtIn e a b) 1 mostNodes nodeLength c
+  pub cells : (i j : ℕ) → i < a → j < operatorLengthIn e
+      → rightCellIn e j (getD (getD (operatorsIn e f a) i []) j 0) ≡ true
+  pub matches : (i : ℕ) → i < b → rightAtomMatch e (getD (atomsIn e f a b) i []) ≡ true
+  pub actions : (i : ℕ) → i < b → rightAtomAction e (getD (atomsIn e f a b) i []) ≡ true
+  pub right-nodes : (i : ℕ) → i < c → RightNode a (getD (nodesIn e f a b c) i [])
+  pub ends : length f ≡ endIn e a b c
+  pub one-tree : OneTree (fileNodesIn e f (record { operators = a; atoms = b; nodes = c }))
+  pub all-taken : ownAtoms (nodesIn e f a b c) ≡ b
 
 -- the operators that nodes name as inner or sibling keep the laws
 abbrev pub LawsKept : List (List ℕ) → List (List ℕ) → Type 0
 LawsKept os ns = (i : ℕ) → i < length ns
     → KeepsLaws (operatorAt os (innerOf (getD ns i []))) × KeepsLaws (operatorAt os (siblingOf (getD ns i [])))
 
--- a well-formed file
-pub record WellFormed (f : List ℕ) (l : Layout) : Type 0 where
-  pub otherwise : Otherwise f (l .operators) (l .atoms) (l .nodes)
-  pub lawful : LawsKept (operatorRecords f (l .operators)) (nodeRecords f (l .operators) (l .atoms) (l .nodes))
+-- a well-formed file of an edition
+pub record WellFormedIn (e : Edition) (f : List ℕ) (l : Layout) : Type 0 where
+  pub otherwise : OtherwiseIn e f (l .operators) (l .atoms) (l .nodes)
+  pub lawful : LawsKept (operatorRows e (operatorsIn e f (l .operators)))
+      (nodesIn e f (l .operators) (l .atoms) (l .nodes))
+
+-- the same for the newest edition
+abbrev pub Otherwise : List ℕ → ℕ → ℕ → ℕ → Type 0
+Otherwise f a b c = OtherwiseIn latest f a b c
+
+abbrev pub WellFormed : List ℕ → Layout → Type 0
+WellFormed f l = WellFormedIn latest f l

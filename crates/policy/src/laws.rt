@@ -3,51 +3,69 @@ ghost use mathlib.Core.Path.{_≡_};
 ghost use Prim.Native.Nat.{_+_, _*_, _≤_};
 ghost use lib.ListN.{length, drop};
 ghost use Rattle.words.specs.Records.{records};
-ghost use Rattle.policy.specs.Numbers.{nodeLength, mostOperators};
-ghost use Rattle.policy.specs.Read.{cellsOf, names, named, broken, operatorFault, lawsFault};
-ghost use Rattle.policy.specs.Read.{atomsAt, operatorRecords};
-use crate::FIRST_OPERATOR;
+ghost use Rattle.policy.specs.Numbers.{operatorLengthIn, nodeLength};
+ghost use Rattle.policy.specs.Cells.{operatorRow, operatorRows};
+ghost use Rattle.policy.specs.Read.{names, named, broken, operatorFault, lawsFault};
+ghost use Rattle.policy.specs.Steps.{Reaches};
+use crate::Edition;
 use crate::INNER;
 use crate::LAW_BROKEN;
 use crate::NODE_WORDS;
-use crate::OPERATOR_WORDS;
 use crate::Refusal;
 use crate::SIBLING;
 use crate::Test;
+use crate::operators::operator_in;
+use crate::places::operator_words;
 use crate::sections::wide;
 use action::Lawful;
-use action::Operator;
 use words::word;
 
-// The first operator, by index, that some node names and that breaks a law. The nodes stand at a place.
-pub(crate) fn laws_fault(file: &[u32], operators: usize, at: usize, count: usize) -> Test
-    requires { ⌜ (operators ≤ mostOperators) × (atomsAt operators ≤ length (now file))
-        × (at + nodeLength * count ≤ length (now file)) ⌝ }
+// The first operator, by index, that some node names and that breaks a law. The count of the operators stands at h, the
+// nodes at a place.
+pub(crate) fn laws_fault(
+    file: &[u32],
+    edition: Edition,
+    h: usize,
+    operators: usize,
+    at: usize,
+    count: usize,
+) -> Test
+    requires { ⌜ Reaches edition (now file) h operators (at + nodeLength * count) ⌝ }
     ensures { λ r. ⌜ r ≡ lawsFault (records count nodeLength (drop at (now (file .entry))))
-        (operatorRecords (now (file .entry)) operators) ⌝ }
+        (operatorRows edition (records operators (operatorLengthIn edition) (drop (h + 1) (now (file .entry))))) ⌝ }
 {
+    let step = operator_words(edition);
     let mut i = 0;
-    let mut from = FIRST_OPERATOR;
+    let mut from = h + 1;
     let mut left = operators;
+    // The first i operators keep the laws or are not named; the others, left of them, stand from from on.
     while 0 < left {
-        let end = from + OPERATOR_WORDS;
-        let found = operator_fault(&file[from..end], i, file, at, count);
+        let end = from + step;
+        let found = operator_fault(&file[from..end], i, edition, file, at, count);
         if let Test::Failed(_) = found {
             return found;
         }
         i += 1;
-        from += OPERATOR_WORDS;
+        from = end;
         left -= 1;
     }
     Test::Passed
 }
 
-fn operator_fault(words: &[u32], i: usize, file: &[u32], at: usize, count: usize) -> Test
+fn operator_fault(
+    words: &[u32],
+    i: usize,
+    edition: Edition,
+    file: &[u32],
+    at: usize,
+    count: usize,
+) -> Test
     requires { ⌜ at + nodeLength * count ≤ length (now file) ⌝ }
-    ensures { λ r. ⌜ r ≡ operatorFault (records count nodeLength (drop at (now (file .entry)))) i (now (words .entry)) ⌝ }
+    ensures { λ r. ⌜ r ≡ operatorFault (records count nodeLength (drop at (now (file .entry)))) i
+        (operatorRow edition (now (words .entry))) ⌝ }
 {
     if is_named(file, at, count, i) {
-        broken(operator_of(words).law_search(), i)
+        broken(operator_in(words, edition).law_search(), i)
     } else {
         Test::Passed
     }
@@ -60,6 +78,7 @@ fn is_named(file: &[u32], at: usize, count: usize, operator: usize) -> bool
 {
     let mut from = at;
     let mut left = count;
+    // No node before from names the operator; the others, left of them, stand from from on.
     while 0 < left {
         let end = from + NODE_WORDS;
         if names(&file[from..end], operator) {
@@ -94,24 +113,5 @@ fn broken(found: Lawful, place: usize) -> Test
             second,
             third,
         }),
-    }
-}
-
-// The operator that nine words are; words that are missing count as 0.
-fn operator_of(words: &[u32]) -> Operator
-    ensures { λ r. ⌜ r .cells ≡ cellsOf (now (words .entry)) ⌝ }
-{
-    Operator {
-        cells: [
-            word(words, 0),
-            word(words, 1),
-            word(words, 2),
-            word(words, 3),
-            word(words, 4),
-            word(words, 5),
-            word(words, 6),
-            word(words, 7),
-            word(words, 8),
-        ],
     }
 }

@@ -2,18 +2,21 @@
 ghost use mathlib.Core.Path.{_≡_};
 ghost use Prim.Native.Nat.{_≤_};
 ghost use lib.ListN.{length};
-ghost use Rattle.policy.specs.Numbers.{mostOperators, mostNodes};
-ghost use Rattle.policy.specs.Read.{behind, atomsAt, readOf};
-ghost use Rattle.policy.specs.Steps.{withWhole, withNodes, withAtoms};
+ghost use Rattle.policy.specs.Numbers.{mostNodes};
+ghost use Rattle.policy.specs.Read.{behind, extraFault, readAs, readOf};
+ghost use Rattle.policy.specs.Steps.{Reaches, withWhole, withNodes, withAtoms, withOperators};
 use crate::places::HEADER_WORDS;
 use crate::places::behind;
+use crate::places::header_words;
 use action::Action;
 use action::CELLS;
 use action::Law;
 use row::ROW_WORDS;
 use words::word;
 
+mod atoms;
 mod laws;
+mod operators;
 mod places;
 mod sections;
 mod shape;
@@ -98,59 +101,95 @@ pub enum Test {
     Failed(Refusal),
 }
 
+// The editions of the file format.
+pub enum Edition {
+    First,
+}
+
+// The newest edition.
+pub const LATEST: Edition = Edition::First;
+
 // A section of the file. Nodes are held against the number of operators.
 pub enum Section {
-    Operators,
-    Atoms,
+    Operators(Edition),
+    Atoms(Edition),
     Nodes(usize),
 }
 
-// Reads a policy file: section by section, then words after the last node, the tree, the own-atom counts and the laws.
+// Reads a policy file of the newest edition.
 pub fn read(file: &[u32]) -> Reading
     ensures { λ r. ⌜ r ≡ readOf (now (file .entry)) ⌝ }
 {
-    let found = sections::section_fault(file, HEADER_WORDS, Section::Operators);
+    read_as(file, LATEST)
+}
+
+// Reads a policy file of an edition: its header, section by section, then words after the last node, the tree, the
+// own-atom counts and the laws.
+pub fn read_as(file: &[u32], edition: Edition) -> Reading
+    ensures { λ r. ⌜ r ≡ readAs edition (now (file .entry)) ⌝ }
+{
+    let found = sections::header_fault(file, edition);
     if let Test::Failed(r) = found {
         return Reading::Refused(r);
     }
-    let a = sections::wide(word(file, HEADER_WORDS));
-    read_atoms(file, a, behind(HEADER_WORDS, Section::Operators, a))
+    read_operators(file, edition, header_words(edition))
 }
 
-// The second section and what follows it, in a file of a operators. The count of the atoms stands at a place.
-fn read_atoms(file: &[u32], a: usize, at: usize) -> Reading
-    requires { ⌜ (a ≤ mostOperators) × (atomsAt a ≤ length (now file)) × (at ≤ length (now file)) ⌝ }
-    ensures { λ r. ⌜ r ≡ withAtoms (now (file .entry)) a at ⌝ }
+// The sections. The count of the operators stands at a place.
+fn read_operators(file: &[u32], edition: Edition, at: usize) -> Reading
+    requires { ⌜ at ≤ length (now file) ⌝ }
+    ensures { λ r. ⌜ r ≡ withOperators edition (now (file .entry)) at ⌝ }
 {
-    let found = sections::section_fault(file, at, Section::Atoms);
+    let section = Section::Operators(edition);
+    let found = sections::section_fault(file, at, section);
+    if let Test::Failed(r) = found {
+        return Reading::Refused(r);
+    }
+    let a = sections::wide(word(file, at));
+    read_atoms(file, edition, at, a, behind(at, section, a))
+}
+
+// The second section and what follows it, in a file of a operators, whose count stands at h.
+fn read_atoms(file: &[u32], edition: Edition, h: usize, a: usize, at: usize) -> Reading
+    requires { ⌜ Reaches edition (now file) h a at ⌝ }
+    ensures { λ r. ⌜ r ≡ withAtoms edition (now (file .entry)) h a at ⌝ }
+{
+    let section = Section::Atoms(edition);
+    let found = sections::section_fault(file, at, section);
     if let Test::Failed(r) = found {
         return Reading::Refused(r);
     }
     let b = sections::wide(word(file, at));
-    read_nodes(file, a, b, behind(at, Section::Atoms, b))
+    read_nodes(file, edition, h, a, b, behind(at, section, b))
 }
 
 // The third section and what follows it, in a file of a operators and b atoms.
-fn read_nodes(file: &[u32], a: usize, b: usize, at: usize) -> Reading
-    requires { ⌜ (a ≤ mostOperators) × (atomsAt a ≤ length (now file)) × (at ≤ length (now file)) ⌝ }
-    ensures { λ r. ⌜ r ≡ withNodes (now (file .entry)) a b at ⌝ }
+fn read_nodes(file: &[u32], edition: Edition, h: usize, a: usize, b: usize, at: usize) -> Reading
+    requires { ⌜ Reaches edition (now file) h a at ⌝ }
+    ensures { λ r. ⌜ r ≡ withNodes edition (now (file .entry)) h a b at ⌝ }
 {
     let found = sections::section_fault(file, at, Section::Nodes(a));
     if let Test::Failed(r) = found {
         return Reading::Refused(r);
     }
-    read_whole(file, a, b, sections::wide(word(file, at)), at)
+    read_whole(file, edition, h, a, b, sections::wide(word(file, at)), at)
 }
 
 // What is tested once all three sections are good.
-fn read_whole(file: &[u32], a: usize, b: usize, c: usize, at: usize) -> Reading
-    requires { ⌜ (a ≤ mostOperators) × (c ≤ mostNodes) × (atomsAt a ≤ length (now file))
-        × (behind at (Section.Nodes a) c ≤ length (now file)) ⌝ }
-    ensures { λ r. ⌜ r ≡ withWhole (now (file .entry)) a b c at ⌝ }
+fn read_whole(
+    file: &[u32],
+    edition: Edition,
+    h: usize,
+    a: usize,
+    b: usize,
+    c: usize,
+    at: usize,
+) -> Reading
+    requires { ⌜ (c ≤ mostNodes) × Reaches edition (now file) h a (behind at (Section.Nodes a) c) ⌝ }
+    ensures { λ r. ⌜ r ≡ withWhole edition (now (file .entry)) h a b c at ⌝ }
 {
     let first = at + 1;
-    let end = first + NODE_WORDS * c;
-    let extra = sections::unless(file.len() <= end, EXTRA_WORDS, end);
+    let extra = extra_fault(file, at, a, c);
     if let Test::Failed(r) = extra {
         return Reading::Refused(r);
     }
@@ -162,7 +201,7 @@ fn read_whole(file: &[u32], a: usize, b: usize, c: usize, at: usize) -> Reading
     if let Test::Failed(r) = sum {
         return Reading::Refused(r);
     }
-    let law = laws::laws_fault(file, a, first, c);
+    let law = laws::laws_fault(file, edition, h, a, first, c);
     if let Test::Failed(r) = law {
         return Reading::Refused(r);
     }
@@ -171,4 +210,13 @@ fn read_whole(file: &[u32], a: usize, b: usize, c: usize, at: usize) -> Reading
         atoms: b,
         nodes: c,
     })
+}
+
+// Words after the last of c nodes, in a file of a operators.
+fn extra_fault(file: &[u32], at: usize, a: usize, c: usize) -> Test
+    requires { ⌜ behind at (Section.Nodes a) c ≤ length (now file) ⌝ }
+    ensures { λ r. ⌜ r ≡ extraFault (now (file .entry)) (behind at (Section.Nodes a) c) ⌝ }
+{
+    let end = behind(at, Section::Nodes(a), c);
+    sections::unless(file.len() <= end, EXTRA_WORDS, end)
 }

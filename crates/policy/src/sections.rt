@@ -3,12 +3,11 @@ ghost use mathlib.Core.Path.{_≡_};
 ghost use Prim.Native.Nat.{_+_, _*_, _≤_, _<_, _^_};
 ghost use lib.ListN.{length, drop};
 ghost use Rattle.words.specs.Records.{records};
-ghost use Rattle.policy.specs.Read.{recordLength, least, most, unless, _else_, each, countFault, cellsFault, atomFault, nodeFault, recordFault, sectionFault};
-use crate::ATOM_WORDS;
+ghost use Rattle.policy.specs.Read.{recordLength, least, most, unless, _else_, each, headerFault, countFault};
+ghost use Rattle.policy.specs.Read.{cellsFault, nodeFault, recordFault, sectionFault};
 use crate::CHILDREN;
+use crate::Edition;
 use crate::INNER;
-use crate::NODE_WORDS;
-use crate::OPERATOR_WORDS;
 use crate::OWN;
 use crate::PARENT;
 use crate::Refusal;
@@ -16,17 +15,15 @@ use crate::SHORT;
 use crate::SIBLING;
 use crate::Section;
 use crate::Test;
-use crate::WRONG_ACTION;
 use crate::WRONG_CELL;
 use crate::WRONG_COUNT;
-use crate::WRONG_MATCH;
 use crate::WRONG_NODE;
+use crate::atoms;
+use crate::operators::right_cell_in;
 use crate::places::behind;
+use crate::places::record_words;
 use action::Action;
 use action::Law;
-use action::right_cell;
-use row::right_row_action;
-use row::right_row_match;
 use words::word;
 
 // How many records a section may have.
@@ -67,14 +64,25 @@ fn count_fault(file: &[u32], at: usize, section: Section) -> Test
     otherwise(there, unless(good, WRONG_COUNT, at))
 }
 
+// The header of a file of an edition.
+pub(crate) fn header_fault(file: &[u32], edition: Edition) -> Test
+    ensures { λ r. ⌜ r ≡ headerFault edition (now (file .entry)) ⌝ }
+{
+    match edition {
+        Edition::First => Test::Passed,
+    }
+}
+
 // The first fault of some records that stand one behind the other.
 fn records_fault(file: &[u32], at: usize, count: usize, section: Section) -> Test
     requires { ⌜ at + recordLength section * count ≤ length (now file) ⌝ }
-    ensures { λ r. ⌜ r ≡ each (recordFault section) at (recordLength section) (records count (recordLength section) (drop at (now (file .entry)))) ⌝ }
+    ensures { λ r. ⌜ r ≡ each (recordFault section) at (recordLength section)
+        (records count (recordLength section) (drop at (now (file .entry)))) ⌝ }
 {
     let step = record_words(section);
     let mut from = at;
     let mut left = count;
+    // No record before from has a fault; the others, left of them, stand from from on.
     while 0 < left {
         let end = from + step;
         let found = record_fault(&file[from..end], from, section);
@@ -89,40 +97,31 @@ fn records_fault(file: &[u32], at: usize, count: usize, section: Section) -> Tes
 
 // The fault of one record, whose first word stands at a place of the file.
 fn record_fault(words: &[u32], at: usize, section: Section) -> Test
-    requires { ⌜ at + length (now words) < 2 ^ 64 ⌝ }
+    requires { ⌜ (at + length (now words) < 2 ^ 64) × (recordLength section ≤ length (now words)) ⌝ }
     ensures { λ r. ⌜ r ≡ recordFault section at (now (words .entry)) ⌝ }
 {
     match section {
-        Section::Operators => cells_fault(words, at),
-        Section::Atoms => atom_fault(words, at),
+        Section::Operators(edition) => cells_fault(words, at, edition),
+        Section::Atoms(edition) => atoms::atom_fault(words, at, edition),
         Section::Nodes(operators) => node_fault(words, at, operators),
     }
 }
 
 // The first wrong cell of an operator.
-fn cells_fault(operator: &[u32], at: usize) -> Test
+fn cells_fault(operator: &[u32], at: usize, edition: Edition) -> Test
     requires { ⌜ at + length (now operator) < 2 ^ 64 ⌝ }
-    ensures { λ r. ⌜ r ≡ cellsFault at (now (operator .entry)) ⌝ }
+    ensures { λ r. ⌜ r ≡ cellsFault edition at (now (operator .entry)) ⌝ }
 {
     let mut j = 0;
+    // The first j cells are right.
     while j < operator.len() {
-        let found = unless(right_cell(j, operator[j]), WRONG_CELL, at + j);
+        let found = unless(right_cell_in(j, operator[j], edition), WRONG_CELL, at + j);
         if let Test::Failed(_) = found {
             return found;
         }
         j += 1;
     }
     Test::Passed
-}
-
-// A wrong match, or else a wrong action.
-fn atom_fault(atom: &[u32], at: usize) -> Test
-    ensures { λ r. ⌜ r ≡ atomFault at (now (atom .entry)) ⌝ }
-{
-    if !right_row_match(atom) {
-        return unless(false, WRONG_MATCH, at);
-    }
-    unless(right_row_action(atom), WRONG_ACTION, at)
 }
 
 // An operator index that is too large, or a count.
@@ -145,24 +144,13 @@ fn node_fault(node: &[u32], at: usize, operators: usize) -> Test
     )
 }
 
-// How many words a record of a section has.
-pub(crate) fn record_words(section: Section) -> usize
-    ensures { λ r. ⌜ r ≡ recordLength section ⌝ }
-{
-    match section {
-        Section::Operators => OPERATOR_WORDS,
-        Section::Atoms => ATOM_WORDS,
-        Section::Nodes(_) => NODE_WORDS,
-    }
-}
-
 // The fewest records that a section may have.
 fn least(section: Section) -> u32
     ensures { λ r. ⌜ r ≡ least section ⌝ }
 {
     match section {
-        Section::Operators => 1,
-        Section::Atoms => 0,
+        Section::Operators(_) => 1,
+        Section::Atoms(_) => 0,
         Section::Nodes(_) => 1,
     }
 }
@@ -172,8 +160,8 @@ fn most(section: Section) -> u32
     ensures { λ r. ⌜ r ≡ most section ⌝ }
 {
     match section {
-        Section::Operators => MOST_OPERATORS,
-        Section::Atoms => MOST_ATOMS,
+        Section::Operators(_) => MOST_OPERATORS,
+        Section::Atoms(_) => MOST_ATOMS,
         Section::Nodes(_) => MOST_NODES,
     }
 }

@@ -18,7 +18,8 @@ use crate::sections::wide;
 // The root has depth 1.
 const DEEPEST: usize = 16;
 
-// The first node that the tree has no place for: it had ended, or the node is too deep; or the node count, if children are missing.
+// The first node that the tree has no place for: it had ended, or the node is too deep; or the node count, if children
+// are missing.
 pub(crate) fn shape_fault(file: &[u32], at: usize, count: usize) -> Test
     requires { ⌜ at + nodeLength * count ≤ length (now file) ⌝ }
     ensures { λ r. ⌜ r ≡ shapeFault (records count nodeLength (drop at (now (file .entry)))) ⌝ }
@@ -29,6 +30,8 @@ pub(crate) fn shape_fault(file: &[u32], at: usize, count: usize) -> Test
     let mut from = at;
     let mut left = count;
     let mut i = 0;
+    // The first i nodes have a place; the first height words of waiting are the children still to come of each node
+    // that is open behind them; the other nodes, left of them, stand from from on.
     while 0 < left {
         let d = settled(waiting, height);
         if d == 0 {
@@ -51,9 +54,11 @@ pub(crate) fn shape_fault(file: &[u32], at: usize, count: usize) -> Test
 // Goes up past the nodes that have all their children.
 fn settled(waiting: [u32; DEEPEST + 1], height: usize) -> usize
     requires { ⌜ height ≤ deepest + 1 ⌝ }
-    ensures { λ r. ⌜ (stacked waiting r ≡ waitingNodes (stacked waiting height)) × (r ≤ height) × (0 < r → 0 < getD waiting (r - 1) 0) ⌝ }
+    ensures { λ r. ⌜ (stacked waiting r ≡ waitingNodes (stacked waiting height)) × (r ≤ height)
+        × (0 < r → 0 < getD waiting (r - 1) 0) ⌝ }
 {
     let mut d = height;
+    // The nodes from d on have all their children.
     while 0 < d {
         let top = d - 1;
         if waiting[top] != 0 {
@@ -81,6 +86,7 @@ fn own_atoms(file: &[u32], at: usize, count: usize) -> usize
     let mut sum = 0;
     let mut from = at;
     let mut left = count;
+    // sum is what the nodes before from take; the others, left of them, stand from from on.
     while 0 < left {
         sum += wide(file[from + OWN]);
         from += NODE_WORDS;

@@ -49,6 +49,7 @@ use Rattle.row.proofs.right_row.Reads as right-row
 use Rattle.row.proofs.right_row_match.Reads as right-row-match
 use Rattle.row.proofs.right_row_action.Reads as right-row-action
 use Rattle.policy.proofs.read.Reads as read
+use Rattle.policy.proofs.read_as.Reads as read-as
 use Rattle.nodes.proofs.root.Reads as root
 use Rattle.nodes.proofs.node_at.Reads as node-at
 use Rattle.nodes.proofs.operator_at.Reads as operator-at
@@ -224,6 +225,9 @@ right-row-action-one = fixed (λ κ a r s p. p)
 -- policy
 read-one : OneAnswer read.Pre read.Post (λ κ r s. r)
 read-one = fixed (λ κ a r s p. p)
+
+read-as-one : OneAnswer read-as.Pre read-as.Post (λ κ r s. r)
+read-as-one = fixed (λ κ a r s p. p)
 
 -- nodes
 root-one : OneAnswer root.Pre root.Post (λ κ r s. r)

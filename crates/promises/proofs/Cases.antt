@@ -11,7 +11,7 @@ use Rattle.action.specs.Operator.{coded, join, rightCell}
 use Rattle.action.specs.Laws.{commutes, associates, shown, pairs, triples, firstPair, firstTriple, lawSearch}
 use Rattle.row.specs.Row.{rowAction, rightRowMatch, rightRowAction, rightRow}
 use Rattle.policy.specs.Read.{countFault, cellsFault, atomFault, nodeFault, sectionFault, shapeFault, sumFault, operatorFault, lawsFault, wholeStages, stages}
-use Rattle.policy.specs.Read.{answer, readOf}
+use Rattle.policy.specs.Read.{answer, readAs}
 use Rattle.tree.specs.Action as tree
 use Rattle.table.specs.Table.{rightLength, checkRows, checkOf}
 use Rattle.table.specs.Scan.{scanOf}
@@ -23,7 +23,7 @@ pub worked-cases : WorkedCases
 unfolding inPrefix rightPrefix zeroBeyond prefixesMeet meetsValue valuesMeet rightValue laid rowsOf rightPacket rightPacketWords isEmpty isNone isPlain
     rightMatch meets overlap common both actionOf rightAction inRange coded join rightCell commutes associates shown pairs triples firstPair firstTriple
     lawSearch rowAction rightRowMatch rightRowAction rightRow countFault cellsFault atomFault nodeFault sectionFault shapeFault sumFault operatorFault lawsFault
-    wholeStages stages answer readOf tree.acceptedAction tree.actionOf rightLength checkRows checkOf scanOf over levelsOf numberOf prioritiesAfter chainAfter
+    wholeStages stages answer readAs tree.acceptedAction tree.actionOf rightLength checkRows checkOf scanOf over levelsOf numberOf prioritiesAfter chainAfter
     compiledRows answerOf tableAfter scratchAfter
 worked-cases = (
   refl,

@@ -10,7 +10,7 @@ use Rattle.action.specs.Operator.{coded, join, rightCell}
 use Rattle.action.specs.Laws.{commutes, associates, shown, pairs, triples, firstPair, firstTriple, lawSearch}
 use Rattle.row.specs.Row.{rowAction, rightRowMatch, rightRowAction, rightRow}
 use Rattle.policy.specs.Read.{countFault, cellsFault, atomFault, nodeFault, sectionFault, shapeFault, sumFault, operatorFault, lawsFault, wholeStages, stages}
-use Rattle.policy.specs.Read.{answer, readOf}
+use Rattle.policy.specs.Read.{answer, readAs}
 use Rattle.table.specs.Table.{rightLength, checkRows, checkOf}
 use Rattle.priority.specs.Numbering.{over, levelsOf, numberOf}
 use Rattle.compile.specs.Compile.{compiledRows, answerOf, tableAfter}
@@ -21,7 +21,7 @@ use Rattle.text.specs.Theorems.{ExamplesListed}
 pub examples-listed : ExamplesListed
 unfolding inPrefix rightPrefix zeroBeyond prefixesMeet meetsValue valuesMeet rightValue laid rowsOf isEmpty isNone isPlain rightMatch overlap common both
     actionOf rightAction inRange coded join rightCell commutes associates shown pairs triples firstPair firstTriple lawSearch rowAction rightRowMatch
-    rightRowAction rightRow countFault cellsFault atomFault nodeFault sectionFault shapeFault sumFault operatorFault lawsFault wholeStages stages answer readOf
+    rightRowAction rightRow countFault cellsFault atomFault nodeFault sectionFault shapeFault sumFault operatorFault lawsFault wholeStages stages answer readAs
     rightLength checkRows checkOf over levelsOf numberOf compiledRows answerOf tableAfter digits decimal number value address matchText actionText line head
     refusal rightInput tableText fileText listingOf
 examples-listed = (refl, (refl, (refl, (refl, (refl, tt)))))

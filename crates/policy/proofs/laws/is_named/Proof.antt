@@ -14,7 +14,9 @@ use Rattle.policy.proofs.laws.is_named.Statement.{statement}
 use Rattle.policy.proofs.laws.is_named.Tie as tie
 
 abbrev Inv-loop : tie.InvT-loop
-Inv-loop file at count operator from₀ left₀ from left = (from + nodeLength * left ≤ length file) × (named operator (records left nodeLength (drop from file)) ≡ named operator (records count nodeLength (drop at file)))
+Inv-loop file at count operator from₀ left₀ from left =
+    (from + nodeLength * left ≤ length file)
+    × (named operator (records left nodeLength (drop from file)) ≡ named operator (records count nodeLength (drop at file)))
 
 abbrev μ-loop : tie.MeasureT-loop
 μ-loop file at count operator from₀ left₀ from left = left
@@ -22,44 +24,21 @@ abbrev μ-loop : tie.MeasureT-loop
 loop-holds : tie.Need-loop-holds Inv-loop μ-loop
 loop-holds c = (omega arith, refl)
 
-add-end : tie.Need-add-end Inv-loop μ-loop
-add-end c = search needs
-
-mul-names : tie.Need-mul-names Inv-loop μ-loop
-mul-names c = search needs
-
-sub-names : tie.Need-sub-names Inv-loop μ-loop
-sub-names c = search needs
-
-part-names-start : tie.Need-part-names-start Inv-loop μ-loop
-part-names-start c = search needs
-
-part-names-end : tie.Need-part-names-end Inv-loop μ-loop
-part-names-end c = search needs
-
-names-requires : tie.Need-names-requires Inv-loop μ-loop
-names-requires c κs = search needs
-
 returns : tie.Need-returns Inv-loop μ-loop
 returns c =
     let l = c .before .before .before .before .loop in
     let g = c .before .before .before .before .before .before .args in
-    named-here (g .operator) (l .from) (l .left) (now (g .file)) _ (l .inv .1) (c .before .before .before .loop-test .taken) _ (c .before .names .ensures) (c .if1 .taken)
-
-add-from : tie.Need-add-from Inv-loop μ-loop
-add-from c = search needs
-
-sub-left : tie.Need-sub-left Inv-loop μ-loop
-sub-left c = search needs
-
-loop-less : tie.Need-loop-less Inv-loop μ-loop
-loop-less c = search needs
+    named-here (g .operator) (l .from) (l .left) (now (g .file)) _ (l .inv .1) (c .before .before .before .loop-test .taken) _ (c .before .names .ensures)
+    (c .if1 .taken)
 
 loop-again : tie.Need-loop-again Inv-loop μ-loop
 loop-again c =
     let l = c .before .before .before .before .loop in
-    let g = c .before .before .before .before .before .before .args in
-    (omega arith, named-later (g .operator) (l .from) (l .left) (now (g .file)) _ (l .inv .1) (c .before .before .before .loop-test .taken) _ (c .before .names .ensures) (c .if1 .left))
+    let g = c .before .before .before .before .before .before .args in (
+      omega arith,
+      named-later (g .operator) (l .from) (l .left) (now (g .file)) _ (l .inv .1) (c .before .before .before .loop-test .taken) _
+          (c .before .names .ensures) (c .if1 .left),
+    )
 
 returns-2 : tie.Need-returns-2 Inv-loop μ-loop
 returns-2 c =
@@ -70,19 +49,5 @@ returns-2 c =
 pub is-named-spec : {M : Type 1} → statement M
 is-named-spec =
     tie.close
-    (tie.spec
-    Inv-loop
-    μ-loop
-    loop-holds
-    add-end
-    mul-names
-    sub-names
-    part-names-start
-    part-names-end
-    names-requires
-    returns
-    add-from
-    sub-left
-    loop-less
-    loop-again
-    returns-2)
+    (tie.spec Inv-loop μ-loop loop-holds (search needs) (search needs) (search needs) (search needs) (search needs)
+    (search needs) returns (search needs) (search needs) (search needs) loop-again returns-2)

@@ -3,99 +3,80 @@
 use borrow.Author.Needs.{needs}
 use native.Mathlib.Omega.{arith}
 use Prim.Native.Nat.{_+_, _*_, _≤_}
-use mathlib.Core.Path.{_≡_, refl}
+use mathlib.Core.Path.{_≡_, refl, ap, _∙_}
 use denote.Ref.{now}
 use lib.ListN.{length, drop}
 use Rattle.words.specs.Records.{records}
-use Rattle.policy.specs.Numbers.{operatorLength, nodeLength, mostOperators}
-use Rattle.policy.specs.Read.{lawsFrom, lawsFault, operatorRecords}
+use Rattle.policy.specs.Numbers.{nodeLength, mostOperators}
+use Rattle.policy.specs.Cells.{operatorRows}
+use Rattle.policy.specs.Read.{lawsFrom, lawsFault}
 use Rattle.policy.proofs.Nodes.{law-broken, law-kept, laws-kept}
+use Rattle.policy.proofs.Records.{fits}
 use Rattle.policy.proofs.laws.laws_fault.Statement.{statement}
 use Rattle.policy.proofs.laws.laws_fault.Tie as tie
 
 abbrev Inv-loop : tie.InvT-loop
-Inv-loop file operators at count i₀ from₀ left₀ i from left = ((from + operatorLength * left ≤ length file) × (at + nodeLength * count ≤ length file) × (i + left ≤ operators) × (operators ≤ mostOperators)) × (lawsFrom (records count nodeLength (drop at file)) i (records left operatorLength (drop from file)) ≡ lawsFault (records count nodeLength (drop at file)) (operatorRecords file operators))
+Inv-loop file edition h operators at count step i₀ from₀ left₀ i from left =
+    ((from + step * left ≤ length file) × (at + nodeLength * count ≤ length file) × (i + left ≤ operators) × (operators ≤ mostOperators))
+    × (lawsFrom (records count nodeLength (drop at file)) i (operatorRows edition (records left step (drop from file)))
+    ≡ lawsFault (records count nodeLength (drop at file)) (operatorRows edition (records operators step (drop (h + 1) file))))
 
 abbrev μ-loop : tie.MeasureT-loop
-μ-loop file operators at count i₀ from₀ left₀ i from left = left
+μ-loop file edition h operators at count step i₀ from₀ left₀ i from left = left
 
 loop-holds : tie.Need-loop-holds Inv-loop μ-loop
 unfolding lawsFault
-loop-holds c = (omega arith, refl)
+loop-holds c = rw (c .operator-words .ensures) (omega arith, refl)
 
 add-end : tie.Need-add-end Inv-loop μ-loop
-add-end c = search needs
+add-end c = omega (arith, fits _ (c .before .loop .from) (c .before .loop .left) _ (c .loop-test .taken) (c .before .loop .inv .0 .0))
 
 mul-operator-fault : tie.Need-mul-operator-fault Inv-loop μ-loop
-mul-operator-fault c = search needs
+mul-operator-fault c = omega (arith, fits _ (c .before .loop .from) (c .before .loop .left) _ (c .loop-test .taken) (c .before .loop .inv .0 .0))
 
 sub-operator-fault : tie.Need-sub-operator-fault Inv-loop μ-loop
-sub-operator-fault c = search needs
+sub-operator-fault c = omega (arith, fits _ (c .before .loop .from) (c .before .loop .left) _ (c .loop-test .taken) (c .before .loop .inv .0 .0))
 
 part-operator-fault-start : tie.Need-part-operator-fault-start Inv-loop μ-loop
-part-operator-fault-start c = search needs
+part-operator-fault-start c = omega (arith, fits _ (c .before .loop .from) (c .before .loop .left) _ (c .loop-test .taken) (c .before .loop .inv .0 .0))
 
 part-operator-fault-end : tie.Need-part-operator-fault-end Inv-loop μ-loop
-part-operator-fault-end c = search needs
-
-operator-fault-requires : tie.Need-operator-fault-requires Inv-loop μ-loop
-operator-fault-requires c κs = search needs
-
-enum-told : tie.Need-enum-told Inv-loop μ-loop
-enum-told c = search needs
+part-operator-fault-end c = omega (arith, fits _ (c .before .loop .from) (c .before .loop .left) _ (c .loop-test .taken) (c .before .loop .inv .0 .0))
 
 returns : tie.Need-returns Inv-loop μ-loop
 returns c =
-    let l = c .before .before .before .before .before .loop in
-    let g = c .before .before .before .before .before .before .before .args in
-    law-broken (records (g .count) nodeLength (drop (g .at) (now (g .file)))) (l .i) (l .from) (l .left) (now (g .file)) _ (l .inv .1) (c .before .before .before .before .loop-test .taken) _ (c .before .before .operator-fault .ensures) _ (c .enum-told .given .1)
-
-enum-told-2 : tie.Need-enum-told-2 Inv-loop μ-loop
-enum-told-2 c = search needs
-
-add-i : tie.Need-add-i Inv-loop μ-loop
-add-i c = search needs
-
-add-from : tie.Need-add-from Inv-loop μ-loop
-add-from c = search needs
-
-sub-left : tie.Need-sub-left Inv-loop μ-loop
-sub-left c = search needs
-
-loop-less : tie.Need-loop-less Inv-loop μ-loop
-loop-less c = search needs
+    let turn = c .before .before .before .before in
+    let l = turn .before .loop in
+    let g = turn .before .before .before .before .args in
+    let nodes = records (g .count) nodeLength (drop (g .at) (now (g .file))) in
+    law-broken (g .edition) nodes _ (l .i) (l .from) (l .left) (now (g .file)) _ (l .inv .1) (turn .loop-test .taken) _
+    (c .before .before .operator-fault .ensures) _ (c .enum-told .given .1)
+    ∙ ap (λ k. lawsFault nodes (operatorRows (g .edition) (records (g .operators) k (drop (g .h + 1) (now (g .file))))))
+    (turn .before .before .operator-words .ensures)
 
 loop-again : tie.Need-loop-again Inv-loop μ-loop
 loop-again c =
-    let l = c .before .before .before .before .before .loop in
-    let g = c .before .before .before .before .before .before .before .args in
-    (omega arith, law-kept (records (g .count) nodeLength (drop (g .at) (now (g .file)))) (l .i) (l .from) (l .left) (now (g .file)) _ (l .inv .1) (c .before .before .before .before .loop-test .taken) _ (c .before .before .operator-fault .ensures) (c .enum-told2 .given .1))
+    let turn = c .before .before .before .before in
+    let l = turn .before .loop in
+    let g = turn .before .before .before .before .args in
+    let m = fits _ (l .from) (l .left) _ (turn .loop-test .taken) (l .inv .0 .0) in (
+      omega (arith, m .others),
+      law-kept (g .edition) (records (g .count) nodeLength (drop (g .at) (now (g .file)))) _ (l .i) (l .from) (l .left) (now (g .file)) _ (l .inv .1)
+          (turn .loop-test .taken) _ (c .before .before .operator-fault .ensures) (c .enum-told2 .given .1),
+    )
 
 returns-2 : tie.Need-returns-2 Inv-loop μ-loop
 returns-2 c =
     let l = c .before .loop in
-    let g = c .before .before .before .args in
-    laws-kept (records (g .count) nodeLength (drop (g .at) (now (g .file)))) (l .i) (l .from) (l .left) (now (g .file)) _ (l .inv .1) (c .loop-test .left)
+    let g = c .before .before .before .before .args in
+    let nodes = records (g .count) nodeLength (drop (g .at) (now (g .file))) in
+    laws-kept (g .edition) nodes _ (l .i) (l .from) (l .left) (now (g .file)) _ (l .inv .1) (c .loop-test .left)
+    ∙ ap (λ k. lawsFault nodes (operatorRows (g .edition) (records (g .operators) k (drop (g .h + 1) (now (g .file))))))
+    (c .before .before .operator-words .ensures)
 
 pub laws-fault-spec : {M : Type 1} → statement M
 laws-fault-spec =
     tie.close
-    (tie.spec
-    Inv-loop
-    μ-loop
-    loop-holds
-    add-end
-    mul-operator-fault
-    sub-operator-fault
-    part-operator-fault-start
-    part-operator-fault-end
-    operator-fault-requires
-    enum-told
-    returns
-    enum-told-2
-    add-i
-    add-from
-    sub-left
-    loop-less
-    loop-again
-    returns-2)
+    (tie.spec Inv-loop μ-loop (search needs) (search needs) loop-holds add-end mul-operator-fault sub-operator-fault
+    part-operator-fault-start part-operator-fault-end (search needs) (search needs) returns (search needs)
+    (search needs) (search needs) (search needs) loop-again returns-2)

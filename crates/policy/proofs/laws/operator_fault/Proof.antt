@@ -5,20 +5,9 @@ use Rattle.policy.proofs.Nodes.{tested, untested}
 use Rattle.policy.proofs.laws.operator_fault.Statement.{statement}
 use Rattle.policy.proofs.laws.operator_fault.Tie as tie
 
-is-named-requires : tie.Need-is-named-requires
-is-named-requires c κs = search needs
-
-operator-of-requires : tie.Need-operator-of-requires
-operator-of-requires c κs = search needs
-
-law-search-requires : tie.Need-law-search-requires
-law-search-requires c κs = search needs
-
-broken-requires : tie.Need-broken-requires
-broken-requires c κs = search needs
-
 returns : tie.Need-returns
-returns c = tested _ _ _ _ (c .before .before .before .before .is-named .ensures) _ _ _ (c .before .before .before .if1 .taken) (c .before .before .operator-of .ensures) (c .before .law-search .ensures) (c .broken .ensures)
+returns c = tested _ _ _ _ (c .before .before .before .before .is-named .ensures) _ _ _ (c .before .before .before .if1 .taken)
+    (c .before .before .operator-in .ensures) (c .before .law-search .ensures) (c .broken .ensures)
 
 returns-2 : tie.Need-returns-2
 returns-2 c = untested _ _ _ _ (c .before .is-named .ensures) (c .if1 .left)
@@ -26,10 +15,4 @@ returns-2 c = untested _ _ _ _ (c .before .is-named .ensures) (c .if1 .left)
 pub operator-fault-spec : {M : Type 1} → statement M
 operator-fault-spec =
     tie.close
-    (tie.spec
-    is-named-requires
-    operator-of-requires
-    law-search-requires
-    broken-requires
-    returns
-    returns-2)
+    (tie.spec (search needs) (search needs) (search needs) (search needs) returns returns-2)

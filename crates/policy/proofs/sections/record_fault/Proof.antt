@@ -1,46 +1,24 @@
 -- `policy::sections::record_fault` meets its contract: the section's case is the definition's.
 -- Assumes nothing.
 use borrow.Author.Needs.{needs}
+use Rattle.policy.proofs.Lengths.{atom-long}
 use Rattle.policy.proofs.sections.record_fault.Statement.{statement}
 use Rattle.policy.proofs.sections.record_fault.Tie as tie
 
-enum-told : tie.Need-enum-told
-enum-told c = search needs
-
-cells-fault-requires : tie.Need-cells-fault-requires
-cells-fault-requires c κs = search needs
-
-enum-told-2 : tie.Need-enum-told-2
-enum-told-2 c = search needs
-
 atom-fault-requires : tie.Need-atom-fault-requires
-atom-fault-requires c κs = search needs
-
-enum-known-section : tie.Need-enum-known-section
-enum-known-section c = search needs
-
-node-fault-requires : tie.Need-node-fault-requires
-node-fault-requires c κs = search needs
+atom-fault-requires c κs = atom-long _ _ _ (c .before .section2 .given .1) (c .before .before .before .before .pre .1)
 
 returns : tie.Need-returns
-returns c = rw (c .before .enum-told .given .1) (c .cells-fault .ensures)
+returns c = rw (c .before .before .section .given .1) (c .cells-fault .ensures)
 
 returns-2 : tie.Need-returns-2
-returns-2 c = rw (c .before .enum-told2 .given .1) (c .atom-fault .ensures)
+returns-2 c = rw (c .before .before .section2 .given .1) (c .atom-fault .ensures)
 
 returns-3 : tie.Need-returns-3
-returns-3 c = rw (c .before .before .section .given .1) (c .node-fault .ensures)
+returns-3 c = rw (c .before .before .section3 .given .1) (c .node-fault .ensures)
 
 pub record-fault-spec : {M : Type 1} → statement M
 record-fault-spec =
     tie.close
-    (tie.spec
-    enum-told
-    cells-fault-requires
-    enum-told-2
-    atom-fault-requires
-    enum-known-section
-    node-fault-requires
-    returns
-    returns-2
-    returns-3)
+    (tie.spec (search needs) (search needs) (search needs) atom-fault-requires (search needs) (search needs) returns
+    returns-2 returns-3)

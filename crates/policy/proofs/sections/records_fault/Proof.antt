@@ -13,13 +13,13 @@ use Rattle.policy.proofs.sections.records_fault.Statement.{statement}
 use Rattle.policy.proofs.sections.records_fault.Tie as tie
 
 abbrev Inv-loop : tie.InvT-loop
-Inv-loop file at count section step from₀ left₀ from left = (from + step * left ≤ length file) × (each (recordFault section) from step (records left step (drop from file)) ≡ each (recordFault section) at (recordLength section) (records count (recordLength section) (drop at file)))
+Inv-loop file at count section step from₀ left₀ from left =
+    (from + step * left ≤ length file)
+    × (each (recordFault section) from step (records left step (drop from file))
+    ≡ each (recordFault section) at (recordLength section) (records count (recordLength section) (drop at file)))
 
 abbrev μ-loop : tie.MeasureT-loop
 μ-loop file at count section step from₀ left₀ from left = left
-
-record-words-requires : tie.Need-record-words-requires Inv-loop μ-loop
-record-words-requires c κs = search needs
 
 loop-holds : tie.Need-loop-holds Inv-loop μ-loop
 loop-holds c = rw (c .record-words .ensures) (c .before .before .pre, refl)
@@ -44,29 +44,23 @@ record-fault-requires c κs =
     let l = c .before .before .loop in
     simp (length-take, length-drop) (omega (arith, fits _ (l .from) (l .left) _ (c .before .loop-test .taken) (l .inv .0)))
 
-enum-told : tie.Need-enum-told Inv-loop μ-loop
-enum-told c = search needs
-
 returns : tie.Need-returns Inv-loop μ-loop
 returns c =
-    let l = c .before .before .before .before .before .loop in
-    let g = c .before .before .before .before .before .before .before .before .args in
-    hit (recordFault (g .section)) _ (l .from) (l .left) (now (g .file)) _ (l .inv .1) (c .before .before .before .before .loop-test .taken) _ (c .before .before .record-fault .ensures) _ (c .enum-told .given .1)
-
-enum-told-2 : tie.Need-enum-told-2 Inv-loop μ-loop
-enum-told-2 c = search needs
-
-sub-left : tie.Need-sub-left Inv-loop μ-loop
-sub-left c = search needs
-
-loop-less : tie.Need-loop-less Inv-loop μ-loop
-loop-less c = search needs
+    let turn = c .before .before .before .before in
+    let l = turn .before .loop in
+    let g = turn .before .before .before .before .args in
+    hit (recordFault (g .section)) _ (l .from) (l .left) (now (g .file)) _ (l .inv .1) (turn .loop-test .taken) _ (c .before .before .record-fault .ensures) _
+    (c .enum-told .given .1)
 
 loop-again : tie.Need-loop-again Inv-loop μ-loop
 loop-again c =
-    let l = c .before .before .before .before .before .loop in
-    let g = c .before .before .before .before .before .before .before .before .args in
-    (fits _ (l .from) (l .left) _ (c .before .before .before .before .loop-test .taken) (l .inv .0) .others, miss (recordFault (g .section)) _ (l .from) (l .left) (now (g .file)) _ (l .inv .1) (c .before .before .before .before .loop-test .taken) _ (c .before .before .record-fault .ensures) (c .enum-told2 .given .1))
+    let turn = c .before .before .before .before in
+    let l = turn .before .loop in
+    let g = turn .before .before .before .before .args in (
+      fits _ (l .from) (l .left) _ (turn .loop-test .taken) (l .inv .0) .others,
+      miss (recordFault (g .section)) _ (l .from) (l .left) (now (g .file)) _ (l .inv .1) (turn .loop-test .taken) _
+          (c .before .before .record-fault .ensures) (c .enum-told2 .given .1),
+    )
 
 returns-2 : tie.Need-returns-2 Inv-loop μ-loop
 returns-2 c =
@@ -77,21 +71,6 @@ returns-2 c =
 pub records-fault-spec : {M : Type 1} → statement M
 records-fault-spec =
     tie.close
-    (tie.spec
-    Inv-loop
-    μ-loop
-    record-words-requires
-    loop-holds
-    add-end
-    mul-record-fault
-    sub-record-fault
-    part-record-fault-start
-    part-record-fault-end
-    record-fault-requires
-    enum-told
-    returns
-    enum-told-2
-    sub-left
-    loop-less
-    loop-again
-    returns-2)
+    (tie.spec Inv-loop μ-loop (search needs) loop-holds add-end mul-record-fault sub-record-fault
+    part-record-fault-start part-record-fault-end record-fault-requires (search needs) returns (search needs)
+    (search needs) (search needs) loop-again returns-2)

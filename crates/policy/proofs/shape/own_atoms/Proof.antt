@@ -14,7 +14,9 @@ use Rattle.policy.proofs.shape.own_atoms.Statement.{statement}
 use Rattle.policy.proofs.shape.own_atoms.Tie as tie
 
 abbrev Inv-loop : tie.InvT-loop
-Inv-loop file at count sum₀ from₀ left₀ sum from left = ((from + nodeLength * left ≤ length file) × (count ≤ mostNodes) × (left ≤ count) × (sum + 4294967296 * left ≤ 4294967296 * count)) × (sum + ownAtoms (records left nodeLength (drop from file)) ≡ ownAtoms (records count nodeLength (drop at file)))
+Inv-loop file at count sum₀ from₀ left₀ sum from left =
+    ((from + nodeLength * left ≤ length file) × (count ≤ mostNodes) × (left ≤ count) × (sum + 4294967296 * left ≤ 4294967296 * count))
+    × (sum + ownAtoms (records left nodeLength (drop from file)) ≡ ownAtoms (records count nodeLength (drop at file)))
 
 abbrev μ-loop : tie.MeasureT-loop
 μ-loop file at count sum₀ from₀ left₀ sum from left = left
@@ -22,35 +24,17 @@ abbrev μ-loop : tie.MeasureT-loop
 loop-holds : tie.Need-loop-holds Inv-loop μ-loop
 loop-holds c = (omega arith, omega arith)
 
-add-wide : tie.Need-add-wide Inv-loop μ-loop
-add-wide c = search needs
-
-mul-wide : tie.Need-mul-wide Inv-loop μ-loop
-mul-wide c = search needs
-
-shared-slice-read-wide : tie.Need-shared-slice-read-wide Inv-loop μ-loop
-shared-slice-read-wide c = search needs
-
-wide-requires : tie.Need-wide-requires Inv-loop μ-loop
-wide-requires c κs = search needs
-
 add-sum : tie.Need-add-sum Inv-loop μ-loop
 add-sum c = omega (arith, c .before .shared-slice-known2 .given (c .before .before .before .loop .from + 3))
-
-add-from : tie.Need-add-from Inv-loop μ-loop
-add-from c = search needs
-
-sub-left : tie.Need-sub-left Inv-loop μ-loop
-sub-left c = search needs
-
-loop-less : tie.Need-loop-less Inv-loop μ-loop
-loop-less c = search needs
 
 loop-again : tie.Need-loop-again Inv-loop μ-loop
 loop-again c =
     let l = c .before .before .before .loop in
-    let g = c .before .before .before .before .before .args in
-    (omega (arith, c .before .shared-slice-known2 .given (l .from + 3)), more-atoms (l .from) (l .left) (l .sum) _ (now (g .file)) (l .inv .1) _ (c .before .before .loop-test .taken) (c .wide .ensures))
+    let g = c .before .before .before .before .before .args in (
+      omega (arith, c .before .shared-slice-known2 .given (l .from + 3)),
+      more-atoms (l .from) (l .left) (l .sum) _ (now (g .file)) (l .inv .1) _
+          (c .before .before .loop-test .taken) (c .wide .ensures),
+    )
 
 returns : tie.Need-returns Inv-loop μ-loop
 returns c =
@@ -61,17 +45,5 @@ returns c =
 pub own-atoms-spec : {M : Type 1} → statement M
 own-atoms-spec =
     tie.close
-    (tie.spec
-    Inv-loop
-    μ-loop
-    loop-holds
-    add-wide
-    mul-wide
-    shared-slice-read-wide
-    wide-requires
-    add-sum
-    add-from
-    sub-left
-    loop-less
-    loop-again
-    returns)
+    (tie.spec Inv-loop μ-loop loop-holds (search needs) (search needs) (search needs) (search needs) add-sum
+    (search needs) (search needs) (search needs) loop-again returns)

@@ -20,23 +20,11 @@ abbrev μ-loop : tie.MeasureT-loop
 loop-holds : tie.Need-loop-holds Inv-loop μ-loop
 loop-holds c = (omega arith, omega arith, refl)
 
-sub-top : tie.Need-sub-top Inv-loop μ-loop
-sub-top c = search needs
-
-mul-if1 : tie.Need-mul-if1 Inv-loop μ-loop
-mul-if1 c = search needs
-
-array-read-if1 : tie.Need-array-read-if1 Inv-loop μ-loop
-array-read-if1 c = search needs
-
 returns : tie.Need-returns Inv-loop μ-loop
 returns c =
     let l = c .before .before .loop in
     let g = c .before .before .before .args in
     (settle-here (g .t1) (l .d) (c .before .loop-test .taken) (c .if1 .taken) ∙ l .inv .2, l .inv .0, λ h. positive _ (c .if1 .taken))
-
-loop-less : tie.Need-loop-less Inv-loop μ-loop
-loop-less c = search needs
 
 loop-again : tie.Need-loop-again Inv-loop μ-loop
 loop-again c =
@@ -53,14 +41,5 @@ returns-2 c =
 pub settled-spec : {M : Type 1} → statement M
 settled-spec =
     tie.close
-    (tie.spec
-    Inv-loop
-    μ-loop
-    loop-holds
-    sub-top
-    mul-if1
-    array-read-if1
-    returns
-    loop-less
-    loop-again
+    (tie.spec Inv-loop μ-loop loop-holds (search needs) (search needs) (search needs) returns (search needs) loop-again
     returns-2)
