@@ -10,13 +10,13 @@ use lib.ListN.{getD, length, drop}
 use Rattle.words.proofs.Records.{length-records}
 use Rattle.words.specs.Records.{records}
 use Rattle.row.specs.Row.{rightRowMatch, rightRowAction}
-use Rattle.action.specs.Operator.{rightCell}
+use Rattle.action.specs.Operator.{cellsOf, rightCell}
 use Rattle.action.specs.Laws.{lawSearch, Shows}
 use Rattle.action.specs.declared.Lawful.{Lawful}
 use Rattle.action.specs.declared.Lawful.the-variants.{Yes, Broken}
 use Rattle.action.proofs.Exact.{search-exact, search-shows}
 use Rattle.policy.specs.Numbers.{operatorLength, mostAtoms, mostChildren, deepest, short, wrongCount, wrongCell, wrongMatch, wrongAction, wrongNode, extraWords, noTree, wrongSum, lawBroken}
-use Rattle.policy.specs.Read.{plain, unless, _else_, each, recordLength, least, most, countFault, cellsFrom, cellsFault, atomFault, nodeFault, recordFault, sectionFault, innerOf, parentOf, siblingOf, ownOf, childrenOf, waitingNodes, oneLess, shape, shapeFault, ownAtoms, sumFault, named, broken, cellsOf, operatorFault, lawsFrom, lawsFault, atomsAt, nodesAt, endOf, operatorRecords, nodeRecords, wholeStages, stages, layout, answer, readOf}
+use Rattle.policy.specs.Read.{plain, unless, _else_, each, recordLength, least, most, countFault, cellsFrom, cellsFault, atomFault, nodeFault, recordFault, sectionFault, innerOf, parentOf, siblingOf, ownOf, childrenOf, waitingNodes, oneLess, shape, shapeFault, ownAtoms, sumFault, named, broken, operatorFault, lawsFrom, lawsFault, atomsAt, nodesAt, endOf, operatorRecords, nodeRecords, wholeStages, stages, layout, answer, readOf}
 use Rattle.policy.specs.File.{operatorAt}
 use Rattle.policy.specs.WellFormed.{Otherwise}
 use Rattle.policy.specs.Theorems.{RefusedLaw, BrokenRefused, RefusedPlain}

@@ -14,8 +14,9 @@ use Rattle.theory.specs.Tree.{Tree, Forest, node, bare, _▸_, Node}
 use Rattle.theory.specs.Nodes.{Listed, plant}
 use Rattle.row.specs.Row.{rowOf}
 use Rattle.flow.specs.declared.Match.{Match}
+use Rattle.action.specs.Operator.{cellsOf}
 use Rattle.action.specs.declared.Action.{Action}
-use Rattle.policy.specs.Read.{cellsOf, innerOf, parentOf, siblingOf, ownOf, childrenOf, operatorRecords, atomRecords, nodeRecords}
+use Rattle.policy.specs.Read.{innerOf, parentOf, siblingOf, ownOf, childrenOf, operatorRecords, atomRecords, nodeRecords}
 use Rattle.policy.specs.declared.Layout.{Layout}
 
 -- a node: its operators, each by its cells, and its atoms

@@ -21,7 +21,7 @@ use lib.Dec.{eqb, leb, ltb}
 use lib.ListN.{getD, length, drop}
 use Rattle.words.specs.Records.{records}
 use Rattle.row.specs.Row.{rightRowMatch, rightRowAction}
-use Rattle.action.specs.Operator.{rightCell}
+use Rattle.action.specs.Operator.{cellsOf, rightCell}
 use Rattle.action.specs.Laws.{lawSearch}
 use Rattle.action.specs.declared.Action.the-variants.{DontCare}
 use Rattle.action.specs.declared.Law.the-variants.{Unnamed}
@@ -186,10 +186,6 @@ named i (r ∷ rs) = names i r || named i rs
 abbrev pub broken : ℕ → Lawful → Test
 broken i Yes = Passed
 broken i (Broken l a b c) = Failed (record { number = lawBroken; place = i; law = l; first = a; second = b; third = c })
-
--- the nine cells of an operator; words that are missing count as 0
-abbrev pub cellsOf : List ℕ → List ℕ
-cellsOf r = getD r 0 0 ∷ getD r 1 0 ∷ getD r 2 0 ∷ getD r 3 0 ∷ getD r 4 0 ∷ getD r 5 0 ∷ getD r 6 0 ∷ getD r 7 0 ∷ getD r 8 0 ∷ []
 
 -- the operator i keeps the laws, if some node names it
 unfoldable pub operatorFault : List (List ℕ) → ℕ → List ℕ → Test

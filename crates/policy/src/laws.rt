@@ -4,7 +4,7 @@ ghost use Prim.Native.Nat.{_+_, _*_, _≤_};
 ghost use lib.ListN.{length, drop};
 ghost use Rattle.words.specs.Records.{records};
 ghost use Rattle.policy.specs.Numbers.{nodeLength, mostOperators};
-ghost use Rattle.policy.specs.Read.{cellsOf, names, named, broken, operatorFault, lawsFault};
+ghost use Rattle.policy.specs.Read.{names, named, broken, operatorFault, lawsFault};
 ghost use Rattle.policy.specs.Read.{atomsAt, operatorRecords};
 use crate::FIRST_OPERATOR;
 use crate::INNER;
@@ -16,7 +16,7 @@ use crate::SIBLING;
 use crate::Test;
 use crate::sections::wide;
 use action::Lawful;
-use action::Operator;
+use action::operator_of;
 use words::word;
 
 // The first operator, by index, that some node names and that breaks a law. The nodes stand at a place.
@@ -94,24 +94,5 @@ fn broken(found: Lawful, place: usize) -> Test
             second,
             third,
         }),
-    }
-}
-
-// The operator that nine words are; words that are missing count as 0.
-fn operator_of(words: &[u32]) -> Operator
-    ensures { λ r. ⌜ r .cells ≡ cellsOf (now (words .entry)) ⌝ }
-{
-    Operator {
-        cells: [
-            word(words, 0),
-            word(words, 1),
-            word(words, 2),
-            word(words, 3),
-            word(words, 4),
-            word(words, 5),
-            word(words, 6),
-            word(words, 7),
-            word(words, 8),
-        ],
     }
 }
