@@ -1,3 +1,4 @@
+pub mod Cells
 pub mod Joined
 pub mod Along
 pub mod Product

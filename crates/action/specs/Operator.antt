@@ -2,17 +2,18 @@
 -- Assumes nothing. See docs/FORMAT.md, "Operators".
 --
 --   kinds, cellCount       the kinds that have cells, and the cells
+--   cellsOf ws             the operator whose cells the first of some words are, by wordsFrom i n ws
 --   cell a b               the cell of two actions
 --   coded c a b            what the code c gives for two actions, by the list codes a b
 --   join o a b             two actions joined
 --   sibling, parent        the two operators supplied by name
---   rateCell               the cell in which both actions have a rate
---   largestCode            the largest code that is right in every cell; largestRateCode in the rate cell
+--   rateCells              the cells in which both actions have a rate, each with the largest code that is right there
+--   largestCode            the largest code that is right in every cell; largestIn rateCells i in the cell i
 --   rightCell i c          a code that is right in the cell i
 --   RightCodes o           an operator with right codes
-use Prim.Native.Nat.{ℕ, _+_, _-_, _*_, _<_, max, min}
+use Prim.Native.Nat.{ℕ, zero, suc, _+_, _-_, _*_, _<_, max, min}
 use mathlib.Core.Path.{_≡_}
-use mathlib.Core.Bool.{Bool, true, cond, _&&_, _||_}
+use mathlib.Core.Bool.{Bool, true, cond, _&&_}
 use mathlib.Core.List.{List, [], _∷_}
 use lib.ListN.{length, getD}
 use lib.Dec.{eqb, leb, ltb}
@@ -27,6 +28,15 @@ kinds = gmb
 -- a cell for each two kinds
 abbrev pub cellCount : ℕ
 cellCount = kinds * kinds
+
+-- n words from the i-th on; words that are missing count as 0
+abbrev pub wordsFrom : ℕ → ℕ → List ℕ → List ℕ
+wordsFrom i zero ws = []
+wordsFrom i (suc n) ws = getD ws i 0 ∷ wordsFrom (suc i) n ws
+
+-- the operator whose cells the first of some words are
+abbrev pub cellsOf : List ℕ → List ℕ
+cellsOf ws = wordsFrom 0 cellCount ws
 
 -- the cell of two actions, the left one's kind slowest
 abbrev pub cell : Action → Action → ℕ
@@ -62,13 +72,22 @@ rateCell = cellCount - 1
 abbrev pub largestCode : ℕ
 largestCode = 4
 
--- the largest code that is right where both actions have a rate
+-- the largest code that is right in the ninth
 abbrev pub largestRateCode : ℕ
 largestRateCode = 6
 
+-- the cells in which both actions have a rate, each with the largest code that is right there
+abbrev pub rateCells : List (ℕ × ℕ)
+rateCells = (rateCell, largestRateCode) ∷ []
+
+-- the largest code that is right in a cell, by such a list
+abbrev pub largestIn : List (ℕ × ℕ) → ℕ → ℕ
+largestIn [] i = largestCode
+largestIn (r ∷ rs) i = cond (eqb i (r .0)) (r .1) (largestIn rs i)
+
 -- codes 1 to 4 are right in every cell, 5 and 6 only in the ninth
 unfoldable pub rightCell : ℕ → ℕ → Bool
-rightCell i c = (ltb i cellCount && leb 1 c) && (leb c largestCode || (eqb i rateCell && leb c largestRateCode))
+rightCell i c = (ltb i cellCount && leb 1 c) && leb c (largestIn rateCells i)
 
 -- an operator with right codes
 abbrev pub RightCodes : List ℕ → Type 0

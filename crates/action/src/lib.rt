@@ -3,7 +3,8 @@ ghost use mathlib.Core.Path.{_≡_};
 ghost use Prim.Native.Nat.{_≤_, max, min};
 ghost use lib.ListN.{getD};
 ghost use Rattle.action.specs.Action.{kindOf, rateOf, actionOf, rightAction};
-ghost use Rattle.action.specs.Operator.{kinds, coded, join, sibling, parent, rightCell};
+ghost use Rattle.action.specs.Operator.{kinds, cellsOf, coded, join, sibling, parent};
+ghost use Rattle.action.specs.Operator.{rateCells, largestIn, rightCell};
 ghost use Rattle.action.specs.Laws.{same, shown, firstPair, firstTriple, withThird, lawSearch};
 use words::word;
 
@@ -31,7 +32,7 @@ const RATE_CELL: usize = CELLS - 1;
 // The largest code that is right in every cell.
 const LARGEST_CODE: u32 = 4;
 
-// The largest code that is right in the ninth.
+// The largest code that is right in the ninth cell.
 const LARGEST_RATE_CODE: u32 = 6;
 
 // How many actions the search takes.
@@ -162,6 +163,20 @@ pub fn action_of(kind: u32, rate: u32) -> Action
     }
 }
 
+// The operator whose cells the first words are. Words that are missing count as 0.
+pub fn operator_of(words: &[u32]) -> Operator
+    ensures { λ r. ⌜ r .cells ≡ cellsOf (now (words .entry)) ⌝ }
+{
+    let mut cells = [0u32; CELLS];
+    let mut i = 0;
+    // The first i cells are the first i words.
+    while i < CELLS {
+        cells[i] = word(words, i);
+        i += 1;
+    }
+    Operator { cells }
+}
+
 // Whether two words are an action's.
 pub fn right_action(kind: u32, rate: u32) -> bool
     ensures { λ r. ⌜ r ≡ rightAction kind rate ⌝ }
@@ -173,9 +188,17 @@ pub fn right_action(kind: u32, rate: u32) -> bool
 pub fn right_cell(cell: usize, code: u32) -> bool
     ensures { λ r. ⌜ r ≡ rightCell cell code ⌝ }
 {
-    (cell < CELLS)
-        & (1 <= code)
-        & ((code <= LARGEST_CODE) | ((cell == RATE_CELL) & (code <= LARGEST_RATE_CODE)))
+    (cell < CELLS) & (1 <= code) & (code <= largest_code(cell))
+}
+
+// The largest code that is right in a cell: an arm for each cell in which both actions have a rate.
+fn largest_code(cell: usize) -> u32
+    ensures { λ r. ⌜ r ≡ largestIn rateCells cell ⌝ }
+{
+    match cell {
+        RATE_CELL => LARGEST_RATE_CODE,
+        _ => LARGEST_CODE,
+    }
 }
 
 // What a cell's code gives.

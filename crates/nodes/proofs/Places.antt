@@ -4,8 +4,8 @@ use Prim.Native.Nat.{ℕ, zero, suc, _+_, _*_, _-_, _/_, _%_, _≤_, _<_}
 use native.Mathlib.Omega.{arith}
 use mathlib.Core.Path.{_≡_, refl, sym, ap, ap₂, _∙_}
 use mathlib.Core.List.{List, [], _∷_, map}
-use lib.ListN.{getD, length, take, drop, length-drop}
-use lib.Seq.{getD-take, getD-drop, drop-drop, take-add, take-at, drop-at, length-take-le}
+use lib.ListN.{getD, length, take, drop, length-drop, drop-of-length-le}
+use lib.Seq.{getD-take, getD-drop, drop-drop, take-all, take-add, take-at, drop-at, length-take-le}
 use borrow.Author.Tests.{le-leb, lt-leb, le-ltb}
 use Rattle.words.specs.Records.{records, rowsOf}
 use Rattle.words.proofs.Records.{length-records, rows-more, rows-none}
@@ -14,7 +14,8 @@ use Rattle.theory.specs.Nodes.{Listed}
 use Rattle.row.specs.Row.{rowLength, rowOf}
 use Rattle.flow.specs.declared.Match.{Match}
 use Rattle.action.specs.declared.Action.{Action}
-use Rattle.policy.specs.Numbers.{operatorLength, atomLength, nodeLength, mostOperators}
+use Rattle.action.proofs.Cells.{cells-equal}
+use Rattle.policy.specs.Numbers.{firstOperator, operatorLength, atomLength, nodeLength, mostOperators}
 use Rattle.policy.specs.Read.{innerOf, parentOf, siblingOf, ownOf, childrenOf, ownAtoms, nodesAt, endOf, operatorRecords, readOf}
 use Rattle.policy.specs.Read as read
 use Rattle.policy.specs.File.{PolicyNode, operatorAt, nodeOf, held, atomsOf}
@@ -23,10 +24,22 @@ use Rattle.policy.specs.declared.Layout.{Layout}
 use Rattle.policy.specs.declared.Reading.the-variants.{Accepted}
 use Rattle.policy.proofs.Accepted.{accepted-exactly}
 use Rattle.logic.proofs.Tests.{by-le}
-use Rattle.nodes.specs.Nodes.{nodePlace, nodeAt, cellsAt, atomsAt, firstAtom, rootSpot}
+use Rattle.nodes.specs.Nodes.{nodePlace, nodeAt, fromOperator, cellsAt, atomsAt, firstAtom, rootSpot}
 use Rattle.nodes.specs.Walk.{layoutOf, listOf, recordsOf, nodeIndex, Reached, nextSpot}
 use Rattle.nodes.specs.declared.NodeWords.{NodeWords}
 use Rattle.nodes.specs.declared.Spot.{Spot}
+
+-- an operator's place in the file, and one behind it
+pub operator-there : (f : List ℕ) (i : ℕ) → let at : ℕ = firstOperator + operatorLength * i in
+    at ≤ length f → take (length f - at) (drop at f) ≡ fromOperator f i
+unfolding fromOperator
+operator-there f i h =
+    let at : ℕ = firstOperator + operatorLength * i in
+    take-all (length f - at) (drop at f) (rw length-drop (omega arith))
+
+pub operator-missing : (f : List ℕ) (i : ℕ) → length f < firstOperator + operatorLength * i → [] ≡ fromOperator f i
+unfolding fromOperator
+operator-missing f i h = sym (drop-of-length-le f {i = firstOperator + operatorLength * i} (omega arith))
 
 -- atoms that are all there, and others
 pub atoms-there : (f : List ℕ) (from n : ℕ) → from + atomLength * n ≤ length f → take (from + atomLength * n - from) (drop from f) ≡ atomsAt f from n
@@ -158,26 +171,14 @@ module _ (f : List ℕ) (w : Otherwise f (layoutOf f .operators) (layoutOf f .at
 
   -- the cells of an operator
   cells-here : (i : ℕ) → i < layoutOf f .operators → cellsAt f i ≡ operatorAt (operatorRecords f (layoutOf f .operators)) i
-  unfolding cellsAt
+  unfolding cellsAt fromOperator
   cells-here i h =
       let a : ℕ = layoutOf f .operators in
-      let cell : (j : ℕ) → j < operatorLength → getD (getD (operatorRecords f a) i []) j 0 ≡ getD f (1 + operatorLength * i + j) 0 =
-      λ j l. record-at a operatorLength (drop 1 f) i j h l ∙ getD-drop 1 f (operatorLength * i + j) 0 ∙ ap (λ m. getD f m 0)
-      (let e : 1 + (operatorLength * i + j) ≡ 1 + operatorLength * i + j = omega arith in e) in
-      let z : 1 + operatorLength * i + 0 ≡ 1 + operatorLength * i = omega arith in
-      rw (
-        cell 0 (omega arith),
-        z,
-        cell 1 (omega arith),
-        cell 2 (omega arith),
-        cell 3 (omega arith),
-        cell 4 (omega arith),
-        cell 5 (omega arith),
-        cell 6
-            (omega arith),
-        cell 7 (omega arith),
-        cell 8 (omega arith),
-      )
+      let at : ℕ = firstOperator + operatorLength * i in
+      cells-equal (drop at f) (getD (operatorRecords f a) i []) (λ j l.
+      let e : at + j ≡ firstOperator + (operatorLength * i + j) = omega arith in
+      getD-drop at f j 0
+      ∙ rw e (sym (record-at a operatorLength (drop firstOperator f) i j h l ∙ getD-drop firstOperator f (operatorLength * i + j) 0)))
 
   -- the rows of n atoms behind s others
   atoms-here : (s n : ℕ) → s + n ≤ layoutOf f .atoms

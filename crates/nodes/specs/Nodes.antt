@@ -1,10 +1,16 @@
 -- Where a node, its operators and its atoms stand in a policy file, for every list of words. See docs/FORMAT.md, "The
 -- policy file".
+--
+--   firstAtom a, rootSpot l              where the first atom stands, and the place of the root
+--   nodePlace n left, nodeAt f left      where the node stands that has so many left, and its words
+--   fromOperator f i, cellsAt f i        the words from the operator of an index on, and its cells
+--   atomsAt f from n                     the words of n atoms
 use Prim.Native.Nat.{ℕ, _+_, _-_, _*_, _/_}
 use mathlib.Core.Bool.{cond}
-use mathlib.Core.List.{List, [], _∷_}
+use mathlib.Core.List.{List, []}
 use lib.Dec.{leb, ltb}
 use lib.ListN.{getD, length, take, drop}
+use Rattle.action.specs.Operator.{cellsOf}
 use Rattle.policy.specs.Numbers.{firstOperator, operatorLength, atomLength, nodeLength, mostOperators}
 use Rattle.policy.specs.Read as read
 use Rattle.policy.specs.declared.Layout.{Layout}
@@ -31,25 +37,17 @@ nodeAt f left =
       inner = getD f (at + 0) 0;
       parent = getD f (at + 1) 0;
       sibling = getD f (at + 2) 0;
-      own = getD f
-          (at + 3) 0;
+      own = getD f (at + 3) 0;
       children = getD f (at + 4) 0;
     }
 
--- the nine cells of the operator of an index
+-- the words from the operator of an index on
+unfoldable pub fromOperator : List ℕ → ℕ → List ℕ
+fromOperator f i = drop (firstOperator + operatorLength * i) f
+
+-- the cells of that operator
 unfoldable pub cellsAt : List ℕ → ℕ → List ℕ
-cellsAt f i =
-    let at : ℕ = firstOperator + operatorLength * i in
-    getD f at 0
-    ∷ getD f (at + 1) 0
-    ∷ getD f (at + 2) 0
-    ∷ getD f (at + 3) 0
-    ∷ getD f (at + 4) 0
-    ∷ getD f (at + 5) 0
-    ∷ getD f (at + 6) 0
-    ∷ getD f (at + 7) 0
-    ∷ getD f (at + 8) 0
-    ∷ []
+cellsAt f i = cellsOf (fromOperator f i)
 
 -- the words of n atoms from a word of the file on; none if they are not all there
 unfoldable pub atomsAt : List ℕ → ℕ → ℕ → List ℕ

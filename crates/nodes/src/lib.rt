@@ -3,9 +3,10 @@
 ghost use mathlib.Core.Path.{_≡_};
 ghost use Prim.Native.Nat.{_≤_};
 ghost use Rattle.action.specs.Operator.{join};
-ghost use Rattle.nodes.specs.Nodes.{nodePlace, nodeAt, cellsAt, atomsAt, firstAtom, rootSpot};
+ghost use Rattle.nodes.specs.Nodes.{nodePlace, nodeAt, fromOperator, cellsAt, atomsAt, firstAtom, rootSpot};
 use action::Action;
 use action::Operator;
+use action::operator_of;
 use policy::ATOM_WORDS;
 use policy::CHILDREN;
 use policy::FIRST_OPERATOR;
@@ -62,20 +63,7 @@ pub fn node_at(file: &[u32], left: usize) -> NodeWords
 pub fn operator_at(file: &[u32], index: u32) -> Operator
     ensures { λ r. ⌜ r .cells ≡ cellsAt (now (file .entry)) index ⌝ }
 {
-    let at = FIRST_OPERATOR + OPERATOR_WORDS * (index as usize);
-    Operator {
-        cells: [
-            word(file, at),
-            word(file, at + 1),
-            word(file, at + 2),
-            word(file, at + 3),
-            word(file, at + 4),
-            word(file, at + 5),
-            word(file, at + 6),
-            word(file, at + 7),
-            word(file, at + 8),
-        ],
-    }
+    operator_of(from_operator(file, index))
 }
 
 // Two actions joined by the operator of an index. It is not read where one of them is don't care.
@@ -124,4 +112,15 @@ fn node_place(length: usize, left: usize) -> usize
         return length;
     }
     length - NODE_WORDS * left
+}
+
+// The words from the operator of an index on, none if it stands outside the file.
+fn from_operator(file: &[u32], index: u32) -> &[u32]
+    ensures { λ r. ⌜ now r ≡ fromOperator (now (file .entry)) index ⌝ }
+{
+    let at = FIRST_OPERATOR + OPERATOR_WORDS * (index as usize);
+    if file.len() < at {
+        return &file[..0];
+    }
+    &file[at..]
 }

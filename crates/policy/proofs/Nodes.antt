@@ -6,11 +6,12 @@ use mathlib.Core.Path.{_≡_, refl, sym, _∙_}
 use mathlib.Core.Bool.{Bool, true, false, _||_}
 use mathlib.Core.List.{List, [], _∷_}
 use lib.ListN.{getD, take, drop}
+use Rattle.action.specs.Operator.{cellsOf}
 use Rattle.action.specs.Laws.{lawSearch}
 use Rattle.action.specs.declared.Lawful.{Lawful}
 use Rattle.words.specs.Records.{records}
 use Rattle.words.proofs.Records.{records-next, record-word}
-use Rattle.policy.specs.Read.{_else_, ownAtoms, names, named, broken, operatorFault, lawsFrom, cellsOf}
+use Rattle.policy.specs.Read.{_else_, ownAtoms, names, named, broken, operatorFault, lawsFrom}
 use Rattle.policy.specs.Cells.{operatorRow, operatorRows}
 use Rattle.policy.specs.declared.Edition.{Edition}
 use Rattle.policy.specs.declared.Edition.the-variants.{First}

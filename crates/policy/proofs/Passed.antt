@@ -11,14 +11,15 @@ use lib.Seq.{length-take-le}
 use borrow.Author.Tests.{eqb-true, eq-eqb, ltb-true, lt-ltb, leb-true, le-leb}
 use Rattle.words.specs.Records.{records}
 use Rattle.words.proofs.Records.{length-records}
-use Rattle.action.specs.Operator.{rightCell, RightCodes}
+use Rattle.action.specs.Operator.{rightCell, RightCodes, cellsOf}
 use Rattle.action.specs.Laws.{lawSearch}
 use Rattle.action.specs.declared.Lawful.{Lawful}
 use Rattle.action.specs.declared.Lawful.the-variants.{Yes, Broken}
+use Rattle.action.proofs.Cells.{cells-many, cell-word}
 use Rattle.action.proofs.Exact.{search-exact}
 use Rattle.policy.specs.Numbers.{headerLengthIn, operatorLengthIn, operatorLength, mostAtoms, mostChildren, wrongMatch, wrongAction, wrongCell, wrongNode}
 use Rattle.policy.specs.Read.{unless, _else_, each, cellsFrom, cellsFault, atomFault, nodeFault, recordLength, least, most, headerFault, countFault}
-use Rattle.policy.specs.Read.{recordFault, sectionFault, innerOf, parentOf, siblingOf, ownOf, childrenOf, names, named, broken, cellsOf, operatorFault}
+use Rattle.policy.specs.Read.{recordFault, sectionFault, innerOf, parentOf, siblingOf, ownOf, childrenOf, names, named, broken, operatorFault}
 use Rattle.policy.specs.Read.{lawsFrom}
 use Rattle.policy.specs.Atom.{rightAtomMatch, rightAtomAction}
 use Rattle.policy.specs.Cells.{rightCellIn, operatorRow, operatorRows}
@@ -233,19 +234,7 @@ passed-laws ns i (o ∷ os) h =
 
 -- right cells are right codes
 pub right-codes : (r : List ℕ) → ((j : ℕ) → j < operatorLength → rightCell j (getD r j 0) ≡ true) → RightCodes (cellsOf r)
-right-codes r h = (refl, go)
-  where
-    go : (j : ℕ) → j < operatorLength → rightCell j (getD (cellsOf r) j 0) ≡ true
-    go zero l = h 0 l
-    go (suc zero) l = h 1 l
-    go (suc (suc zero)) l = h 2 l
-    go (suc (suc (suc zero))) l = h 3 l
-    go (suc (suc (suc (suc zero)))) l = h 4 l
-    go (suc (suc (suc (suc (suc zero))))) l = h 5 l
-    go (suc (suc (suc (suc (suc (suc zero)))))) l = h 6 l
-    go (suc (suc (suc (suc (suc (suc (suc zero))))))) l = h 7 l
-    go (suc (suc (suc (suc (suc (suc (suc (suc zero)))))))) l = h 8 l
-    go (suc (suc (suc (suc (suc (suc (suc (suc (suc j))))))))) l = absurd (omega arith)
+right-codes r h = (cells-many r, λ j l. rw (cell-word r j l) (h j l))
 
 -- for each edition
 right-codes-in : (e : Edition) (r : List ℕ) → ((j : ℕ) → j < operatorLengthIn e → rightCellIn e j (getD r j 0) ≡ true) → RightCodes (cellsOf (operatorRow e r))

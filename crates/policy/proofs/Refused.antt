@@ -17,7 +17,7 @@ use Rattle.policy.specs.Numbers.{latest, headerLengthIn, operatorLengthI
 use Rattle.policy.specs.Numbers.{wrongAction, wrongNode, extraWords, noTree, wrongSum, lawBroken}
 use Rattle.policy.specs.Read.{plain, unless, _else_, each, recordLength, least, most, headerFault, countFault, cellsFrom, cellsFault, atomFault}
 use Rattle.policy.specs.Read.{nodeFault, recordFault, behind, sectionFault, innerOf, parentOf, siblingOf, ownOf, childrenOf, waitingNodes, oneLess, shape}
-use Rattle.policy.specs.Read.{shapeFault, ownAtoms, sumFault, named, broken, cellsOf, operatorFault, lawsFrom, lawsFault, atomsAtIn, nodesAtIn, endIn}
+use Rattle.policy.specs.Read.{shapeFault, ownAtoms, sumFault, named, broken, operatorFault, lawsFrom, lawsFault, atomsAtIn, nodesAtIn, endIn}
 use Rattle.policy.specs.Read.{operatorsIn, nodesIn, extraFault, wholeStages, stages, layout, answer, readAs}
 use Rattle.policy.specs.Atom.{rightAtomMatch, rightAtomAction}
 use Rattle.policy.specs.Cells.{rightCellIn, operatorRows}
@@ -36,6 +36,7 @@ use Rattle.policy.specs.declared.Test.the-variants.{Passed, Failed}
 use Rattle.policy.proofs.Passed.{operators-many, right-operators, laws-kept, unbroken}
 use Rattle.policy.proofs.Accepted.{AllPassed, Stages, otherwise-of, of-otherwise}
 use Rattle.logic.proofs.Tests.{by-test}
+use Rattle.action.specs.Operator.{cellsOf}
 
 -- a refusal that names no law, with a number from 1 to 9
 abbrev PlainRefusal : Refusal → Type 0

@@ -15,11 +15,12 @@ use Rattle.theory.specs.Tree.{Tree, Forest, node, bare, _▸_, Node}
 use Rattle.theory.specs.Nodes.{Listed, plant}
 use Rattle.row.specs.Row.{rowOf}
 use Rattle.flow.specs.declared.Match.{Match}
+use Rattle.action.specs.Operator.{cellsOf}
 use Rattle.action.specs.declared.Action.{Action}
 use Rattle.policy.specs.Numbers.{latest}
 use Rattle.policy.specs.Atom.{atomRow}
 use Rattle.policy.specs.Cells.{operatorRows}
-use Rattle.policy.specs.Read.{cellsOf, innerOf, parentOf, siblingOf, ownOf, childrenOf}
+use Rattle.policy.specs.Read.{innerOf, parentOf, siblingOf, ownOf, childrenOf}
 use Rattle.policy.specs.Read.{operatorsIn, atomsIn, nodesIn}
 use Rattle.policy.specs.declared.Edition.{Edition}
 use Rattle.policy.specs.declared.Layout.{Layout}

@@ -44,6 +44,7 @@ use Rattle.policy.specs.declared.Section.{Section}
 use Rattle.policy.specs.declared.Section.the-variants.{Operators, Atoms, Nodes}
 use Rattle.policy.specs.declared.Test.{Test}
 use Rattle.policy.specs.declared.Test.the-variants.{Passed, Failed}
+use Rattle.action.specs.Operator.{cellsOf}
 
 -- a refusal that names no law
 abbrev pub plain : ℕ → ℕ → Refusal
@@ -197,12 +198,6 @@ named i (r ∷ rs) = names i r || named i rs
 abbrev pub broken : ℕ → Lawful → Test
 broken i Yes = Passed
 broken i (Broken l a b c) = Failed (record { number = lawBroken; place = i; law = l; first = a; second = b; third = c })
-
--- the nine cells of an operator; words that are missing count as 0
-abbrev pub cellsOf : List ℕ → List ℕ
-cellsOf r =
-    getD r 0 0 ∷ getD r 1 0 ∷ getD r 2 0 ∷ getD r 3 0 ∷ getD r 4 0
-    ∷ getD r 5 0 ∷ getD r 6 0 ∷ getD r 7 0 ∷ getD r 8 0 ∷ []
 
 -- the operator i keeps the laws, if some node names it
 unfoldable pub operatorFault : List (List ℕ) → ℕ → List ℕ → Test

@@ -1,11 +1,11 @@
 // The operators of each edition: which codes its cells may have, and the operator that its words are.
 ghost use mathlib.Core.Path.{_≡_};
 ghost use Rattle.policy.specs.Cells.{rightCellIn, operatorRow};
-ghost use Rattle.policy.specs.Read.{cellsOf};
+ghost use Rattle.action.specs.Operator.{cellsOf};
 use crate::Edition;
 use action::Operator;
+use action::operator_of;
 use action::right_cell;
-use words::word;
 
 // Whether a code is right in a cell.
 pub(crate) fn right_cell_in(cell: usize, code: u32, edition: Edition) -> bool
@@ -22,24 +22,5 @@ pub(crate) fn operator_in(words: &[u32], edition: Edition) -> Operator
 {
     match edition {
         Edition::First => operator_of(words),
-    }
-}
-
-// The operator that nine words are; words that are missing count as 0.
-fn operator_of(words: &[u32]) -> Operator
-    ensures { λ r. ⌜ r .cells ≡ cellsOf (now (words .entry)) ⌝ }
-{
-    Operator {
-        cells: [
-            word(words, 0),
-            word(words, 1),
-            word(words, 2),
-            word(words, 3),
-            word(words, 4),
-            word(words, 5),
-            word(words, 6),
-            word(words, 7),
-            word(words, 8),
-        ],
     }
 }

@@ -43,6 +43,7 @@ use Rattle.action.proofs.rate.Reads as rate
 use Rattle.action.proofs.action_of.Reads as action-of
 use Rattle.action.proofs.right_action.Reads as right-action
 use Rattle.action.proofs.right_cell.Reads as right-cell
+use Rattle.action.proofs.operator_of.Reads as operator-of
 use Rattle.row.proofs.row_action.Reads as row-action
 use Rattle.row.proofs.words_of_row.Reads as words-of-row
 use Rattle.row.proofs.right_row.Reads as right-row
@@ -205,6 +206,9 @@ right-action-one = fixed (λ κ a r s p. p)
 
 right-cell-one : OneAnswer right-cell.Pre right-cell.Post (λ κ r s. r)
 right-cell-one = fixed (λ κ a r s p. p)
+
+operator-of-one : OneAnswer operator-of.Pre operator-of.Post (λ κ r s. r)
+operator-of-one = fixed (λ κ a r s p. ap (λ c. record { cells = c }) p)
 
 -- row
 row-action-one : OneAnswer row-action.Pre row-action.Post (λ κ r s. r)

@@ -1,22 +1,21 @@
 -- The rates of an accepted file's rows lie in their range, so 14 is never given: right codes keep actions in range, and every row is made by joining atoms.
 use Prim.Native.Nat.{ℕ, zero, suc, _+_, _≤_, _<_, max, min}
 use native.Mathlib.Omega.{arith}
-use mathlib.Core.Path.{_≡_, refl, sym, ap₂, _∙_}
-use mathlib.Core.Bool.{Bool, true, false, _&&_}
+use mathlib.Core.Path.{_≡_, refl, sym, ap, ap₂, subst, _∙_}
+use mathlib.Core.Bool.{true, false, _&&_}
 use mathlib.Core.List.{List, []}
-use mathlib.Core.Logic.{⊎-elim}
 use lib.Dec.{eqb, leb, ltb}
 use lib.ListN.{getD}
-use borrow.Author.Tests.{leb-true, le-leb}
+use borrow.Author.Tests.{eqb-true, leb-true, le-leb}
 use Rattle.logic.proofs.Lists.{all-then}
-use Rattle.logic.proofs.Tests.{by-test, and-left, and-right, and-both, or-split}
+use Rattle.logic.proofs.Tests.{by-test, and-left, and-right, and-both}
 use Rattle.theory.proofs.Every.{compile-every}
 use Rattle.flow.specs.Match.{isEmpty, common}
-use Rattle.action.specs.Action.{actionOf, largestRate, rightRate, rightAction, inRange}
-use Rattle.action.specs.Operator.{cellCount, rateCell, largestCode, largestRateCode, coded, join, rightCell, RightCodes}
+use Rattle.action.specs.Action.{gmb, kindOf, rateOf, isDontCare, actionOf, largestRate, rightRate, rightAction, inRange}
+use Rattle.action.specs.Operator.{kinds, cellCount, cell, rateCell, largestCode, largestRateCode, coded, join, rightCell, RightCodes}
 use Rattle.action.specs.declared.Action.{Action}
 use Rattle.action.specs.declared.Action.the-variants.{DontCare, Allow, Deny, Gmb}
-use Rattle.action.proofs.Words.{words-of-action, right-words}
+use Rattle.action.proofs.Words.{action-of-words, words-of-action, right-words}
 use Rattle.row.specs.Row.{kindPlace, ratePlace, rowAction, rightRowAction, InRange}
 use Rattle.policy.specs.Read.{readOf, operatorRecords, atomRecords}
 use Rattle.policy.specs.File.{treeOf}
@@ -32,20 +31,11 @@ use Rattle.logic.specs.Lists.{All}
 -- a right code is at most 4, and at most 6 in the ninth cell
 small-code : (i c : ℕ) → rightCell i c ≡ true → eqb i rateCell ≡ false → c ≤ largestCode
 unfolding rightCell
-small-code i c e n = ⊎-elim
-    (λ h. leb-true c largestCode h)
-    (λ h. let z : _≡_ {A = ℕ} 0 1 = clash (eqb i rateCell) n (and-left _ _ h) in absurd (omega arith))
-    (or-split (leb c largestCode) (eqb i rateCell && leb c largestRateCode) (and-right (ltb i cellCount && leb 1 c) _ e))
-  where
-    clash : (b : Bool) → b ≡ false → b ≡ true → _≡_ {A = ℕ} 0 1
-    clash b p q = cc
+small-code i c e n = leb-true c largestCode (rw n at (and-right (ltb i cellCount && leb 1 c) _ e))
 
 rate-code : (c : ℕ) → rightCell rateCell c ≡ true → c ≤ largestRateCode
 unfolding rightCell
-rate-code c e = ⊎-elim
-    (λ h. omega (arith, leb-true c largestCode h))
-    (λ h. leb-true c largestRateCode (and-right (eqb rateCell rateCell) (leb c largestRateCode) h))
-    (or-split (leb c largestCode) (eqb rateCell rateCell && leb c largestRateCode) (and-right (ltb rateCell cellCount && leb 1 c) _ e))
+rate-code c e = leb-true c largestRateCode (and-right (ltb rateCell cellCount && leb 1 c) _ e)
 
 -- what a code gives is in range
 coded-range : (c : ℕ) (a b : Action) → inRange a ≡ true → inRange b ≡ true → c ≤ largestCode → inRange (coded c a b) ≡ true
@@ -80,28 +70,37 @@ rate-range (suc (suc (suc (suc (suc (suc zero)))))) m n p q h =
     in-rate (min m n) (omega (arith, a .0, b .0)) (omega (arith, a .1, b .1))
 rate-range (suc (suc (suc (suc (suc (suc (suc c))))))) m n p q h = absurd (omega arith)
 
--- AN OPERATOR WITH RIGHT CODES KEEPS ACTIONS IN RANGE
+-- the kinds that have cells
+has-cell : (a : Action) → isDontCare a ≡ false → (1 ≤ kindOf a) × (kindOf a ≤ kinds)
+has-cell DontCare e = let z : _≡_ {A = ℕ} 0 1 = cc in absurd (omega arith)
+has-cell Allow e = (omega arith, omega arith)
+has-cell Deny e = (omega arith, omega arith)
+has-cell (Gmb n) e = (omega arith, omega arith)
+
+-- an action of GMB's kind is a GMB
+rated : (a : Action) → kindOf a ≡ gmb → a ≡ Gmb (rateOf a)
+unfolding actionOf
+rated a e = sym (action-of-words a) ∙ ap (λ k. actionOf k (rateOf a)) e
+
+-- AN OPERATOR WITH RIGHT CODES KEEPS ACTIONS IN RANGE: in the ninth cell both are GMBs
 join-range : (o : List ℕ) → RightCodes o → (a b : Action) → inRange a ≡ true → inRange b ≡ true → inRange (join o a b) ≡ true
 unfolding join inRange
-join-range o r = go
+join-range o r a b p q = by-test (isDontCare a) (λ t. rw t q) (λ t. by-test (isDontCare b) (λ u. rw (t, u) p) (λ u. rw (t, u) (given t u)))
   where
-    low : (k : ℕ) → k < cellCount → eqb k rateCell ≡ false → (a b : Action) → inRange a ≡ true → inRange b ≡ true → inRange (coded (getD o k 0) a b) ≡ true
-    low k h n a b p q = coded-range (getD o k 0) a b p q (small-code k (getD o k 0) (r .1 k h) n)
+    both : (c : ℕ) → a ≡ Gmb (rateOf a) → b ≡ Gmb (rateOf b) → c ≤ largestRateCode → inRange (coded c a b) ≡ true
+    both c e f h = rw (e, f) (rate-range c (rateOf a) (rateOf b) (rw e at p) (rw f at q) h)
 
-    go : (a b : Action) → inRange a ≡ true → inRange b ≡ true → inRange (join o a b) ≡ true
-    go DontCare b p q = q
-    go Allow DontCare p q = p
-    go Allow Allow p q = low 0 (omega arith) refl Allow Allow p q
-    go Allow Deny p q = low 1 (omega arith) refl Allow Deny p q
-    go Allow (Gmb n) p q = low 2 (omega arith) refl Allow (Gmb n) p q
-    go Deny DontCare p q = p
-    go Deny Allow p q = low 3 (omega arith) refl Deny Allow p q
-    go Deny Deny p q = low 4 (omega arith) refl Deny Deny p q
-    go Deny (Gmb n) p q = low 5 (omega arith) refl Deny (Gmb n) p q
-    go (Gmb m) DontCare p q = p
-    go (Gmb m) Allow p q = low 6 (omega arith) refl (Gmb m) Allow p q
-    go (Gmb m) Deny p q = low 7 (omega arith) refl (Gmb m) Deny p q
-    go (Gmb m) (Gmb n) p q = rate-range (getD o 8 0) m n p q (rate-code (getD o 8 0) (r .1 8 (omega arith)))
+    given : isDontCare a ≡ false → isDontCare b ≡ false → inRange (coded (getD o (cell a b) 0) a b) ≡ true
+    given t u =
+        let k : (1 ≤ kindOf a) × (kindOf a ≤ kinds) = has-cell a t in
+        let l : (1 ≤ kindOf b) × (kindOf b ≤ kinds) = has-cell b u in
+        let c : ℕ = getD o (cell a b) 0 in
+        let right : rightCell (cell a b) c ≡ true = r .1 (cell a b) (omega arith) in
+        by-test (eqb (cell a b) rateCell)
+        (λ e.
+        let z : cell a b ≡ rateCell = eqb-true (cell a b) rateCell e in
+        both c (rated a (omega arith)) (rated b (omega arith)) (rate-code c (subst (λ i. rightCell i c ≡ true) z right)))
+        (λ e. coded-range c a b p q (small-code (cell a b) c right e))
 
 -- a right action of a record is in range
 record-range : (r : List ℕ) → rightRowAction r ≡ true → inRange (rowAction r) ≡ true
