@@ -15,7 +15,7 @@ use Rattle.theory.specs.Tree.{EveryNode, GoodNode}
 use Rattle.theory.proofs.Every.{listed-every, compile-every}
 use Rattle.flow.specs.Match.{isEmpty, common, rightMatch}
 use Rattle.flow.specs.declared.Match.{Match}
-use Rattle.flow.proofs.Matches.{common-right}
+use Rattle.flow.proofs.Laws.{common-right}
 use Rattle.action.specs.Action.{inRange}
 use Rattle.action.specs.Operator as operator
 use Rattle.action.specs.declared.Action.{Action}

@@ -1,3 +1,3 @@
 pub mod Flags
-pub mod Matches
+pub mod Laws
 pub mod Words

@@ -3,22 +3,27 @@
 -- constrained by their prefixes. Flag 16 is the empty match. See docs/FORMAT.md, "Matches".
 --
 --   matchOf, matchWords   the match that some words are, and its words
---   constrains f m        the flag f of m is set
+--   knownFlags            the flags that may stand together
+--   flagged k f           a flag of k is among the flags f; constrains k m: among those of m
+--   none, isNone m        the empty match in its only right form, and that m's words are its words
+--   isPlain m             m is right in any other form
+--   rightMatch m          the words are right: those of the empty match, or of a plain match
 --   isEmpty m             no packet meets m
---   rightMatch m          the words are right: the one form of the empty match, or a plain match
 --   meets m p             the packet p meets the match m
 --   overlap a b           some packet meets both
 --   both a b              the two together, where they overlap
 --   common a b            the match that exactly the packets meet that meet both
-use Prim.Native.Nat.{ℕ, _/_, _%_}
-use mathlib.Core.Bool.{Bool, cond, not, _&&_, _||_}
-use mathlib.Core.List.{List, [], _∷_}
-use lib.Bits.{bitOr}
-use lib.Dec.{eqb, ltb}
-use lib.ListN.{getD}
+--   SharedPacket a b      a packet in range that meets both
+use Prim.Native.Nat.{ℕ, _+_, _-_}
+use mathlib.Core.Path.{_≡_}
+use mathlib.Core.Bool.{Bool, true, false, cond, not, _&&_, _||_}
+use mathlib.Core.List.{List, [], _∷_, _++_}
+use lib.Bits.{bitAnd, bitOr}
+use lib.Dec.{eqb}
+use lib.ListN.{getD, replicate}
 use Rattle.field.specs.Prefix.{addressBits, inPrefix, rightPrefix, prefixesMeet, longerAddress, longerLength}
 use Rattle.field.specs.Value.{meetsValue, valuesMeet, commonValue, rightValue}
-use Rattle.flow.specs.Packet.{portLimit, protocolLimit}
+use Rattle.flow.specs.Packet.{portLimit, protocolLimit, rightPacket}
 use Rattle.flow.specs.declared.Match.{Match}
 use Rattle.flow.specs.declared.Packet.{Packet}
 
@@ -42,7 +47,11 @@ sourceportFlag = 4
 abbrev pub destinationportFlag : ℕ
 destinationportFlag = 8
 
--- the match is empty; the flags above are below this one
+-- the flags that may stand together: a value is constrained
+abbrev pub knownFlags : ℕ
+knownFlags = inportFlag + protocolFlag + sourceportFlag + destinationportFlag
+
+-- the match is empty; this flag stands alone
 abbrev pub emptyFlag : ℕ
 emptyFlag = 16
 
@@ -74,31 +83,37 @@ matchWords m =
     ∷ m .flags
     ∷ []
 
--- the flag is set
+-- the empty match: eight zeros, and its flag
+abbrev pub none : Match
+none = matchOf (replicate (matchLength - 1) 0 ++ emptyFlag ∷ [])
+
+-- a flag of k is among the flags f
+abbrev pub flagged : ℕ → ℕ → Bool
+flagged k f = not (eqb (bitAnd f k) 0)
+
+-- a flag of k is among those of m
 abbrev pub constrains : ℕ → Match → Bool
-constrains flag m = eqb (m .flags / flag % 2) 1
+constrains k m = flagged k (m .flags)
 
 -- the match is empty
 unfoldable pub isEmpty : Match → Bool
 isEmpty m = constrains emptyFlag m
 
--- the empty match in its only right form: the flag alone, and the other eight words 0
-unfoldable pub isNone : Match → Bool
-isNone m =
-    eqb (m .flags) emptyFlag
-    && eqb (m .inport) 0
-    && eqb (m .source) 0
-    && eqb (m .destination) 0
-    && eqb (m .protocol) 0
-    && eqb (m .sourceport) 0
-    && eqb (m .destinationport) 0
-    && eqb (m .sourcelength) 0
-    && eqb (m .destinationlength) 0
+-- the test t, and the words F are the words G one by one
+abbrev pub sameWords : Bool → List ℕ → List ℕ → Bool
+sameWords t [] [] = t
+sameWords t [] (y ∷ G) = false
+sameWords t (x ∷ F) [] = false
+sameWords t (x ∷ F) (y ∷ G) = sameWords (t && eqb x y) F G
 
--- any other right match: no flag above the four, values in a packet's ranges and 0 where unconstrained, right prefixes
+-- the words are those of the empty match
+unfoldable pub isNone : Match → Bool
+isNone m = sameWords true (matchWords m) (matchWords none)
+
+-- any other right match: only known flags, values in a packet's ranges and 0 where unconstrained, right prefixes
 unfoldable pub isPlain : Match → Bool
 isPlain m =
-    ltb (m .flags) emptyFlag
+    eqb (bitAnd (m .flags) knownFlags) (m .flags)
     && rightValue (constrains inportFlag m) portLimit (m .inport)
     && rightValue (constrains protocolFlag m) protocolLimit (m .protocol)
     && rightValue (constrains sourceportFlag m) portLimit (m .sourceport)
@@ -148,20 +163,13 @@ both a b = record {
   flags = bitOr (a .flags) (b .flags);
 }
 
--- the empty match
-abbrev pub none : Match
-none = record {
-  inport = 0;
-  source = 0;
-  destination = 0;
-  protocol = 0;
-  sourceport = 0;
-  destinationport = 0;
-  sourcelength = 0;
-  destinationlength = 0;
-  flags = emptyFlag;
-}
-
 -- the common match: both together where they overlap, else the empty match
 unfoldable pub common : Match → Match → Match
 common a b = cond (overlap a b) (both a b) none
+
+-- a packet in range that meets two matches
+pub record SharedPacket (a b : Match) : Type 0 where
+  pub packet : Packet
+  pub inRange : rightPacket packet ≡ true
+  pub left : meets a packet ≡ true
+  pub right : meets b packet ≡ true

@@ -6,8 +6,9 @@ use mathlib.Core.List.{List, _++_}
 use mathlib.Core.Logic.{_↔_}
 use lib.ListN.{length, drop}
 use Rattle.words.specs.Words.{copied}
-use Rattle.flow.specs.Packet.{packetLength, packetOf, packetWords, rightPacket}
+use Rattle.flow.specs.Packet.{packetLength, packetOf, packetWords}
 use Rattle.flow.specs.Match.{matchLength, matchOf, matchWords, isEmpty, rightMatch, meets, overlap, common}
+use Rattle.flow.specs.Match.{SharedPacket}
 use Rattle.flow.specs.declared.Match.{Match}
 use Rattle.flow.specs.declared.Packet.{Packet}
 
@@ -18,13 +19,6 @@ MeetsCommon = (a b : Match) (p : Packet) → meets (common a b) p ≡ (meets a p
 -- no packet meets an empty match (meets-empty)
 abbrev pub MeetsEmpty : Type 0
 MeetsEmpty = (m : Match) (p : Packet) → isEmpty m ≡ true → meets m p ≡ false
-
--- a packet in range that meets two matches
-pub record SharedPacket (a b : Match) : Type 0 where
-  pub packet : Packet
-  pub inRange : rightPacket packet ≡ true
-  pub left : meets a packet ≡ true
-  pub right : meets b packet ≡ true
 
 -- right matches overlap exactly when some packet in range meets both (overlap-exactly)
 abbrev pub OverlapExactly : Type 0

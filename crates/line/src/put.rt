@@ -9,6 +9,7 @@ use flow::IN_PORT;
 use flow::Match;
 use flow::PROTOCOL;
 use flow::SOURCE_PORT;
+use flow::constrains;
 
 // Every number of 64 bits has at most so many digits.
 const MOST_DIGITS: usize = 20;
@@ -17,13 +18,12 @@ const MOST_DIGITS: usize = 20;
 pub(crate) fn put_match(out: &mut [u8], at: usize, m: Match) -> usize
     ensures { λ r. ⌜ Puts (matchText m) (now (out .entry)) at (now (out .exit)) r ⌝ }
 {
-    let f = m.flags;
-    let a = put_value(out, at, f / IN_PORT % 2 == 1, m.inport);
+    let a = put_value(out, at, constrains(m, IN_PORT), m.inport);
     let b = put_address(out, a, m.source, m.sourcelength);
     let c = put_address(out, b, m.destination, m.destinationlength);
-    let d = put_value(out, c, f / PROTOCOL % 2 == 1, m.protocol);
-    let e = put_value(out, d, f / SOURCE_PORT % 2 == 1, m.sourceport);
-    put_value(out, e, f / DESTINATION_PORT % 2 == 1, m.destinationport)
+    let d = put_value(out, c, constrains(m, PROTOCOL), m.protocol);
+    let e = put_value(out, d, constrains(m, SOURCE_PORT), m.sourceport);
+    put_value(out, e, constrains(m, DESTINATION_PORT), m.destinationport)
 }
 
 // An action, and the line end.

@@ -21,7 +21,7 @@ use Rattle.theory.proofs.Chain.{chain-holds}
 use Rattle.theory.proofs.Switch.{switch-scan, switch-first}
 use Rattle.flow.specs.Packet.{packetOf}
 use Rattle.flow.specs.Match.{meets, overlap}
-use Rattle.flow.proofs.Matches.{overlap-exactly, meets-overlap}
+use Rattle.flow.proofs.Laws.{overlap-exactly, meets-overlap}
 use Rattle.action.specs.declared.Action.the-variants.{DontCare}
 use Rattle.table.specs.Table.{rowCount, past, checkOf, RightTable}
 use Rattle.table.specs.declared.Checked.{Checked}

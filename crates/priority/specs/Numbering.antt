@@ -27,8 +27,7 @@ use lib.Dec.{leb}
 use lib.ListN.{length, getD}
 use Rattle.words.specs.Words.{laid}
 use Rattle.theory.specs.Number.{rowsOverlap, levels, levelCount, priorities, chain}
-use Rattle.flow.specs.Match.{overlap}
-use Rattle.flow.specs.Theorems.{SharedPacket}
+use Rattle.flow.specs.Match.{overlap, SharedPacket}
 use Rattle.row.specs.Row.{mostRows, rowsIn}
 use Rattle.table.specs.Table.{rowCount, past, checkOf, RightTable}
 use Rattle.table.specs.declared.Checked.{Checked}

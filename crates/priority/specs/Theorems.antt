@@ -20,7 +20,6 @@ use Rattle.theory.specs.Rows.{matchesAt}
 use Rattle.theory.specs.Number.{Chained, distinct, Obeyed}
 use Rattle.flow.specs.Packet.{packetOf, rightPacketWords}
 use Rattle.flow.specs.Match.{meets}
-use Rattle.flow.specs.Theorems.{SharedPacket}
 use Rattle.flow.specs.declared.Packet.{Packet}
 use Rattle.table.specs.Table.{rowCount, past, RightTable}
 use Rattle.table.specs.Scan.{scanOf, scanAction}

@@ -24,6 +24,7 @@ use Rattle.flow.proofs.meets.Reads as meets
 use Rattle.flow.proofs.overlap.Reads as overlap
 use Rattle.flow.proofs.common.Reads as common
 use Rattle.flow.proofs.is_empty.Reads as is-empty
+use Rattle.flow.proofs.constrains.Reads as constrains
 use Rattle.flow.proofs.right_match.Reads as right-match
 use Rattle.flow.proofs.is_plain.Reads as is-plain
 use Rattle.flow.proofs.right_packet.Reads as right-packet
@@ -148,6 +149,9 @@ common-one = fixed (λ κ a r s p. p)
 
 is-empty-one : OneAnswer is-empty.Pre is-empty.Post (λ κ r s. r)
 is-empty-one = fixed (λ κ a r s p. p)
+
+constrains-one : OneAnswer constrains.Pre constrains.Post (λ κ r s. r)
+constrains-one = fixed (λ κ a r s p. p)
 
 right-match-one : OneAnswer right-match.Pre right-match.Post (λ κ r s. r)
 right-match-one = fixed (λ κ a r s p. p)

@@ -1,7 +1,7 @@
 -- `row::right_row` meets its contract: a right match that is not empty is a plain one.
 -- Assumes nothing.
 use borrow.Author.Needs.{needs}
-use Rattle.flow.proofs.Matches.{plain-exactly}
+use Rattle.flow.proofs.Laws.{plain-exactly}
 use Rattle.row.specs.Row.{rightRow, rightRowMatch}
 use Rattle.row.proofs.right_row.Statement.{statement}
 use Rattle.row.proofs.right_row.Tie as tie

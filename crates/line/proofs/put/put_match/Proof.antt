@@ -9,17 +9,23 @@ use Rattle.line.proofs.put.put_match.Tie as tie
 returns : tie.Need-returns
 unfolding matchText
 returns c =
-    let midway = c .before .before .before .before .before .before .before .before .before .before in
-    let put-value = midway .before .before .before .before .before .before .before .before .before .before .before .before .put-value in
-    let put-address = midway .before .before .before .before .before .before .before .before .put-address in
-    let put-address2 = midway .before .before .before .before .put-address2 in
-    let put-value2 = c .before .before .before .before .before .before .before .before .before .before .put-value2 in
-    let put-value3 = c .before .before .before .before .before .before .put-value3 in
-    put-value .ensures then put-address .ensures then put-address2 .ensures then put-value2 .ensures then put-value3 .ensures then
-    c .before .before .put-value4 .ensures
+    let destinationport = c .before .before in
+    let sourceport = destinationport .before .before .before .before .before in
+    let protocol = sourceport .before .before .before .before .before in
+    let destination = protocol .before .before .before .before .before in
+    let source = destination .before .before .before .before in
+    let inport = source .before .before .before .before in
+    rw (
+      ← inport .before .constrains .ensures,
+      ← protocol .before .constrains2 .ensures,
+      ← sourceport .before .constrains3 .ensures,
+      ← destinationport .before .constrains4 .ensures,
+    )
+    (inport .put-value .ensures then source .put-address .ensures then destination .put-address2 .ensures then protocol .put-value2 .ensures then
+    sourceport .put-value3 .ensures then destinationport .put-value4 .ensures)
 
 pub put-match-spec : {M : Type 1} → statement M
 put-match-spec =
     tie.close
     (tie.spec (search needs) (search needs) (search needs) (search needs) (search needs) (search needs) (search needs)
-    returns)
+    (search needs) (search needs) (search needs) (search needs) returns)

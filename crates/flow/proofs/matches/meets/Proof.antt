@@ -1,0 +1,49 @@
+-- `flow::matches::meets` meets its contract: a test that fails settles the conjunction, and where both addresses pass the rest decides.
+-- Assumes nothing.
+use mathlib.Core.Bool.{and-false, and-true}
+use borrow.Author.Needs.{needs}
+use borrow.Author.Tests.{not-true, not-false}
+use Rattle.flow.specs.Match.{meets}
+use Rattle.flow.proofs.matches.meets.Statement.{statement}
+use Rattle.flow.proofs.matches.meets.Tie as tie
+
+returns : tie.Need-returns
+unfolding meets
+returns c = rw (← c .before .in-prefix .ensures, not-true (c .before .in-prefix .result) (c .if1 .taken), and-false)
+
+returns-2 : tie.Need-returns-2
+unfolding meets
+returns-2 c = rw (← c .before .in-prefix2 .ensures, not-true (c .before .in-prefix2 .result) (c .if2 .taken), and-false)
+
+returns-3 : tie.Need-returns-3
+unfolding meets
+returns-3 c =
+    let sourceport = c .before .before in
+    let protocol = sourceport .before .before in
+    let inport = protocol .before .before in
+    let values = inport .before .before in
+    let source = values .before .before .in-prefix2 in
+    let destination = values .before .before .before .before .in-prefix in
+    rw (
+      c .meets-value4 .ensures,
+      c .before .constrains4 .ensures,
+      sourceport .meets-value3 .ensures,
+      sourceport .before .constrains3 .ensures,
+      protocol .meets-value2 .ensures,
+      protocol .before .constrains2 .ensures,
+      inport .meets-value .ensures,
+      inport .before .constrains .ensures,
+      values .is-empty .ensures,
+      ← source .ensures,
+      not-false (source .result) (values .before .if2 .left),
+      ← destination .ensures,
+      not-false (destination .result) (values .before .before .before .if1 .left),
+      and-true,
+      and-true,
+    )
+
+pub meets-spec : {M : Type 1} → statement M
+meets-spec =
+    tie.close
+    (tie.spec (search needs) returns (search needs) returns-2 (search needs) (search needs) (search needs)
+    (search needs) (search needs) (search needs) (search needs) (search needs) (search needs) returns-3)

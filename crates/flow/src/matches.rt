@@ -1,0 +1,218 @@
+// Matches: which packets meet one, when two overlap, and the match that both together are.
+ghost use mathlib.Core.Path.{_≡_};
+ghost use Rattle.field.specs.Value.{valuesMeet};
+ghost use Rattle.words.specs.Words.{copied};
+ghost use Rattle.flow.specs.Match.{matchOf, matchWords, constrains, isEmpty, isNone, isPlain, rightMatch};
+ghost use Rattle.flow.specs.Match.{meets, overlap, both, common};
+use crate::DESTINATION_PORT;
+use crate::EMPTY;
+use crate::IN_PORT;
+use crate::KNOWN_FLAGS;
+use crate::Match;
+use crate::MatchWords;
+use crate::PORT_LIMIT;
+use crate::PROTOCOL;
+use crate::PROTOCOL_LIMIT;
+use crate::Packet;
+use crate::SOURCE_PORT;
+use field::common_value;
+use field::in_prefix;
+use field::longer_address;
+use field::longer_length;
+use field::meets_value;
+use field::prefixes_meet;
+use field::right_prefix;
+use field::right_value;
+use field::values_meet;
+use words::copy;
+use words::word;
+
+// Whether a packet meets a match. The addresses are tested first, as in overlap.
+pub fn meets(m: Match, p: Packet) -> bool
+    ensures { λ r. ⌜ r ≡ meets m p ⌝ }
+{
+    if !in_prefix(m.destination, m.destinationlength, p.destination) {
+        return false;
+    }
+    if !in_prefix(m.source, m.sourcelength, p.source) {
+        return false;
+    }
+    !is_empty(m)
+        & meets_value(constrains(m, IN_PORT), m.inport, p.inport)
+        & meets_value(constrains(m, PROTOCOL), m.protocol, p.protocol)
+        & meets_value(constrains(m, SOURCE_PORT), m.sourceport, p.sourceport)
+        & meets_value(
+            constrains(m, DESTINATION_PORT),
+            m.destinationport,
+            p.destinationport,
+        )
+}
+
+// Whether some packet meets both matches. The addresses are tested first: most that do not overlap differ there.
+pub fn overlap(a: Match, b: Match) -> bool
+    ensures { λ r. ⌜ r ≡ overlap a b ⌝ }
+{
+    if !prefixes_meet(
+        a.destination,
+        a.destinationlength,
+        b.destination,
+        b.destinationlength,
+    ) {
+        return false;
+    }
+    if !prefixes_meet(a.source, a.sourcelength, b.source, b.sourcelength) {
+        return false;
+    }
+    if !agree_in(a, b, DESTINATION_PORT, a.destinationport, b.destinationport) {
+        return false;
+    }
+    if !agree_in(a, b, SOURCE_PORT, a.sourceport, b.sourceport) {
+        return false;
+    }
+    !is_empty(a)
+        & !is_empty(b)
+        & agree_in(a, b, IN_PORT, a.inport, b.inport)
+        & agree_in(a, b, PROTOCOL, a.protocol, b.protocol)
+}
+
+// The match that exactly the packets meet that meet both: empty where there are none.
+pub fn common(a: Match, b: Match) -> Match
+    ensures { λ r. ⌜ r ≡ common a b ⌝ }
+{
+    if overlap(a, b) {
+        both(a, b)
+    } else {
+        Match::NONE
+    }
+}
+
+// Whether no packet meets a match.
+pub fn is_empty(m: Match) -> bool
+    ensures { λ r. ⌜ r ≡ isEmpty m ⌝ }
+{
+    constrains(m, EMPTY)
+}
+
+// Whether a match has a flag; of several flags together, whether it has any of them.
+pub fn constrains(m: Match, flag: u32) -> bool
+    ensures { λ r. ⌜ r ≡ constrains flag m ⌝ }
+{
+    (m.flags & flag) != 0
+}
+
+// Whether the words of a match are right.
+pub fn right_match(m: Match) -> bool
+    ensures { λ r. ⌜ r ≡ rightMatch m ⌝ }
+{
+    if is_plain(m) {
+        return true;
+    }
+    is_none(m)
+}
+
+// Whether a match is right and is not the empty match.
+pub fn is_plain(m: Match) -> bool
+    ensures { λ r. ⌜ r ≡ isPlain m ⌝ }
+{
+    ((m.flags & KNOWN_FLAGS) == m.flags)
+        & right_value(constrains(m, IN_PORT), PORT_LIMIT, m.inport)
+        & right_value(constrains(m, PROTOCOL), PROTOCOL_LIMIT, m.protocol)
+        & right_value(constrains(m, SOURCE_PORT), PORT_LIMIT, m.sourceport)
+        & right_value(
+            constrains(m, DESTINATION_PORT),
+            PORT_LIMIT,
+            m.destinationport,
+        )
+        & right_prefix(m.source, m.sourcelength)
+        & right_prefix(m.destination, m.destinationlength)
+}
+
+// The match that the first nine words are; words that are missing count as 0.
+pub fn read_match(words: &[u32]) -> Match
+    ensures { λ r. ⌜ r ≡ matchOf (now (words .entry)) ⌝ }
+{
+    Match {
+        inport: word(words, 0),
+        source: word(words, 1),
+        destination: word(words, 2),
+        protocol: word(words, 3),
+        sourceport: word(words, 4),
+        destinationport: word(words, 5),
+        sourcelength: word(words, 6),
+        destinationlength: word(words, 7),
+        flags: word(words, 8),
+    }
+}
+
+// Stores a match's nine words at the start of a buffer that has room for them.
+pub fn write_match(words: &mut [u32], m: Match)
+    ensures { λ _. ⌜ now (words .exit) ≡ copied 0 (matchWords m) (now (words .entry)) ⌝ }
+{
+    let nine = words_of_match(m);
+    copy(words, 0, &nine);
+}
+
+// A match's nine words.
+pub fn words_of_match(m: Match) -> MatchWords
+    ensures { λ r. ⌜ r ≡ matchWords m ⌝ }
+{
+    [
+        m.inport,
+        m.source,
+        m.destination,
+        m.protocol,
+        m.sourceport,
+        m.destinationport,
+        m.sourcelength,
+        m.destinationlength,
+        m.flags,
+    ]
+}
+
+// Whether two matches agree in the value that a flag is for: v in the one, w in the other.
+fn agree_in(a: Match, b: Match, flag: u32, v: u32, w: u32) -> bool
+    ensures { λ r. ⌜ r ≡ valuesMeet (constrains flag a) v (constrains flag b) w ⌝ }
+{
+    values_meet(constrains(a, flag), v, constrains(b, flag), w)
+}
+
+// Both matches together, where they overlap: what either constrains, and the longer prefixes.
+fn both(a: Match, b: Match) -> Match
+    ensures { λ r. ⌜ r ≡ both a b ⌝ }
+{
+    Match {
+        inport: common_value(constrains(a, IN_PORT), a.inport, b.inport),
+        source: longer_address(a.source, a.sourcelength, b.source, b.sourcelength),
+        destination: longer_address(
+            a.destination,
+            a.destinationlength,
+            b.destination,
+            b.destinationlength,
+        ),
+        protocol: common_value(constrains(a, PROTOCOL), a.protocol, b.protocol),
+        sourceport: common_value(constrains(a, SOURCE_PORT), a.sourceport, b.sourceport),
+        destinationport: common_value(
+            constrains(a, DESTINATION_PORT),
+            a.destinationport,
+            b.destinationport,
+        ),
+        sourcelength: longer_length(a.sourcelength, b.sourcelength),
+        destinationlength: longer_length(a.destinationlength, b.destinationlength),
+        flags: a.flags | b.flags,
+    }
+}
+
+// Whether a match is the empty match in its only right form.
+fn is_none(m: Match) -> bool
+    ensures { λ r. ⌜ r ≡ isNone m ⌝ }
+{
+    (m.inport == 0)
+        & (m.source == 0)
+        & (m.destination == 0)
+        & (m.protocol == 0)
+        & (m.sourceport == 0)
+        & (m.destinationport == 0)
+        & (m.sourcelength == 0)
+        & (m.destinationlength == 0)
+        & (m.flags == EMPTY)
+}
