@@ -8,11 +8,11 @@ use lib.Dec.{eqb, leb, ltb}
 use lib.ListN.{getD}
 use borrow.Author.Tests.{eqb-true, leb-true, le-leb}
 use Rattle.logic.proofs.Lists.{all-then}
-use Rattle.logic.proofs.Tests.{by-test, and-left, and-right, and-both}
+use Rattle.logic.proofs.Tests.{by-test, by-le, and-left, and-right, and-both}
 use Rattle.theory.proofs.Every.{compile-every}
 use Rattle.flow.specs.Match.{isEmpty, common}
 use Rattle.action.specs.Action.{gmb, kindOf, rateOf, isDontCare, actionOf, largestRate, rightRate, rightAction, inRange}
-use Rattle.action.specs.Operator.{kinds, cellCount, cell, rateCell, largestCode, largestRateCode, coded, join, rightCell, RightCodes}
+use Rattle.action.specs.Operator.{kinds, cellCount, cell, rateCell, rateCells, largestCode, largestRateCode, largestIn, coded, join, rightCell, RightCodes}
 use Rattle.action.specs.declared.Action.{Action}
 use Rattle.action.specs.declared.Action.the-variants.{DontCare, Allow, Deny, Gmb}
 use Rattle.action.proofs.Words.{action-of-words, words-of-action, right-words}
@@ -28,16 +28,16 @@ use Rattle.compile.specs.Compile.{compiledRows, fine}
 use Rattle.compile.proofs.Answered.{every-fine, accepted-good}
 use Rattle.logic.specs.Lists.{All}
 
--- a right code is at most 4, and at most 6 in the ninth cell
-small-code : (i c : ℕ) → rightCell i c ≡ true → eqb i rateCell ≡ false → c ≤ largestCode
+-- a code over 4 is right in the ninth cell alone, up to 6
+rate-code : (i c : ℕ) → rightCell i c ≡ true → largestCode < c → (i ≡ rateCell) × (c ≤ largestRateCode)
 unfolding rightCell
-small-code i c e n = leb-true c largestCode (rw n at (and-right (ltb i cellCount && leb 1 c) _ e))
+rate-code i c e h =
+    let within : leb c (largestIn rateCells i) ≡ true = and-right (ltb i cellCount && leb 1 c) _ e in
+    by-test (eqb i rateCell)
+    (λ t. (eqb-true i rateCell t, leb-true c largestRateCode (rw t at within)))
+    (λ t. absurd (omega (arith, leb-true c largestCode (rw t at within))))
 
-rate-code : (c : ℕ) → rightCell rateCell c ≡ true → c ≤ largestRateCode
-unfolding rightCell
-rate-code c e = leb-true c largestRateCode (and-right (ltb rateCell cellCount && leb 1 c) _ e)
-
--- what a code gives is in range
+-- what a code up to 4 gives is in range
 coded-range : (c : ℕ) (a b : Action) → inRange a ≡ true → inRange b ≡ true → c ≤ largestCode → inRange (coded c a b) ≡ true
 unfolding coded inRange
 coded-range zero a b p q h = refl
@@ -53,22 +53,15 @@ rate-in m e = (leb-true 1 m (and-left _ _ e), leb-true m largestRate (and-right 
 in-rate : (m : ℕ) → 1 ≤ m → m ≤ largestRate → rightRate m ≡ true
 in-rate m p q = and-both (le-leb 1 m p) (le-leb m largestRate q)
 
-rate-range : (c m n : ℕ) → rightRate m ≡ true → rightRate n ≡ true → c ≤ largestRateCode → inRange (coded c (Gmb m) (Gmb n)) ≡ true
+-- and so is the larger and the smaller of two rates
+rate-range : (c m n : ℕ) → rightRate m ≡ true → rightRate n ≡ true → largestCode < c → c ≤ largestRateCode → inRange (coded c (Gmb m) (Gmb n)) ≡ true
 unfolding coded inRange
-rate-range zero m n p q h = refl
-rate-range (suc zero) m n p q h = refl
-rate-range (suc (suc zero)) m n p q h = refl
-rate-range (suc (suc (suc zero))) m n p q h = p
-rate-range (suc (suc (suc (suc zero)))) m n p q h = q
-rate-range (suc (suc (suc (suc (suc zero))))) m n p q h =
+rate-range c m n p q l h =
     let a = rate-in m p in
     let b = rate-in n q in
-    in-rate (max m n) (omega (arith, a .0, b .0)) (omega (arith, a .1, b .1))
-rate-range (suc (suc (suc (suc (suc (suc zero)))))) m n p q h =
-    let a = rate-in m p in
-    let b = rate-in n q in
-    in-rate (min m n) (omega (arith, a .0, b .0)) (omega (arith, a .1, b .1))
-rate-range (suc (suc (suc (suc (suc (suc (suc c))))))) m n p q h = absurd (omega arith)
+    by-le c 5
+    (λ k. let e : c ≡ 5 = omega arith in rw e (in-rate (max m n) (omega (arith, a .0, b .0)) (omega (arith, a .1, b .1))))
+    (λ k. let e : c ≡ 6 = omega arith in rw e (in-rate (min m n) (omega (arith, a .0, b .0)) (omega (arith, a .1, b .1))))
 
 -- the kinds that have cells
 has-cell : (a : Action) → isDontCare a ≡ false → (1 ≤ kindOf a) × (kindOf a ≤ kinds)
@@ -87,20 +80,17 @@ join-range : (o : List ℕ) → RightCodes o → (a b : Action) → inRange a �
 unfolding join inRange
 join-range o r a b p q = by-test (isDontCare a) (λ t. rw t q) (λ t. by-test (isDontCare b) (λ u. rw (t, u) p) (λ u. rw (t, u) (given t u)))
   where
-    both : (c : ℕ) → a ≡ Gmb (rateOf a) → b ≡ Gmb (rateOf b) → c ≤ largestRateCode → inRange (coded c a b) ≡ true
-    both c e f h = rw (e, f) (rate-range c (rateOf a) (rateOf b) (rw e at p) (rw f at q) h)
+    both : (c : ℕ) → a ≡ Gmb (rateOf a) → b ≡ Gmb (rateOf b) → largestCode < c → c ≤ largestRateCode → inRange (coded c a b) ≡ true
+    both c e f l h = rw (e, f) (rate-range c (rateOf a) (rateOf b) (rw e at p) (rw f at q) l h)
 
     given : isDontCare a ≡ false → isDontCare b ≡ false → inRange (coded (getD o (cell a b) 0) a b) ≡ true
     given t u =
         let k : (1 ≤ kindOf a) × (kindOf a ≤ kinds) = has-cell a t in
         let l : (1 ≤ kindOf b) × (kindOf b ≤ kinds) = has-cell b u in
         let c : ℕ = getD o (cell a b) 0 in
-        let right : rightCell (cell a b) c ≡ true = r .1 (cell a b) (omega arith) in
-        by-test (eqb (cell a b) rateCell)
-        (λ e.
-        let z : cell a b ≡ rateCell = eqb-true (cell a b) rateCell e in
-        both c (rated a (omega arith)) (rated b (omega arith)) (rate-code c (subst (λ i. rightCell i c ≡ true) z right)))
-        (λ e. coded-range c a b p q (small-code (cell a b) c right e))
+        by-le c largestCode (coded-range c a b p q) (λ h.
+        let w : (cell a b ≡ rateCell) × (c ≤ largestRateCode) = rate-code (cell a b) c (r .1 (cell a b) (omega arith)) h in
+        both c (rated a (omega arith)) (rated b (omega arith)) h (w .1))
 
 -- a right action of a record is in range
 record-range : (r : List ℕ) → rightRowAction r ≡ true → inRange (rowAction r) ≡ true
