@@ -1,27 +1,24 @@
--- What the walk that builds the table of a tree asks and leaves: the trees that stand from a place on, their tables in
--- words, and the answers of its steps.
+-- What the walk that builds the table of a tree asks and leaves: the tables of the trees at a place in words, and the
+-- answers of its steps.
 --
---   grown f s                  the trees that stand from a place on
---   compileTree, firstRows     the table of a tree, and of the first tree of a forest
+--   compileTree, compileTrees  the table of a tree, and of some children
 --   ownAt, treeWords, childrenWords   the tables of a node's own atoms, of a subtree and of some children, in words
---   After                      a place behind some trees
---   Builds                     a table was built at a place, and the next place is as told; or there was no room
+--   BuildsBy, Builds           a table was built at a place, and the next place is as told; or there was no room
 --   NodeBuilt, TreeBuilt, ChildrenBuilt, JoinBuilt   what each step leaves
 --   AtNode, AtPlace, OfNode, OfBuilt                 what each step asks
-use Prim.Native.Nat.{ℕ, _-_, _≤_, _<_}
+use Prim.Native.Nat.{ℕ, _≤_, _<_}
 use mathlib.Core.Path.{_≡_}
-use mathlib.Core.List.{List, []}
-use lib.ListN.{length, drop}
+use mathlib.Core.List.{List}
+use lib.ListN.{length}
 use Rattle.theory.specs.Rows.{Row}
-use Rattle.theory.specs.Tree.{Forest, bare, _▸_, compile, compiles}
-use Rattle.theory.specs.Nodes.{takeTrees, dropTrees, plant}
+use Rattle.theory.specs.Tree.{Forest, compile, compiles}
 use Rattle.flow.specs.Match.{isEmpty, common}
 use Rattle.flow.specs.declared.Match.{Match}
 use Rattle.action.specs.Operator as operator
 use Rattle.action.specs.declared.Action.{Action}
 use Rattle.policy.specs.File.{PolicyNode, PolicyTree}
 use Rattle.nodes.specs.Nodes.{nodeAt, cellsAt, atomsAt}
-use Rattle.nodes.specs.Walk.{listOf, nodeIndex, nextSpot, Reached}
+use Rattle.nodes.specs.Walk.{nextSpot, Reached, treeAt, childrenAt, AfterTree, AfterChildren}
 use Rattle.nodes.specs.declared.NodeWords.{NodeWords}
 use Rattle.nodes.specs.declared.Spot.{Spot}
 use Rattle.common.specs.Lays.{Lays}
@@ -32,10 +29,6 @@ use Rattle.build.specs.declared.Built.{Built}
 use Rattle.build.specs.declared.Built.the-variants as built
 use Rattle.row.specs.Row.{wordsOf}
 
--- the trees that stand from a place on
-unfoldable pub grown : List ℕ → Spot → Forest PolicyNode
-grown f s = plant (drop (nodeIndex f s) (listOf f))
-
 -- the table of a tree
 abbrev pub compileTree : PolicyTree → List (Row Match Action)
 compileTree t = compile common isEmpty operator.join t
@@ -44,45 +37,38 @@ compileTree t = compile common isEmpty operator.join t
 abbrev pub compileTrees : Forest PolicyNode → List ℕ → List (Row Match Action)
 compileTrees ts o = compiles common isEmpty operator.join ts o
 
--- the table of the first tree of a forest
-abbrev pub firstRows : Forest PolicyNode → List (Row Match Action)
-firstRows bare = []
-firstRows (t ▸ ts) = compileTree t
-
 -- the table of a node's own atoms, in words
 abbrev pub ownAt : List ℕ → Spot → List ℕ
 ownAt f s = ownWords (cellsAt f (nodeAt f (s .left) .inner)) (atomsAt f (s .atom) (nodeAt f (s .left) .own))
 
 -- the table of the subtree at a place, in words
 unfoldable pub treeWords : List ℕ → Spot → List ℕ
-treeWords f s = wordsOf (firstRows (grown f s))
+treeWords f s = wordsOf (compileTree (treeAt f s))
 
 -- the table of k children from a place on under a sibling operator, in words
 unfoldable pub childrenWords : List ℕ → Spot → ℕ → ℕ → List ℕ
-childrenWords f s k o = wordsOf (compileTrees (takeTrees k (grown f s)) (cellsAt f o))
+childrenWords f s k o = wordsOf (compileTrees (childrenAt f s k) (cellsAt f o))
 
--- a place with these trees to come and at most n nodes left
-pub record After (f : List ℕ) (ts : Forest PolicyNode) (n : ℕ) (next : Spot) : Type 0 where
-  pub rest : grown f next ≡ ts
-  pub less : next .left ≤ n
-  pub reached : Reached f next
+-- by the answer: F was laid at a place, and the next place is as told; or there was no room
+abbrev pub BuildsBy : ℕ → List ℕ → List ℕ → List ℕ → (Spot → Type 0) → Built → Type 0
+BuildsBy a F old new told (built.Done p) = Lays a F old new (Words (p .end)) × told (p .next)
+BuildsBy a F old new told built.Full = Lays a F old new Full
 
--- F was built at a place, and the next place is as told; or there was no room
-abbrev pub Builds : ℕ → List ℕ → List ℕ → List ℕ → (Spot → Type 0) → Built → Type 0
-Builds a F old new told (built.Done p) = Lays a F old new (Words (p .end)) × told (p .next)
-Builds a F old new told built.Full = Lays a F old new Full
+-- the same, with its parts named
+pub record Builds (a : ℕ) (F old new : List ℕ) (told : Spot → Type 0) (r : Built) : Type 0 where
+  pub is : BuildsBy a F old new told r
 
 -- a node's own rows
-pub record NodeBuilt (f : List ℕ) (s : Spot) (a : ℕ) (old new : List ℕ) (r : Built) : Type 0 where
-  pub is : Builds a (ownAt f s) old new (λ next. next ≡ nextSpot f s) r
+abbrev pub NodeBuilt : List ℕ → Spot → ℕ → List ℕ → List ℕ → Built → Type 0
+NodeBuilt f s a old new r = Builds a (ownAt f s) old new (λ next. next ≡ nextSpot f s) r
 
 -- a subtree's rows
-pub record TreeBuilt (f : List ℕ) (s : Spot) (a : ℕ) (old new : List ℕ) (r : Built) : Type 0 where
-  pub is : Builds a (treeWords f s) old new (After f (dropTrees 1 (grown f s)) (s .left - 1)) r
+abbrev pub TreeBuilt : List ℕ → Spot → ℕ → List ℕ → List ℕ → Built → Type 0
+TreeBuilt f s a old new r = Builds a (treeWords f s) old new (AfterTree f s) r
 
 -- the rows of some children
-pub record ChildrenBuilt (f : List ℕ) (s : Spot) (sibling k a : ℕ) (old new : List ℕ) (r : Built) : Type 0 where
-  pub is : Builds a (childrenWords f s k sibling) old new (After f (dropTrees k (grown f s)) (s .left)) r
+abbrev pub ChildrenBuilt : List ℕ → Spot → ℕ → ℕ → ℕ → List ℕ → List ℕ → Built → Type 0
+ChildrenBuilt f s sibling k a old new r = Builds a (childrenWords f s k sibling) old new (AfterChildren f s k) r
 
 -- what was built from a place on ends below a limit
 abbrev pub Within : ℕ → ℕ → Built → Type 0
@@ -92,7 +78,7 @@ Within b limit built.Full = Unit {0}
 -- what was built from b on is joined with what stands from a up to b
 abbrev pub Joined : List ℕ → ℕ → ℕ → List ℕ → List ℕ → Built → Built → Type 0
 Joined o a b old new (built.Done p) r =
-    Builds a (joinWords o (part a b old) (part b (p .end) old)) old new (λ s. s ≡ p .next) r
+    BuildsBy a (joinWords o (part a b old) (part b (p .end) old)) old new (λ s. s ≡ p .next) r
 Joined o a b old new built.Full r = r ≡ built.Full
 
 pub record JoinBuilt (o : List ℕ) (a b : ℕ) (old new : List ℕ) (m r : Built) : Type 0 where

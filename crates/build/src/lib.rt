@@ -1,7 +1,6 @@
 // The table of a policy's tree, built by the walk over its nodes: each table stands where it is built, and is joined
 // with the one before it. Only the compile calls the walk: it asks for a place that was reached in an accepted file,
 // and where there is no room it does not say what words are left, since the compile then clears both buffers.
-ghost use mathlib.Core.Path.{_≡_};
 ghost use Rattle.nodes.specs.Nodes.{cellsAt};
 ghost use Rattle.build.specs.Build.{AtNode, AtPlace, OfNode, OfBuilt};
 ghost use Rattle.build.specs.Build.{NodeBuilt, TreeBuilt, ChildrenBuilt, JoinBuilt};
@@ -26,7 +25,8 @@ pub enum Built {
     Full,
 }
 
-// The table of the subtree at a place: the node's own rows, joined with its children's.
+// The table of the subtree at a place: the node's own rows, joined with its children's. It and `children` call each
+// other: at each place the atoms start where those of the nodes before end, and fewer nodes are left.
 pub fn subtree(
     file: &[u32],
     at: Spot,
@@ -70,13 +70,7 @@ fn children(
     ensures { λ r. ⌜ ChildrenBuilt (now (file .entry)) at sibling count start (now (table .entry))
         (now (table .exit)) r ⌝ }
 {
-    if count == 0 {
-        return Built::Done(Part {
-            end: start,
-            next: at,
-        });
-    }
-    if at.left == 0 {
+    if (count == 0) | (at.left == 0) {
         return Built::Done(Part {
             end: start,
             next: at,

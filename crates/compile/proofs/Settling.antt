@@ -13,26 +13,22 @@ use Rattle.words.specs.Words.{laid, cleared}
 use Rattle.words.proofs.Laid.{laid-is}
 use Rattle.words.proofs.Records.{rows-at, rows-end, rows-more, rows-none, length-flat}
 use Rattle.theory.specs.Rows.{Row}
-use Rattle.theory.specs.Tree.{bare, _▸_}
-use Rattle.theory.specs.Nodes.{plant}
 use Rattle.flow.specs.declared.Match.{Match}
 use Rattle.action.specs.declared.Action.{Action}
 use Rattle.action.proofs.Words.{right-words}
 use Rattle.row.specs.Row.{rowLength, rowOf, rowWords, rightRowAction, wordsOf}
 use Rattle.row.proofs.Rows.{row-back, row-long}
 use Rattle.policy.specs.Read.{plain, readOf}
-use Rattle.policy.specs.File.{treeOf}
+use Rattle.policy.specs.File.{PolicyTree}
 use Rattle.policy.specs.declared.Layout.{Layout}
 use Rattle.policy.specs.declared.Reading.{Reading}
 use Rattle.policy.specs.declared.Reading.the-variants as reading
 use Rattle.policy.specs.declared.Refusal.{Refusal}
-use Rattle.policy.proofs.Accepted.{accepted-tree}
 use Rattle.nodes.specs.Nodes.{rootSpot}
-use Rattle.nodes.specs.Walk.{listOf, nodeIndex, Reached}
 use Rattle.nodes.specs.declared.Spot.{Spot}
-use Rattle.nodes.proofs.Places.{reached-start}
+use Rattle.nodes.proofs.Walk.{root-tree}
 use Rattle.common.specs.Lays.{Lays}
-use Rattle.build.specs.Build.{grown, firstRows, treeWords, TreeBuilt, Within}
+use Rattle.build.specs.Build.{compileTree, treeWords, Builds, TreeBuilt, Within}
 use Rattle.compile.specs.Compile.{noRoom, noScratch, wrongRate, room, compiledRows, fine, allRight, fineWords, zeros, answerOf, tableAfter, scratchAfter}
 use Rattle.compile.specs.Compile.{Compiles, AcceptedCompiles, Settled, Settles}
 use Rattle.compile.specs.declared.Compiled.{Compiled}
@@ -89,18 +85,9 @@ pub words-count : (N : List (Row Match Action)) → length (wordsOf N) ≡ lengt
 words-count N = length-flat rowLength rowOf some-words rowWords row-long row-back N
 
 -- the tree that the walk starts at is the file's
-module _ (f : List ℕ) (l : Layout) (e : readOf f ≡ reading.Accepted l) (at : Spot) (start : at ≡ rootSpot l) where
-  pub start-reached : Reached f at × (0 < at .left)
-  start-reached = let r = reached-start f l e at start in (r .0, r .1)
-
-  pub root-words : treeWords f at ≡ wordsOf (compiledRows f l)
-  unfolding treeWords grown compiledRows
-  root-words =
-      let r = reached-start f l e at start in
-      let first : nodeIndex f at ≡ 0 = r .2 in
-      let planted : plant (listOf f) ≡ treeOf f l ▸ bare = ap (λ (x : Layout). plant (Rattle.policy.specs.File.fileNodes f x)) (sym (r .3))
-      ∙ accepted-tree f l e .planted in
-      ap (λ i. wordsOf (firstRows (plant (drop i (listOf f))))) first ∙ ap (λ G. wordsOf (firstRows G)) planted
+root-words : (f : List ℕ) (l : Layout) → readOf f ≡ reading.Accepted l → (at : Spot) → at ≡ rootSpot l → treeWords f at ≡ wordsOf (compiledRows f l)
+unfolding treeWords compiledRows
+root-words f l e at start = ap (λ (t : PolicyTree). wordsOf (compileTree t)) (root-tree f l e at start)
 
 -- all is cleared from the first word on
 cleared-all : (l : List ℕ) → cleared 0 l ≡ zeros (length l)
@@ -217,13 +204,13 @@ module _ (f : List ℕ) (l : Layout) (e : readOf f ≡ reading.Accepted l) (root
   accepted-settles built.Full k g = too-many (k .is) (g .is) (g .scratch)
 
 -- what was built stands within the table
-pub tree-within : {f : List ℕ} {s : Spot} {a : ℕ} {old new mid : List ℕ} (rest : List ℕ) (b : Built) → TreeBuilt f s a old new b → length new ≡ length old
+pub built-inside : {a : ℕ} {F old new mid : List ℕ} {P : Spot → Type 0} (rest : List ℕ) (b : Built) → Builds a F old new P b → length new ≡ length old
     → mid ≡ new ++ rest → Within a (length mid) b
-tree-within {f} {s} {a} {old} {new} {mid} rest (built.Done p) k same at =
+built-inside {a} {F} {old} {new} {mid} rest (built.Done p) k same at =
     let n = lays-ends (k .is .0) refl in
     let m : length mid ≡ length new + length rest = ap length at ∙ length-append new rest in
     (n .0, omega (arith, n .1))
-tree-within rest built.Full k same at = tt
+built-inside rest built.Full k same at = tt
 
 -- THE ANSWER: a file that is refused, and one that is accepted
 pub compiles-refused : {f t s : List ℕ} {r : Refusal} {x : Reading} → x ≡ readOf f → x ≡ reading.Refused r → Compiles f t s t s (Refused r)

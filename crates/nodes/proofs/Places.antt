@@ -5,7 +5,7 @@ use native.Mathlib.Omega.{arith}
 use mathlib.Core.Path.{_≡_, refl, sym, ap, ap₂, _∙_}
 use mathlib.Core.List.{List, [], _∷_, map}
 use lib.ListN.{getD, length, take, drop, length-drop}
-use lib.Seq.{getD-take, getD-drop, drop-drop, take-add, take-at, drop-at, length-take-le}
+use lib.Seq.{getD-take, getD-drop, drop-drop, drop-cons, take-add, take-at, drop-at, length-take-le}
 use borrow.Author.Tests.{le-leb, lt-leb, le-ltb}
 use Rattle.words.specs.Records.{records, rowsOf}
 use Rattle.words.proofs.Records.{length-records, rows-more, rows-none}
@@ -14,16 +14,14 @@ use Rattle.theory.specs.Nodes.{Listed}
 use Rattle.row.specs.Row.{rowLength, rowOf}
 use Rattle.flow.specs.declared.Match.{Match}
 use Rattle.action.specs.declared.Action.{Action}
-use Rattle.policy.specs.Numbers.{operatorLength, atomLength, nodeLength, mostOperators}
-use Rattle.policy.specs.Read.{innerOf, parentOf, siblingOf, ownOf, childrenOf, ownAtoms, nodesAt, endOf, operatorRecords, readOf}
+use Rattle.policy.specs.Numbers.{operatorLength, atomLength, nodeLength}
+use Rattle.policy.specs.Read.{innerOf, parentOf, siblingOf, ownOf, childrenOf, ownAtoms, nodesAt, endOf, operatorRecords}
 use Rattle.policy.specs.Read as read
 use Rattle.policy.specs.File.{PolicyNode, operatorAt, nodeOf, held, atomsOf}
-use Rattle.policy.specs.WellFormed.{RightNode, Otherwise, WellFormed}
-use Rattle.policy.specs.declared.Layout.{Layout}
-use Rattle.policy.specs.declared.Reading.the-variants.{Accepted}
+use Rattle.policy.specs.WellFormed.{RightNode, Otherwise}
 use Rattle.policy.proofs.Accepted.{accepted-exactly}
 use Rattle.logic.proofs.Tests.{by-le}
-use Rattle.nodes.specs.Nodes.{nodePlace, nodeAt, cellsAt, atomsAt, firstAtom, rootSpot}
+use Rattle.nodes.specs.Nodes.{nodePlace, nodeAt, cellsAt, atomsAt}
 use Rattle.nodes.specs.Walk.{layoutOf, listOf, recordsOf, nodeIndex, Reached, nextSpot}
 use Rattle.nodes.specs.declared.NodeWords.{NodeWords}
 use Rattle.nodes.specs.declared.Spot.{Spot}
@@ -129,17 +127,15 @@ nodeHere f s =
     }
 
 -- stands for a node past the last: it holds nothing
-pub nothing : Listed PolicyNode
+nothing : Listed PolicyNode
 nothing = record { what = record { inner = []; parent = []; sibling = []; atoms = [] }; childCount = 0 }
 
 -- WHAT STANDS AT A PLACE that a walk reaches, with nodes left
-pub record Here (f : List ℕ) (s : Spot) (d : Listed PolicyNode) : Type 0 where
-  pub within : nodeIndex f s < length (listOf f)
-  pub what : getD (listOf f) (nodeIndex f s) d .what ≡ nodeHere f s
-  pub children : getD (listOf f) (nodeIndex f s) d .childCount ≡ nodeAt f (s .left) .children
+pub record Here (f : List ℕ) (s : Spot) : Type 0 where
+  pub stands : drop (nodeIndex f s) (listOf f)
+      ≡ record { what = nodeHere f s; childCount = nodeAt f (s .left) .children } ∷ drop (nodeIndex f (nextSpot f s)) (listOf f)
   pub atoms-fit : s .atom + atomLength * nodeAt f (s .left) .own ≤ length f
   pub next : Reached f (nextSpot f s)
-  pub further : nodeIndex f (nextSpot f s) ≡ suc (nodeIndex f s)
 
 module _ (f : List ℕ) (w : Otherwise f (layoutOf f .operators) (layoutOf f .atoms) (layoutOf f .nodes)) where
   -- the words of a node
@@ -194,9 +190,9 @@ module _ (f : List ℕ) (w : Otherwise f (layoutOf f .operators) (layoutOf f .at
       (rows-part rowLength rowOf (omega arith) n (drop (atomLength * s) (drop base f)) (rw (length-drop, length-drop) (omega arith))
       ∙ part-records rowLength rowOf (omega arith) s n b (drop base f) h)
 
-pub here : (f : List ℕ) (s : Spot) → Reached f s → 0 < s .left → (d : Listed PolicyNode) → Here f s d
+pub here : (f : List ℕ) (s : Spot) → Reached f s → 0 < s .left → Here f s
 unfolding nodeAt
-here f s reached h d =
+here f s reached h =
     let w : Otherwise f (layoutOf f .operators) (layoutOf f .atoms) (layoutOf f .nodes) = accepted-exactly f (layoutOf f) .0 (reached .accepted) .otherwise in
     let a : ℕ = layoutOf f .operators in
     let b : ℕ = layoutOf f .atoms in
@@ -219,64 +215,36 @@ here f s reached h d =
     let children : n .children ≡ childrenOf r = word-here f w (s .left) 4 h k (omega arith) in
     let more : ownAtoms (take (suc i) rs) ≡ taken + ownOf r = own-more rs i (omega arith) in
     let all : ownAtoms (take (suc i) rs) ≤ b = omega (arith, own-within rs (suc i), w .all-taken) in
-    let at : getD (listOf f) i d ≡ record { what = nodeOf os (drop taken xs) r; childCount = childrenOf r } = held-at os xs rs i d (omega arith) in
     let start : s .atom ≡ read.atomsAt a + 1 + atomLength * taken = reached .atom in
     let next : c - (s .left - 1) ≡ suc i = omega arith in
+    let same = same-node
+    (ap (cellsAt f) inner ∙ cells-here f w (innerOf r) (right .inner))
+    (ap (cellsAt f) parent ∙ cells-here f w (parentOf r) (right .parent))
+    (ap (cellsAt f) sibling ∙ cells-here f w (siblingOf r) (right .sibling))
+    (ap₂ (λ p m. rowsOf rowLength rowOf (atomsAt f p m)) start own ∙ atoms-here f w taken (ownOf r) (omega arith)) children in
     record {
-      within = rw (length-held os xs rs) (omega arith);
-      what = ap (λ (x : Listed PolicyNode). x .what) at ∙ sym (same-node
-          (ap (cellsAt f) inner ∙ cells-here f w (innerOf r) (right .inner))
-          (ap (cellsAt f) parent ∙ cells-here f w (parentOf r) (right .parent))
-          (ap (cellsAt f) sibling ∙ cells-here f w (siblingOf r) (right .sibling))
-          (ap₂ (λ p m. rowsOf rowLength rowOf (atomsAt f p m)) start own ∙ atoms-here f w taken (ownOf r) (omega arith)));
-      children = ap (λ (x : Listed PolicyNode). x .childCount) at ∙ sym children;
+      stands = drop-cons (listOf f) i nothing (rw (length-held os xs rs) (omega arith))
+          ∙ ap₂ (λ x j. x ∷ drop j (listOf f)) (held-at os xs rs i nothing (omega arith) ∙ sym same) (sym next);
       atoms-fit = omega arith;
       next = record {
         accepted = reached .accepted;
         left = omega arith;
         atom = rw (next, more) (omega arith);
       };
-      further = next;
     }
   where
-    same-node : {o₁ o₂ o₃ p₁ p₂ p₃ : List ℕ} {x y : List (Row Match Action)} → o₁ ≡ p₁ → o₂ ≡ p₂ → o₃ ≡ p₃ → x ≡ y
-        → _≡_ {A = PolicyNode} (record { inner = o₁; parent = o₂; sibling = o₃; atoms = x }) (record { inner = p₁; parent = p₂; sibling = p₃; atoms = y })
-    same-node a b c d = rw (a, b, c, d)
-
--- the walk starts at the root, with all nodes left
-pub reached-start : (f : List ℕ) (l : Layout) → readOf f ≡ Accepted l → (s : Spot) → s ≡ rootSpot l
-    → Reached f s × (0 < s .left) × (nodeIndex f s ≡ 0) × (l ≡ layoutOf f)
-unfolding rootSpot firstAtom
-reached-start f l e s start =
-    let w : WellFormed f l = accepted-exactly f l .0 e in
-    let o : Otherwise f (l .operators) (l .atoms) (l .nodes) = w .otherwise in
-    let p : s .left ≡ l .nodes = ap (λ (x : Spot). x .left) start in
-    let q : s .atom ≡ read.atomsAt (l .operators) + 1 =
-    ap (λ (x : Spot). x .atom) start ∙ rw (le-ltb mostOperators (l .operators) (o .operators .most)) in
-    let a : getD f 0 0 ≡ l .operators = o .operators .count in
-    let b : getD f (read.atomsAt (l .operators)) 0 ≡ l .atoms = o .atoms .count in
-    let c : getD f (nodesAt (l .operators) (l .atoms)) 0 ≡ l .nodes = o .nodes .count in
-    let same : layoutOf f ≡ l = rw (a, b, c) in
-    let left : s .left ≡ layoutOf f .nodes = p ∙ ap (λ (x : Layout). x .nodes) (sym same) in
-    let some : 1 ≤ l .nodes = o .nodes .least in
-    let first : layoutOf f .nodes - s .left ≡ 0 = omega arith in (
-      record {
-        accepted = rw same e;
-        left = omega arith;
-        atom = q ∙ ap (λ (x : Layout). read.atomsAt (x .operators) + 1) (sym same) ∙ rw first (omega arith);
-      },
-      omega arith,
-      first,
-      sym same,
-    )
+    same-node : {o₁ o₂ o₃ p₁ p₂ p₃ : List ℕ} {x y : List (Row Match Action)} {k l : ℕ} → o₁ ≡ p₁ → o₂ ≡ p₂ → o₃ ≡ p₃ → x ≡ y → k ≡ l
+        → _≡_ {A = Listed PolicyNode} (record { what = record { inner = o₁; parent = o₂; sibling = o₃; atoms = x }; childCount = k })
+        (record { what = record { inner = p₁; parent = p₂; sibling = p₃; atoms = y }; childCount = l })
+    same-node a b c d e = rw (a, b, c, d, e)
 
 -- the same with a node's words as the code has them
 module _ (f : List ℕ) (s : Spot) (reached : Reached f s) (h : 0 < s .left) (n : NodeWords) (e : n ≡ nodeAt f (s .left)) where
   pub atoms-within : s .atom + atomLength * n .own ≤ length f
-  atoms-within = rw e (here f s reached h nothing .atoms-fit)
+  atoms-within = rw e (here f s reached h .atoms-fit)
 
   pub next-spot : record { left = s .left - 1; atom = s .atom + atomLength * n .own } ≡ nextSpot f s
   next-spot = rw e
 
   pub next-reached : Reached f (record { left = s .left - 1; atom = s .atom + atomLength * n .own })
-  next-reached = rw e (here f s reached h nothing .next)
+  next-reached = rw e (here f s reached h .next)

@@ -7,15 +7,20 @@
 --   atomsFrom    the word where the atoms start that the nodes before an index leave
 --   Reached      a place that a walk over an accepted file reaches
 --   nextSpot     the place behind a node's own atoms
+--   grown        the trees that stand from a place on
+--   treeAt, childrenAt         the first of them, and the first k of them
+--   After        a place behind some trees
+--   AfterTree, AfterChildren   a place behind the tree at a place, and behind k children
 use Prim.Native.Nat.{ℕ, _+_, _*_, _-_, _≤_}
 use mathlib.Core.Path.{_≡_}
 use mathlib.Core.List.{List}
-use lib.ListN.{getD, take}
-use Rattle.theory.specs.Nodes.{Listed}
+use lib.ListN.{getD, take, drop}
+use Rattle.theory.specs.Tree.{Forest}
+use Rattle.theory.specs.Nodes.{Listed, takeTrees, dropTrees, plant}
 use Rattle.policy.specs.Numbers.{atomLength}
 use Rattle.policy.specs.Read.{ownAtoms, nodesAt, nodeRecords, layout, readOf}
 use Rattle.policy.specs.Read as read
-use Rattle.policy.specs.File.{PolicyNode, fileNodes}
+use Rattle.policy.specs.File.{PolicyNode, PolicyTree, fileNodes, firstTree}
 use Rattle.policy.specs.declared.Layout.{Layout}
 use Rattle.policy.specs.declared.Reading.the-variants.{Accepted}
 use Rattle.nodes.specs.Nodes.{nodeAt}
@@ -53,3 +58,29 @@ pub record Reached (f : List ℕ) (s : Spot) : Type 0 where
 -- the place behind a node's own atoms: that of its first child
 abbrev pub nextSpot : List ℕ → Spot → Spot
 nextSpot f s = record { left = s .left - 1; atom = s .atom + atomLength * nodeAt f (s .left) .own }
+
+-- the trees that stand from a place on
+unfoldable pub grown : List ℕ → Spot → Forest PolicyNode
+grown f s = plant (drop (nodeIndex f s) (listOf f))
+
+-- the tree that stands at a place
+abbrev pub treeAt : List ℕ → Spot → PolicyTree
+treeAt f s = firstTree (grown f s)
+
+-- k children from a place on
+abbrev pub childrenAt : List ℕ → Spot → ℕ → Forest PolicyNode
+childrenAt f s k = takeTrees k (grown f s)
+
+-- a place with these trees to come and at most n nodes left
+pub record After (f : List ℕ) (ts : Forest PolicyNode) (n : ℕ) (next : Spot) : Type 0 where
+  pub rest : grown f next ≡ ts
+  pub less : next .left ≤ n
+  pub reached : Reached f next
+
+-- a place behind the tree at a place
+abbrev pub AfterTree : List ℕ → Spot → Spot → Type 0
+AfterTree f s = After f (dropTrees 1 (grown f s)) (s .left - 1)
+
+-- a place behind k children from a place on
+abbrev pub AfterChildren : List ℕ → Spot → ℕ → Spot → Type 0
+AfterChildren f s k = After f (dropTrees k (grown f s)) (s .left)

@@ -2,7 +2,6 @@ pub mod Join
 pub mod Compile
 pub mod Every
 pub mod Nodes
-pub mod Walk
 pub mod Places
 pub mod Seek
 pub mod Levels

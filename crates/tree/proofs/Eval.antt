@@ -1,24 +1,20 @@
 -- The whole walk gives eval of the file's tree, and the answer goes by what reading said. Assumes nothing.
-use Prim.Native.Nat.{ℕ, _<_}
-use mathlib.Core.Path.{_≡_, sym, ap, _∙_}
+use Prim.Native.Nat.{ℕ}
+use mathlib.Core.Path.{_≡_, ap₂, _∙_}
 use mathlib.Core.Bool.{Bool, true, false}
 use mathlib.Core.List.{List}
-use lib.ListN.{drop}
-use Rattle.theory.specs.Nodes.{plant}
-use Rattle.theory.specs.Tree.{_▸_}
 use Rattle.flow.specs.Packet.{packetOf, rightPacketWords, wrongPacket}
 use Rattle.flow.specs.declared.Packet.{Packet}
 use Rattle.action.specs.declared.Action.{Action}
 use Rattle.policy.specs.Read.{plain, readOf}
-use Rattle.policy.specs.File.{PolicyTree, firstTree, treeOf}
+use Rattle.policy.specs.File.{treeOf}
 use Rattle.policy.specs.declared.Layout.{Layout}
 use Rattle.policy.specs.declared.Reading.{Reading}
 use Rattle.policy.specs.declared.Reading.the-variants.{Accepted, Refused}
 use Rattle.policy.specs.declared.Refusal.{Refusal}
-use Rattle.nodes.specs.Walk.{listOf, nodeIndex, Reached}
 use Rattle.nodes.specs.Nodes.{rootSpot}
 use Rattle.nodes.specs.declared.Spot.{Spot}
-use Rattle.nodes.proofs.Places.{reached-start}
+use Rattle.nodes.proofs.Walk.{root-tree}
 use Rattle.tree.specs.Action.{evalTree, acceptedAction, actionOf}
 use Rattle.tree.specs.Steps.{TreeGave}
 use Rattle.tree.specs.Theorems.{ActionEval, ActionRefused, ActionPacket}
@@ -26,19 +22,10 @@ use Rattle.tree.specs.declared.Evaluated.{Evaluated}
 use Rattle.tree.specs.declared.Evaluated.the-variants as evaluated
 use Rattle.tree.specs.declared.Gave.{Gave}
 
--- the walk's start, as the code has it
-module _ (f : List ℕ) (l : Layout) (e : readOf f ≡ Accepted l) (at : Spot) (start : at ≡ rootSpot l) where
-  pub start-reached : Reached f at × (0 < at .left)
-  start-reached = let r = reached-start f l e at start in (r .0, r .1)
-
-  -- what the walk from the root gives
-  pub root-gave : (p : Packet) {q : Packet} {r : Gave} → q ≡ p → TreeGave f at q r → r .action ≡ evalTree (treeOf f l) p
-  root-gave p {q} {r} same t =
-      let s = reached-start f l e at start in
-      let first : nodeIndex f at ≡ 0 = s .2 in
-      let stands : plant (listOf f) ≡ t .tree ▸ plant (drop (nodeIndex f (r .next)) (listOf f)) = rw first at (t .stands .stands) in
-      let tree : treeOf f l ≡ t .tree = ap (treeOf f) (s .3) ∙ ap firstTree stands in
-      t .answer ∙ ap (evalTree (t .tree)) same ∙ ap (λ (x : PolicyTree). evalTree x p) (sym tree)
+-- what the walk from the root gives
+pub root-gave : (f : List ℕ) (l : Layout) → readOf f ≡ Accepted l → (at : Spot) → at ≡ rootSpot l → (p : Packet) {q : Packet} {r : Gave} → q ≡ p
+    → TreeGave f at q r → r .action ≡ evalTree (treeOf f l) p
+root-gave f l e at start p same t = t .action ∙ ap₂ evalTree (root-tree f l e at start) same
 
 -- the packet's test, as the code has it
 module _ (f : List ℕ) (l : Layout) (p : List ℕ) (t : Bool) (q : t ≡ rightPacketWords p) where

@@ -73,7 +73,8 @@ fn accepted_action(file: &[u32], layout: Layout, packet: &[u32]) -> Evaluated
     }
 }
 
-// The action of the subtree at a place: the node's own on the left, its children's on the right.
+// The action of the subtree at a place: the node's own on the left, its children's on the right. It and `children` call
+// each other: at each place the atoms start where those of the nodes before end, and fewer nodes are left.
 fn subtree(file: &[u32], at: Spot, packet: Packet) -> Gave
     requires { ⌜ Reached (now file) at × (0 < at .left) ⌝ }
     ensures { λ r. ⌜ TreeGave (now (file .entry)) at packet r ⌝ }
@@ -100,13 +101,7 @@ fn children(file: &[u32], at: Spot, sibling: u32, count: u32, packet: Packet) ->
     requires { ⌜ Reached (now file) at ⌝ }
     ensures { λ r. ⌜ ChildrenGave (now (file .entry)) at sibling count packet r ⌝ }
 {
-    if count == 0 {
-        return Gave {
-            action: Action::DONT_CARE,
-            next: at,
-        };
-    }
-    if at.left == 0 {
+    if (count == 0) | (at.left == 0) {
         return Gave {
             action: Action::DONT_CARE,
             next: at,
@@ -132,6 +127,7 @@ fn own_action(file: &[u32], inner: u32, atoms: &[u32], packet: Packet) -> Action
 {
     let mut i = atoms.len();
     let mut given = Action::DONT_CARE;
+    // The first i words are whole atoms, and given is the action of those behind them.
     while ROW_WORDS <= i {
         let from = i - ROW_WORDS;
         given = with_atom(file, inner, &atoms[from..i], packet, given);

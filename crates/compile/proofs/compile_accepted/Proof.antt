@@ -6,7 +6,8 @@ use Prim.Native.Nat.{_*_}
 use Rattle.row.specs.Row.{rowLength}
 use mathlib.Core.Path.{refl, sym}
 use lib.Seq.{length-take-le}
-use Rattle.compile.proofs.Settling.{start-reached, no-scratch, accepted-settles, tree-within, takes-alike}
+use Rattle.nodes.proofs.Walk.{start-reached}
+use Rattle.compile.proofs.Settling.{no-scratch, accepted-settles, built-inside, takes-alike}
 use Rattle.compile.proofs.compile_accepted.Statement.{statement}
 use Rattle.compile.proofs.compile_accepted.Tie as tie
 
@@ -42,7 +43,7 @@ subtree-requires c κs =
 settle-requires : tie.Need-settle-requires
 settle-requires c κs =
     let subtree = c .before .before .before .before .before .before .subtree in
-    tree-within _ _ (subtree .ensures) (subtree .kept .1 .1 .0) refl
+    built-inside _ _ (subtree .ensures) (subtree .kept .1 .1 .0) refl
 
 returns-2 : tie.Need-returns-2
 returns-2 c =
@@ -51,9 +52,10 @@ returns-2 c =
     let room-of = midway .before .before .before .before .before .before .room-of in
     let if1 = midway .before .before .before .before .before .if1 in
     let root = midway .before .before .before .before .root in
-    let subtree = c .before .before .before .before .before .before .before .before .before .before .before .subtree in
+    let both = c .before .before .before .before .before .before in
+    let subtree = both .before .before .before .before .before .subtree in
     accepted-settles _ _ (start .pre) _ (root .ensures) _ _ _ (room-of .ensures) (omega (arith, if1 .left)) _ _ _ _ _ _ refl (subtree .kept .1 .1 .0)
-    (omega (arith, c .before .before .before .before .before .before, subtree .kept)) _ (subtree .ensures) (c .before .before .before .before .settle .ensures)
+    (omega (arith, both, subtree .kept)) _ (subtree .ensures) (c .before .before .before .before .settle .ensures)
 
 pub compile-accepted-spec : {M : Type 1} → statement M
 compile-accepted-spec =

@@ -10,18 +10,9 @@ returns : tie.Need-returns
 unfolding firstAtom
 returns c = rw (lt-ltb _ _ (c .if1 .taken))
 
-mul-result : tie.Need-mul-result
-mul-result c = search needs
-
-add-result : tie.Need-add-result
-add-result c = search needs
-
-add-result-2 : tie.Need-add-result-2
-add-result-2 c = search needs
-
 returns-2 : tie.Need-returns-2
 unfolding firstAtom
 returns-2 c = rw (le-ltb _ _ (c .if1 .left))
 
 pub first-atom-spec : {M : Type 1} → statement M
-first-atom-spec = tie.close (tie.spec returns mul-result add-result add-result-2 returns-2)
+first-atom-spec = tie.close (tie.spec returns (search needs) (search needs) (search needs) returns-2)

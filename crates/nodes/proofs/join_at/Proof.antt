@@ -27,23 +27,11 @@ right-none o a b e = right-identity o a ∙ sym (ap (join o a) e)
 by-cells : (a b : Action) {r : Action} {o o′ : List ℕ} → o ≡ o′ → r ≡ join o a b → r ≡ join o′ a b
 by-cells a b e h = h ∙ ap (λ o. join o a b) e
 
-enum-told : tie.Need-enum-told
-enum-told c = search needs
-
 returns : tie.Need-returns
 returns c = left-none _ _ _ (c .enum-told .given .1)
 
-enum-told-2 : tie.Need-enum-told-2
-enum-told-2 c = search needs
-
 returns-2 : tie.Need-returns-2
 returns-2 c = right-none _ _ _ (c .enum-told2 .given .1)
-
-operator-at-requires : tie.Need-operator-at-requires
-operator-at-requires c κs = search needs
-
-join-requires : tie.Need-join-requires
-join-requires c κs = search needs
 
 returns-3 : tie.Need-returns-3
 returns-3 c = by-cells _ _ (c .before .operator-at .ensures) (c .join .ensures)
@@ -51,4 +39,4 @@ returns-3 c = by-cells _ _ (c .before .operator-at .ensures) (c .join .ensures)
 pub join-at-spec : {M : Type 1} → statement M
 join-at-spec =
     tie.close
-    (tie.spec enum-told returns enum-told-2 returns-2 operator-at-requires join-requires returns-3)
+    (tie.spec (search needs) returns (search needs) returns-2 (search needs) (search needs) returns-3)

@@ -11,15 +11,9 @@ returns : tie.Need-returns
 unfolding nodePlace
 returns c = (rw (lt-ltb _ _ (c .if1 .taken)), omega arith)
 
-mul-result : tie.Need-mul-result
-mul-result c = search needs
-
-sub-result : tie.Need-sub-result
-sub-result c = search needs
-
 returns-2 : tie.Need-returns-2
 unfolding nodePlace
 returns-2 c = (rw (le-ltb _ _ (c .if1 .left)), omega arith)
 
 pub node-place-spec : {M : Type 1} → statement M
-node-place-spec = tie.close (tie.spec returns mul-result sub-result returns-2)
+node-place-spec = tie.close (tie.spec returns (search needs) (search needs) returns-2)

@@ -5,12 +5,9 @@ use Rattle.nodes.specs.Nodes.{rootSpot}
 use Rattle.nodes.proofs.root.Statement.{statement}
 use Rattle.nodes.proofs.root.Tie as tie
 
-first-atom-requires : tie.Need-first-atom-requires
-first-atom-requires c κs = search needs
-
 returns : tie.Need-returns
 unfolding rootSpot
 returns c = rw (c .first-atom .ensures)
 
 pub root-spec : {M : Type 1} → statement M
-root-spec = tie.close (tie.spec first-atom-requires returns)
+root-spec = tie.close (tie.spec (search needs) returns)

@@ -1,7 +1,8 @@
 -- `tree::accepted_action` meets its contract: the walk starts at the root, and gives eval of the tree.
 -- Assumes nothing.
 use borrow.Author.Needs.{needs}
-use Rattle.tree.proofs.Eval.{start-reached, root-gave, accepted-gives, accepted-refuses}
+use Rattle.nodes.proofs.Walk.{start-reached}
+use Rattle.tree.proofs.Eval.{root-gave, accepted-gives, accepted-refuses}
 use Rattle.tree.proofs.accepted_action.Statement.{statement}
 use Rattle.tree.proofs.accepted_action.Tie as tie
 
