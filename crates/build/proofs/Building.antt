@@ -17,7 +17,6 @@ use Rattle.nodes.specs.declared.NodeWords.{NodeWords}
 use Rattle.nodes.specs.declared.Spot.{Spot}
 use Rattle.nodes.proofs.Places.{nodeHere, Here, here, listed-many, nothing}
 use Rattle.common.specs.Lays.{Lays}
-use Rattle.common.specs.Tables.{rowsIn, wordsOf}
 use Rattle.common.specs.declared.Made.{Made}
 use Rattle.common.specs.declared.Made.the-variants.{Words, Full}
 use Rattle.common.proofs.Going.{Fitted, made-words, lays-none, lays-case, lays-ends, too-long}
@@ -29,6 +28,7 @@ use Rattle.build.specs.Build.{ChildrenBuilt, Within, Joined, JoinBuilt}
 use Rattle.build.specs.declared.Built.{Built}
 use Rattle.build.specs.declared.Built.the-variants as built
 use Rattle.build.specs.declared.Part.{Part}
+use Rattle.row.specs.Row.{rowsIn, wordsOf}
 
 -- a join holds both its parts
 join-holds : (o A B : List ℕ) → length A + length B ≤ length (joinWords o A B)

@@ -25,12 +25,12 @@ use Rattle.nodes.specs.Walk.{listOf, nodeIndex, nextSpot, Reached}
 use Rattle.nodes.specs.declared.NodeWords.{NodeWords}
 use Rattle.nodes.specs.declared.Spot.{Spot}
 use Rattle.common.specs.Lays.{Lays}
-use Rattle.common.specs.Tables.{wordsOf}
 use Rattle.common.specs.declared.Made.the-variants.{Words, Full}
 use Rattle.rows.specs.Places.{part}
 use Rattle.rows.specs.Tables.{joinWords, ownWords}
 use Rattle.build.specs.declared.Built.{Built}
 use Rattle.build.specs.declared.Built.the-variants as built
+use Rattle.row.specs.Row.{wordsOf}
 
 -- the trees that stand from a place on
 unfoldable pub grown : List ℕ → Spot → Forest PolicyNode

@@ -11,8 +11,8 @@ use Rattle.flow.specs.Match.{isEmpty, common, matchOf}
 use Rattle.flow.specs.declared.Match.{Match}
 use Rattle.action.specs.Operator as operator
 use Rattle.action.specs.declared.Action.{Action}
-use Rattle.row.specs.Row.{rowLength, rowOf, rowAction, rowWords}
-use Rattle.common.specs.Tables.{rowsIn, wordsOf, commonWords, commonWithWords, commonRowsWords}
+use Rattle.row.specs.Row.{rowLength, rowOf, rowAction, rowWords, rowsIn, wordsOf}
+use Rattle.common.specs.Tables.{commonWords, commonWithWords, commonRowsWords}
 
 -- a row has words
 pub some-words : 0 < rowLength

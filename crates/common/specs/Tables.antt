@@ -1,28 +1,17 @@
 -- Tables in words, and their common rows: the theory's definitions at rows of 11 words. An operator is its list of
 -- cells. See docs/FORMAT.md, "Rows".
 --
---   rowsIn ws                  the rows that some words hold
---   wordsOf N                  the words of rows, one row behind the other
 --   commonWords o r s          the common row of the row r and the row that s holds, none if it is empty
 --   commonWithWords o r ws     the common rows of the row r and each row of a table
 --   commonRowsWords o l r      the common rows of two tables
 use Prim.Native.Nat.{ℕ}
 use mathlib.Core.List.{List}
-use Rattle.words.specs.Records.{rowsOf, flat}
 use Rattle.theory.specs.Rows.{Row, kept, commonRow, commonWith, commonRows}
 use Rattle.flow.specs.Match.{isEmpty, common}
 use Rattle.flow.specs.declared.Match.{Match}
 use Rattle.action.specs.Operator as operator
 use Rattle.action.specs.declared.Action.{Action}
-use Rattle.row.specs.Row.{rowLength, rowOf, rowWords}
-
--- the rows that some words hold
-abbrev pub rowsIn : List ℕ → List (Row Match Action)
-rowsIn ws = rowsOf rowLength rowOf ws
-
--- the words of rows
-abbrev pub wordsOf : List (Row Match Action) → List ℕ
-wordsOf N = flat rowWords N
+use Rattle.row.specs.Row.{rowOf, rowsIn, wordsOf}
 
 -- the common row of a row and the row that some words hold, dropped if empty
 unfoldable pub commonWords : List ℕ → Row Match Action → List ℕ → List ℕ

@@ -10,68 +10,65 @@ use lib.Seq.{take-at}
 use borrow.Author.Tests.{lt-ltb, le-ltb, ltb-true, ltb-false}
 use Rattle.logic.proofs.Tests.{by-test, and-left, and-right, and-both}
 use Rattle.words.proofs.Records.{length-records}
-use Rattle.theory.specs.Rows.{Row, EveryRow}
-use Rattle.theory.specs.Tree.{Forest, node, bare, _▸_, EveryAtom, EveryAtoms}
-use Rattle.theory.specs.Nodes.{Listed, listTree, listTrees}
-use Rattle.theory.proofs.Every.{every-append, compile-every}
+use Rattle.theory.specs.Rows.{Row}
+use Rattle.theory.specs.Tree.{EveryNode, GoodNode}
+use Rattle.theory.proofs.Every.{listed-every, compile-every}
 use Rattle.flow.specs.Match.{isEmpty, common, rightMatch}
 use Rattle.flow.specs.declared.Match.{Match}
 use Rattle.flow.proofs.Matches.{common-right}
 use Rattle.action.specs.Action.{inRange}
 use Rattle.action.specs.Operator as operator
 use Rattle.action.specs.declared.Action.{Action}
-use Rattle.row.specs.Row.{rowLength, rowOf, rightRowMatch, RightRow}
-use Rattle.common.specs.Tables.{wordsOf}
-use Rattle.policy.specs.Numbers.{atomLength}
-use Rattle.policy.specs.Read.{plain, readOf, atomRecords}
+use Rattle.row.specs.Row.{rowLength, rowOf, rightRowMatch, RightRow, wordsOf, InRange}
+use Rattle.policy.specs.Numbers.{atomLength, nodeLength}
+use Rattle.policy.specs.Read.{plain, readOf, ownOf, nodesAt, operatorRecords, atomRecords, nodeRecords}
 use Rattle.policy.specs.Read as read
-use Rattle.policy.specs.File.{PolicyNode, PolicyTree, treeOf, allAtoms, atomsOf}
+use Rattle.policy.specs.File.{operatorAt, held, treeOf, atomsOf}
+use Rattle.policy.specs.WellFormed.{RightNode}
 use Rattle.policy.specs.declared.Layout.{Layout}
 use Rattle.policy.specs.declared.Refusal.{Refusal}
 use Rattle.policy.specs.declared.Reading.{Reading}
 use Rattle.policy.specs.declared.Reading.the-variants as reading
-use Rattle.policy.proofs.Accepted.{accepted-exactly, accepted-tree, accepted-atoms}
+use Rattle.policy.proofs.Accepted.{accepted-exactly, accepted-tree}
 use Rattle.compile.specs.Compile.{noRoom, noScratch, wrongRate, room, compiledRows, fine, zeros, acceptedAnswer, afterReading, answerOf, tableAfter}
-use Rattle.compile.specs.Compile.{scratchAfter, numbered}
-use Rattle.compile.specs.Theorems.{tableRows, InRange, RoomExactly, RowsAnswered, Answered, AnswersRows}
+use Rattle.compile.specs.Compile.{scratchAfter, compileRefusal, tableRows}
+use Rattle.compile.specs.Theorems.{RoomExactly, RowsAnswered, AnswerTells, AnswersRows}
 use Rattle.compile.specs.declared.Compiled.{Compiled}
 use Rattle.compile.specs.declared.Compiled.the-variants.{Rows, Refused}
 use Rattle.compile.proofs.Settling.{words-count}
+use Rattle.logic.specs.Lists.{All}
+use Rattle.logic.proofs.Lists.{all-take, all-drop, all-map}
 
 -- an atom whose match is right
 RightMatch : Row Match Action → Type 0
 RightMatch r = rightMatch (r .match) ≡ true
 
--- what holds of some rows holds of the first of them, and of those behind
-every-split : (T : Row Match Action → Type 0) (N N′ : List (Row Match Action)) → EveryRow T (N ++ N′) → EveryRow T N × EveryRow T N′
-every-split T [] N′ f = (tt, f)
-every-split T (r ∷ N) N′ f = let g = every-split T N N′ (f .1) in ((f .0, g .0), g .1)
+-- the nodes of a file whose operators have the property K and whose atoms have the property T
+module _ (K : List ℕ → Type 0) (T : Row Match Action → Type 0) where
+  held-good : (os : List (List ℕ)) (a : ℕ) → ((i : ℕ) → i < a → K (operatorAt os i)) → (xs : List (Row Match Action)) → All T xs → (rs : List (List ℕ))
+      → ((i : ℕ) → i < length rs → RightNode a (getD rs i [])) → All (λ n. GoodNode K T (n .what)) (held os xs rs)
+  held-good os a k xs f [] h = tt
+  held-good os a k xs f (r ∷ rs) h =
+      let n : RightNode a r = h 0 (omega arith) in (
+        record { inner = k _ (n .inner); parent = k _ (n .parent); sibling = k _ (n .sibling); atoms = all-take T (ownOf r) xs f },
+        held-good os a k (drop (ownOf r) xs) (all-drop T (ownOf r) xs f) rs (λ i l. h (suc i) (omega arith)),
+      )
 
-every-both : (T : Row Match Action → Type 0) (ns ms : List (Listed PolicyNode)) → EveryRow T (allAtoms (ns ++ ms))
-    → EveryRow T (allAtoms ns) × EveryRow T (allAtoms ms)
-every-both T [] ms f = (tt, f)
-every-both T (n ∷ ns) ms f =
-    let a = every-split T (n .what .atoms) (allAtoms (ns ++ ms)) f in
-    let b = every-both T ns ms (a .1) in
-    (every-append T (n .what .atoms) (allAtoms ns) (a .0) (b .0), b .1)
-
--- what every atom of the listed nodes has, every atom of the tree has
-mutual
-  tree-every : (T : Row Match Action → Type 0) (t : PolicyTree) → EveryRow T (allAtoms (listTree t)) → EveryAtom T t
-  tree-every T (node x ts) f = let a = every-split T (x .atoms) (allAtoms (listTrees ts)) f in (a .0, trees-every T ts (a .1))
-
-  trees-every : (T : Row Match Action → Type 0) (ts : Forest PolicyNode) → EveryRow T (allAtoms (listTrees ts)) → EveryAtoms T ts
-  trees-every T bare f = tt
-  trees-every T (t ▸ ts) f = let a = every-both T (listTree t) (listTrees ts) f in (tree-every T t (a .0), trees-every T ts (a .1))
-
--- the rows of right records
-every-record : (rs : List (List ℕ)) → ((i : ℕ) → i < length rs → rightRowMatch (getD rs i []) ≡ true) → EveryRow RightMatch (map rowOf rs)
-unfolding RightMatch rightRowMatch
-every-record [] f = tt
-every-record (r ∷ rs) f = (f 0 (omega arith), every-record rs (λ i h. f (suc i) (omega arith)))
+  -- where the operators and the atoms of an accepted file have them, so do the nodes of its tree
+  pub accepted-good : (f : List ℕ) (l : Layout) → readOf f ≡ reading.Accepted l
+      → ((i : ℕ) → i < l .operators → K (operatorAt (operatorRecords f (l .operators)) i))
+      → ((i : ℕ) → i < l .atoms → T (rowOf (getD (atomRecords f (l .operators) (l .atoms)) i []))) → EveryNode (GoodNode K T) (treeOf f l)
+  accepted-good f l e k t =
+      let xs : List (List ℕ) = atomRecords f (l .operators) (l .atoms) in
+      let ns : List (List ℕ) = nodeRecords f (l .operators) (l .atoms) (l .nodes) in
+      let many : length xs ≡ l .atoms = length-records (l .atoms) atomLength (drop (read.atomsAt (l .operators) + 1) f) in
+      let more : length ns ≡ l .nodes = length-records (l .nodes) nodeLength (drop (nodesAt (l .operators) (l .atoms) + 1) f) in
+      let good = held-good (operatorRecords f (l .operators)) (l .operators) k (atomsOf f l) (all-map T rowOf [] xs (λ i h. t i (omega arith))) ns
+      (λ i h. accepted-exactly f l .0 e .otherwise .right-nodes i (omega arith)) in
+      listed-every (GoodNode K T) (treeOf f l) (subst (All (λ n. GoodNode K T (n .what))) (sym (accepted-tree f l e .lists)) good)
 
 -- every row in which the rates lie in range is right
-every-right : (N : List (Row Match Action)) → EveryRow (λ r. RightMatch r × (isEmpty (r .match) ≡ false)) N → fine N ≡ true → EveryRow RightRow N
+every-right : (N : List (Row Match Action)) → All (λ r. RightMatch r × (isEmpty (r .match) ≡ false)) N → fine N ≡ true → All RightRow N
 unfolding RightMatch
 every-right [] f h = tt
 every-right (r ∷ N) f h = (
@@ -80,23 +77,17 @@ every-right (r ∷ N) f h = (
 )
 
 -- rows whose rates lie in their range are fine
-pub every-fine : (N : List (Row Match Action)) → EveryRow InRange N → fine N ≡ true
+pub every-fine : (N : List (Row Match Action)) → All InRange N → fine N ≡ true
 every-fine [] f = refl
 every-fine (r ∷ N) f = and-both (f .0) (every-fine N (f .1))
 
 module _ (f : List ℕ) (l : Layout) (e : readOf f ≡ reading.Accepted l) where
-  -- every atom of an accepted file has a right match
-  every-atom : EveryAtom RightMatch (treeOf f l)
-  every-atom =
-      let rs : List (List ℕ) = atomRecords f (l .operators) (l .atoms) in
-      let many : length rs ≡ l .atoms = length-records (l .atoms) atomLength (drop (read.atomsAt (l .operators) + 1) f) in
-      let all : EveryRow RightMatch (atomsOf f l) = every-record rs (λ i h. accepted-exactly f l .0 e .otherwise .matches i (omega arith)) in
-      tree-every RightMatch (treeOf f l) (subst (EveryRow RightMatch) (sym (ap allAtoms (accepted-tree f l e .lists) ∙ accepted-atoms f l e)) all)
-
-  -- so every row has one, and none is empty
-  every-compiled : EveryRow (λ r. RightMatch r × (isEmpty (r .match) ≡ false)) (compiledRows f l)
-  unfolding RightMatch compiledRows
-  every-compiled = compile-every operator.join common isEmpty RightMatch (λ o r s g h. common-right (r .match) (s .match) g h) (treeOf f l) every-atom
+  -- every row has a right match, and none is empty
+  every-compiled : All (λ r. RightMatch r × (isEmpty (r .match) ≡ false)) (compiledRows f l)
+  unfolding RightMatch compiledRows rightRowMatch
+  every-compiled =
+      compile-every operator.join common isEmpty (λ o. Unit {0}) RightMatch (λ o r s k g h. common-right (r .match) (s .match) g h) (treeOf f l)
+      (accepted-good (λ o. Unit {0}) RightMatch f l e (λ i h. tt) (λ i h. accepted-exactly f l .0 e .otherwise .matches i h))
 
   -- the rows, and zeros behind them
   front : (zs : List ℕ) → tableRows (length (compiledRows f l)) (wordsOf (compiledRows f l) ++ zs) ≡ wordsOf (compiledRows f l)
@@ -106,7 +97,7 @@ no-rows : {X : Type 0} {n : ℕ} {r : Refusal} → Refused r ≡ Rows n → X
 no-rows q = let z : _≡_ {A = ℕ} 0 1 = cc in absurd (omega arith)
 
 -- of an accepted file
-accepted-rows : (f t s : List ℕ) (n : ℕ) (l : Layout) → readOf f ≡ reading.Accepted l → acceptedAnswer (compiledRows f l) t s ≡ Rows n → Answered f t s n
+accepted-rows : (f t s : List ℕ) (n : ℕ) (l : Layout) → readOf f ≡ reading.Accepted l → acceptedAnswer (compiledRows f l) t s ≡ Rows n → AnswerTells f t s n
 unfolding tableAfter
 accepted-rows f t s n l e =
     let N : List (Row Match Action) = compiledRows f l in
@@ -133,7 +124,7 @@ pub answers-rows : AnswersRows
 unfolding answerOf
 answers-rows f t s n = from (readOf f) refl
   where
-    from : (x : Reading) → readOf f ≡ x → afterReading x (λ r. Refused r) (λ l. acceptedAnswer (compiledRows f l) t s) ≡ Rows n → Answered f t s n
+    from : (x : Reading) → readOf f ≡ x → afterReading x (λ r. Refused r) (λ l. acceptedAnswer (compiledRows f l) t s) ≡ Rows n → AnswerTells f t s n
     from (reading.Accepted l) e q = accepted-rows f t s n l e q
     from (reading.Refused r) e q = no-rows q
 
@@ -158,4 +149,4 @@ room-exactly f t s l e enough =
   where
     other : (x : Bool) (n : ℕ) → cond x (Rows n) (Refused (plain wrongRate 0)) ≡ Refused (plain noRoom 0) → ⊥
     other true n q = let z : _≡_ {A = ℕ} 0 1 = cc in absurd (omega arith)
-    other false n q = let z : wrongRate ≡ noRoom = ap (λ (c : Compiled). numbered c .number) q in absurd (omega arith)
+    other false n q = let z : wrongRate ≡ noRoom = ap (λ (c : Compiled). compileRefusal c .number) q in absurd (omega arith)

@@ -18,7 +18,7 @@ use Rattle.theory.specs.Nodes.{plant}
 use Rattle.flow.specs.declared.Match.{Match}
 use Rattle.action.specs.declared.Action.{Action}
 use Rattle.action.proofs.Words.{right-words}
-use Rattle.row.specs.Row.{rowLength, rowOf, rowWords, rightRowAction}
+use Rattle.row.specs.Row.{rowLength, rowOf, rowWords, rightRowAction, wordsOf}
 use Rattle.row.proofs.Rows.{row-back, row-long}
 use Rattle.policy.specs.Read.{plain, readOf}
 use Rattle.policy.specs.File.{treeOf}
@@ -32,7 +32,6 @@ use Rattle.nodes.specs.Walk.{listOf, nodeIndex, Reached}
 use Rattle.nodes.specs.declared.Spot.{Spot}
 use Rattle.nodes.proofs.Places.{reached-start}
 use Rattle.common.specs.Lays.{Lays}
-use Rattle.common.specs.Tables.{wordsOf}
 use Rattle.build.specs.Build.{grown, firstRows, treeWords, TreeBuilt, Within}
 use Rattle.compile.specs.Compile.{noRoom, noScratch, wrongRate, room, compiledRows, fine, allRight, fineWords, zeros, answerOf, tableAfter, scratchAfter}
 use Rattle.compile.specs.Compile.{Compiles, AcceptedCompiles, Settled, Settles}

@@ -7,7 +7,7 @@
 --   acceptedAnswer, acceptedTable, acceptedScratch   the answer and the buffers for an accepted file
 --   answerOf, tableAfter, scratchAfter               the same for every file
 --   Compiles             all three
---   numbered, rowCount   the number, place, law and actions of an answer, and its row count
+--   compileRefusal, compileCount   the number, place, law and actions of an answer, and its row count
 use Prim.Native.Nat.{ℕ, _*_, _-_, _/_, min}
 use mathlib.Core.Path.{_≡_}
 use mathlib.Core.Bool.{Bool, true, cond, _&&_}
@@ -19,14 +19,13 @@ use Rattle.flow.specs.declared.Match.{Match}
 use Rattle.action.specs.Action.{inRange}
 use Rattle.action.specs.declared.Action.{Action}
 use Rattle.words.specs.Records.{rowsOf}
-use Rattle.row.specs.Row.{rowLength, mostRows, rightRowAction}
+use Rattle.row.specs.Row.{rowLength, mostRows, rightRowAction, wordsOf}
 use Rattle.policy.specs.Read.{plain, readOf}
 use Rattle.policy.specs.File.{treeOf}
 use Rattle.policy.specs.declared.Layout.{Layout}
 use Rattle.policy.specs.declared.Reading.{Reading}
 use Rattle.policy.specs.declared.Reading.the-variants as reading
 use Rattle.policy.specs.declared.Refusal.{Refusal}
-use Rattle.common.specs.Tables.{wordsOf}
 use Rattle.build.specs.Build.{compileTree}
 use Rattle.compile.specs.declared.Compiled.{Compiled}
 use Rattle.compile.specs.declared.Compiled.the-variants.{Rows, Refused}
@@ -134,11 +133,15 @@ pub record Settles (t s t′ s′ : List ℕ) (b : Built) (r : Compiled) : Type 
   pub scratch : s′ ≡ zeros (length s)
 
 -- the number, place, law and actions of an answer: 0, 0, no law and three don't cares where there are rows
-abbrev pub numbered : Compiled → Refusal
-numbered (Rows n) = plain 0 0
-numbered (Refused r) = r
+abbrev pub compileRefusal : Compiled → Refusal
+compileRefusal (Rows n) = plain 0 0
+compileRefusal (Refused r) = r
 
 -- the row count of an answer: 0 where it is a refusal
-abbrev pub rowCount : Compiled → ℕ
-rowCount (Rows n) = n
-rowCount (Refused r) = 0
+abbrev pub compileCount : Compiled → ℕ
+compileCount (Rows n) = n
+compileCount (Refused r) = 0
+
+-- the words of the first n rows
+abbrev pub tableRows : ℕ → List ℕ → List ℕ
+tableRows n t = take (n * rowLength) t

@@ -10,8 +10,8 @@ use Rattle.theory.specs.Rows.{Row}
 use Rattle.flow.specs.declared.Match.{Match}
 use Rattle.action.specs.declared.Action.{Action}
 use Rattle.action.specs.declared.Action.the-variants.{DontCare, Allow, Deny, Gmb}
-use Rattle.line.specs.Text.{ascii, digit, mostDigits, digits, decimal, number, value, address, matchText, actionText, line, head, refusal}
-use Rattle.line.specs.Theorems.{longestLine, LineWithin, HeadWithin, RefusalWithin}
+use Rattle.line.specs.Text.{ascii, digit, mostDigits, digits, decimal, number, value, address, matchText, actionText, line, head, refusal, longestLine}
+use Rattle.line.specs.Theorems.{LineWithin, HeadWithin, RefusalWithin}
 
 -- a text of at most so many bytes
 record Within (F : List ℕ) (n : ℕ) : Type 0 where

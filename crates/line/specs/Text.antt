@@ -90,3 +90,7 @@ head n l = ascii "rows " ++ number n (code " ") ++ ascii "priorities " ++ number
 -- the only line of a refusal
 unfoldable pub refusal : ℕ → ℕ → List ℕ
 refusal n i = ascii "refused " ++ number n (code " ") ++ number i (code "\n")
+
+-- no line is longer
+abbrev pub longestLine : ℕ
+longestLine = 340

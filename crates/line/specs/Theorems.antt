@@ -1,6 +1,5 @@
 -- What is proved of the lines. A law of the same name in proofs/ proves each statement: line-within proves LineWithin.
 --
---   longestLine                   no line has more bytes
 --   reads ds                      the number that some digits are, the most significant first
 --   Decimal n ds                  ds are digits that read as n, and no zero stands before another digit
 --   DecimalReads                  a number of at most 20 digits is written so that it reads back
@@ -13,11 +12,7 @@ use lib.ListN.{length, getD}
 use Rattle.theory.specs.Rows.{Row}
 use Rattle.flow.specs.declared.Match.{Match}
 use Rattle.action.specs.declared.Action.{Action}
-use Rattle.line.specs.Text.{mostDigits, decimal, line, head, refusal}
-
--- no line is longer
-abbrev pub longestLine : ℕ
-longestLine = 340
+use Rattle.line.specs.Text.{mostDigits, decimal, line, head, refusal, longestLine}
 
 -- digits read from the first on, behind a number that was read before them
 abbrev pub readsOn : ℕ → List ℕ → ℕ

@@ -23,18 +23,19 @@ use Rattle.flow.specs.Packet.{packetOf}
 use Rattle.flow.specs.Match.{meets, overlap}
 use Rattle.flow.proofs.Matches.{overlap-exactly, meets-overlap}
 use Rattle.action.specs.declared.Action.the-variants.{DontCare}
-use Rattle.table.specs.Table.{rowCount, rowsIn, past, checkOf}
+use Rattle.table.specs.Table.{rowCount, past, checkOf, RightTable}
 use Rattle.table.specs.declared.Checked.{Checked}
 use Rattle.table.specs.declared.Checked.the-variants.{Rows, Wrong}
 use Rattle.table.specs.Scan.{scanAction}
-use Rattle.table.specs.Theorems.{RightTable}
 use Rattle.table.proofs.Tables.{length-rows, right-row-at, check-exactly}
 use Rattle.table.proofs.Scans.{scan-found}
-use Rattle.priority.specs.Numbering.{shortBuffer, over, levelsOf, prioritiesOf, chainOf, numbered, numberOf, prioritiesAfter, chainAfter}
-use Rattle.priority.specs.Theorems.{Ready, Shared, count, priority, link, AnswerCounts, EarlierHigher, PrioritiesUsed, FewestNumbers, ChainForces}
+use Rattle.priority.specs.Numbering.{shortBuffer, over, levelsOf, prioritiesOf, chainOf, numbered, numberOf, prioritiesAfter, chainAfter, Ready, Shared}
+use Rattle.priority.specs.Numbering.{count, priority, link}
+use Rattle.priority.specs.Theorems.{AnswerCounts, EarlierHigher, PrioritiesUsed, FewestNumbers, ChainForces}
 use Rattle.priority.specs.Theorems.{SwitchScans, SwitchObeys, WordsStay, RefusedStays}
 use Rattle.priority.specs.declared.Numbered.the-variants.{Priorities, Refused}
 use Rattle.priority.proofs.Whole.{levels-many, levels-few, priorities-many}
+use Rattle.row.specs.Row.{rowsIn}
 
 -- rows of a right table overlap exactly where some packet in range matches both
 over-shared : (ws : List ℕ) → RightTable ws → (j i : ℕ) → j < rowCount ws → i < rowCount ws → (over ws j i ≡ true) ↔ Shared ws j i

@@ -10,8 +10,9 @@ use Rattle.theory.specs.Number.{above, levels, levelCount}
 use Rattle.theory.proofs.Levels.{level-below, length-levels}
 use Rattle.flow.specs.Match.{overlap}
 use Rattle.flow.specs.declared.Match.{Match}
-use Rattle.table.specs.Table.{rowsIn, past}
+use Rattle.table.specs.Table.{past}
 use Rattle.priority.specs.Numbering.{over}
+use Rattle.row.specs.Row.{rowsIn}
 
 -- what a row of a level makes of the best so far, by whether it overlaps
 pub raised-low : (best level : ℕ) (b : Bool) → level < best → best ≡ max best (cond b (suc level) 0)

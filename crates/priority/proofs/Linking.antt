@@ -16,7 +16,7 @@ use Rattle.priority.proofs.Stores.{laid-last}
 
 -- the part of the chain that ends at row `at` of level k is still to be laid over the buffer l, which was l₀
 pub record Linking (ws ls l₀ l : List ℕ) (count k at : ℕ) : Type 0 where
-  pub room : k < length l
+  pub within : k < length l
   pub same : length l ≡ length l₀
   pub row : at < length ls
   pub ahead : laid 0 (chainTo (over ws) ls k at) l ≡ laid 0 (chainUnder (over ws) ls count) l₀
@@ -42,7 +42,7 @@ linking-start ws ls l (suc k) at e n h d =
     let d′ : at ≡ firstOfLevel ls k = rw q at d in
     rw q
     (record {
-      room = omega arith;
+      within = omega arith;
       same = refl;
       row = rw d′ (seek-first (atLevel ls k) (length ls) (level-highest ls k (sym e)) .within);
       ahead = ap (λ i. laid 0 (chainTo (over ws) ls k i) l) d′;
@@ -59,11 +59,11 @@ linking-turn ws ls l₀ l count (suc k) at at′ l′ g h e d =
     let within : stepBack (over ws) ls at k ≤ 0 + at = seek-within (overlapsAt (over ws) ls at k) at 0 in
     rw q
     (record {
-      room = omega (arith, g .room);
+      within = omega (arith, g .within);
       same = n ∙ g .same;
       row = omega (arith, g .row);
       ahead = ap (laid 0 (chainTo (over ws) ls k at′)) e
-          ∙ laid-last (chainTo (over ws) ls k at′) l (suc k) at (length-chain (over ws) ls k at′) (g .room)
+          ∙ laid-last (chainTo (over ws) ls k at′) l (suc k) at (length-chain (over ws) ls k at′) (g .within)
           ∙ ap (λ i. laid 0 (chainTo (over ws) ls k i ++ (at ∷ [])) l) d′
           ∙ g .ahead;
     })

@@ -11,8 +11,9 @@ use Rattle.logic.proofs.Tests.{by-test}
 use Rattle.theory.specs.Number.{seek, overlapsAt}
 use Rattle.flow.specs.Match.{overlap}
 use Rattle.flow.specs.declared.Match.{Match}
-use Rattle.table.specs.Table.{rowsIn, past}
+use Rattle.table.specs.Table.{past}
 use Rattle.priority.specs.Numbering.{over}
+use Rattle.row.specs.Row.{rowsIn}
 
 -- one place less is left
 seek-more : (test : ℕ → Bool) (n i : ℕ) → i < n → seek test (n - i) i ≡ cond (test i) i (seek test (n - (i + 1)) (i + 1))

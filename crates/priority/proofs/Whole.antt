@@ -11,8 +11,7 @@ use Rattle.logic.proofs.Tests.{and-left, and-right}
 use Rattle.words.specs.Words.{laid}
 use Rattle.theory.specs.Number.{levelCount, chainUnder}
 use Rattle.theory.proofs.Levels.{level-below, length-levels}
-use Rattle.table.specs.Table.{rowCount, checkOf}
-use Rattle.table.specs.Theorems.{RightTable}
+use Rattle.table.specs.Table.{rowCount, checkOf, RightTable}
 use Rattle.table.specs.declared.Checked.{Checked}
 use Rattle.table.specs.declared.Checked.the-variants.{Rows, Wrong}
 use Rattle.table.proofs.Tables.{check-exactly}

@@ -16,6 +16,9 @@
 --   ChainFits ws ls count cs      what the chain needs: the rows' levels, how many there are, and as many words
 --   answerNumber, answerPlace     the number and the place of an answer; both are 0 where it is no refusal
 --   answerCount                   how many priorities an answer counts; 0 where it is a refusal
+--   Ready                         a right table, and neither buffer is shorter than its row count
+--   Shared ws j i                 some packet in range matches rows j and i
+--   count, priority i, link k     how many priorities, row i's priority and the k-th place of the chain afterwards
 use Prim.Native.Nat.{ℕ, _≤_, _<_}
 use mathlib.Core.Path.{_≡_}
 use mathlib.Core.Bool.{Bool, cond, _&&_}
@@ -25,8 +28,9 @@ use lib.ListN.{length, getD}
 use Rattle.words.specs.Words.{laid}
 use Rattle.theory.specs.Number.{rowsOverlap, levels, levelCount, priorities, chain}
 use Rattle.flow.specs.Match.{overlap}
-use Rattle.row.specs.Row.{mostRows}
-use Rattle.table.specs.Table.{rowCount, rowsIn, past, checkOf}
+use Rattle.flow.specs.Theorems.{SharedPacket}
+use Rattle.row.specs.Row.{mostRows, rowsIn}
+use Rattle.table.specs.Table.{rowCount, past, checkOf, RightTable}
 use Rattle.table.specs.declared.Checked.{Checked}
 use Rattle.table.specs.declared.Checked.the-variants.{Rows, Wrong}
 use Rattle.priority.specs.declared.Numbered.{Numbered}
@@ -107,3 +111,26 @@ answerPlace (Refused n i) = i
 abbrev pub answerCount : Numbered → ℕ
 answerCount (Priorities l) = l
 answerCount (Refused n i) = 0
+
+-- a right table, and neither buffer is shorter than its row count
+pub record Ready (ws ps cs : List ℕ) : Type 0 where
+  pub right : RightTable ws
+  pub priorities : rowCount ws ≤ length ps
+  pub chain : rowCount ws ≤ length cs
+
+-- some packet in range matches rows j and i
+abbrev pub Shared : List ℕ → ℕ → ℕ → Type 0
+Shared ws j i = SharedPacket (getD (rowsIn ws) j past .match) (getD (rowsIn ws) i past .match)
+
+module _ (ws ps cs : List ℕ) where
+  -- how many priorities the answer counts
+  abbrev pub count : ℕ
+  count = answerCount (numberOf ws (length ps) (length cs))
+
+  -- row i's priority
+  abbrev pub priority : ℕ → ℕ
+  priority i = getD (prioritiesAfter ws ps cs) i 0
+
+  -- the k-th place of the chain
+  abbrev pub link : ℕ → ℕ
+  link k = getD (chainAfter ws ps cs) k 0

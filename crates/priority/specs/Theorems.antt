@@ -1,10 +1,6 @@
 -- What is proved of the numbering, over the words that it leaves. A law of the same name in proofs/ proves each
 -- statement: earlier-higher proves EarlierHigher.
 --
---   Ready                 a right table, and neither buffer is shorter than its row count
---   Shared ws j i         some packet in range matches rows j and i
---   count                 how many priorities the answer counts: L
---   priority i, link k    row i's priority, and the k-th place of the chain: words of the buffers afterwards
 --   AnswerCounts          the answer is a count, no refusal
 --   EarlierHigher         where some packet in range matches two rows, the earlier has the strictly higher priority
 --   PrioritiesUsed        the priorities lie in 1..L, and L of them are distinct
@@ -21,40 +17,17 @@ use mathlib.Core.Bool.{true}
 use mathlib.Core.List.{List}
 use lib.ListN.{length, getD, take, drop}
 use Rattle.theory.specs.Rows.{matchesAt}
-use Rattle.theory.specs.Number.{Chained, distinct}
-use Rattle.theory.specs.Theorems.{Obeyed}
+use Rattle.theory.specs.Number.{Chained, distinct, Obeyed}
 use Rattle.flow.specs.Packet.{packetOf, rightPacketWords}
 use Rattle.flow.specs.Match.{meets}
 use Rattle.flow.specs.Theorems.{SharedPacket}
 use Rattle.flow.specs.declared.Packet.{Packet}
-use Rattle.table.specs.Table.{rowCount, rowsIn, past}
+use Rattle.table.specs.Table.{rowCount, past, RightTable}
 use Rattle.table.specs.Scan.{scanOf, scanAction}
-use Rattle.table.specs.Theorems.{RightTable}
-use Rattle.priority.specs.Numbering.{over, levelsOf, numberOf, prioritiesAfter, chainAfter, answerCount}
+use Rattle.priority.specs.Numbering.{over, levelsOf, numberOf, prioritiesAfter, chainAfter, answerCount, Ready}
+use Rattle.priority.specs.Numbering.{Shared, count, priority, link}
 use Rattle.priority.specs.declared.Numbered.the-variants.{Priorities, Refused}
-
--- a right table, and neither buffer is shorter than its row count
-pub record Ready (ws ps cs : List ℕ) : Type 0 where
-  pub right : RightTable ws
-  pub priorities : rowCount ws ≤ length ps
-  pub chain : rowCount ws ≤ length cs
-
--- some packet in range matches rows j and i
-abbrev pub Shared : List ℕ → ℕ → ℕ → Type 0
-Shared ws j i = SharedPacket (getD (rowsIn ws) j past .match) (getD (rowsIn ws) i past .match)
-
-module _ (ws ps cs : List ℕ) where
-  -- how many priorities the answer counts
-  abbrev pub count : ℕ
-  count = answerCount (numberOf ws (length ps) (length cs))
-
-  -- row i's priority
-  abbrev pub priority : ℕ → ℕ
-  priority i = getD (prioritiesAfter ws ps cs) i 0
-
-  -- the k-th place of the chain
-  abbrev pub link : ℕ → ℕ
-  link k = getD (chainAfter ws ps cs) k 0
+use Rattle.row.specs.Row.{rowsIn}
 
 -- the answer is a count
 abbrev pub AnswerCounts : Type 0

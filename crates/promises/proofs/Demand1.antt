@@ -15,7 +15,7 @@ use Rattle.flow.specs.Packet.{rightPacketWords}
 use Rattle.flow.specs.declared.Match.{Match}
 use Rattle.action.specs.declared.Action.{Action}
 use Rattle.action.specs.declared.Action.the-variants.{DontCare}
-use Rattle.row.specs.Row.{rowLength, rightRow}
+use Rattle.row.specs.Row.{rowLength, rightRow, wordsOf}
 use Rattle.action.specs.Laws.{lawSearch}
 use Rattle.action.specs.declared.Lawful.{Lawful}
 use Rattle.action.specs.declared.Lawful.the-variants.{Yes, Broken}
@@ -34,10 +34,8 @@ use Rattle.table.specs.declared.Checked.{Checked}
 use Rattle.table.specs.declared.Checked.the-variants as checked
 use Rattle.table.proofs.Tables.{check-exactly, check-first}
 use Rattle.table.proofs.Scans.{scan-refused}
-use Rattle.priority.specs.Numbering.{numberOf, answerCount}
-use Rattle.priority.specs.Theorems.{count}
+use Rattle.priority.specs.Numbering.{numberOf, answerCount, count}
 use Rattle.priority.proofs.After.{number-ready, words-stay, refused-stays}
-use Rattle.common.specs.Tables.{wordsOf}
 use Rattle.compile.specs.Compile.{noRoom, noScratch, wrongRate, room, compiledRows, fine, zeros, answerOf, tableAfter, scratchAfter}
 use Rattle.compile.specs.Compile as compile
 use Rattle.compile.specs.declared.Compiled.{Compiled}
@@ -176,7 +174,7 @@ order = record {
 
 -- the number of a refusal, and that it is no success
 pub same-number : {r r′ : Refusal} → Refused r ≡ Refused r′ → r .number ≡ r′ .number
-same-number q = ap (λ (x : Compiled). compile.numbered x .number) q
+same-number q = ap (λ (x : Compiled). compile.compileRefusal x .number) q
 
 pub no-rows : {X : Type 0} {n : ℕ} {r : Refusal} → Rows n ≡ Refused r → X
 no-rows q = let z : _≡_ {A = ℕ} 0 1 = cc in absurd (omega arith)

@@ -6,18 +6,15 @@ use mathlib.Core.List.{List}
 use lib.ListN.{length, getD, take}
 use lib.Seq.{getD-take}
 use Rattle.flow.specs.Packet.{packetOf}
-use Rattle.table.specs.Table.{rowCount}
+use Rattle.table.specs.Table.{rowCount, RightTable}
 use Rattle.table.specs.Scan.{scanAction}
-use Rattle.table.specs.Theorems.{RightTable}
 use Rattle.table.proofs.Tables.{check-exactly}
 use Rattle.table.proofs.Scans.{scan-unmatched}
-use Rattle.priority.specs.Numbering.{levelsOf, chainAfter}
-use Rattle.priority.specs.Theorems.{Ready, count, link}
+use Rattle.priority.specs.Numbering.{levelsOf, chainAfter, Ready, count, link}
 use Rattle.priority.proofs.Whole.{levels-many}
 use Rattle.priority.proofs.After.{answer-counts, earlier-higher, priorities-used, fewest-numbers, chain-forces, switch-scans, switch-obeys}
 use Rattle.tree.specs.declared.Evaluated.the-variants.{Gives}
-use Rattle.compile.specs.Compile.{tableAfter}
-use Rattle.compile.specs.Theorems.{tableRows}
+use Rattle.compile.specs.Compile.{tableAfter, tableRows}
 use Rattle.text.proofs.Right.{table-right}
 use Rattle.promises.specs.Demands.{SwitchObeysTree, Demand3}
 use Rattle.promises.proofs.Scanned.{table-scans}

@@ -36,7 +36,7 @@ scratch-number f t s r h q = by-reading f
 -- and so of a compile in the listing's buffers
 listed-number : (f : List ℕ) (r : Refusal) → answerOf f blank blank ≡ Refused r → between 1 10 (r .number) ⊎ (r .number ≡ noRoom)
 listed-number f r =
-    let k : length blank ≡ rowLength * listing.room = length-replicate {A = ℕ} (rowLength * listing.room) 0 in
+    let k : length blank ≡ rowLength * listing.listingRoom = length-replicate {A = ℕ} (rowLength * listing.listingRoom) 0 in
     scratch-number f blank blank r (omega arith)
 
 pub every-listing : EveryListing

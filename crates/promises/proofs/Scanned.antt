@@ -15,19 +15,19 @@ use Rattle.action.specs.declared.Action.the-variants.{DontCare}
 use Rattle.action.proofs.Joined.{identity}
 use Rattle.policy.specs.File.{treeOf}
 use Rattle.policy.specs.declared.Layout.{Layout}
-use Rattle.table.specs.Table.{rowsIn}
 use Rattle.table.specs.Scan.{scanOf, scanNumber, scanAction, found}
-use Rattle.table.specs.Theorems.{RightTable}
 use Rattle.table.proofs.Tables.{check-exactly, rows-read}
 use Rattle.table.proofs.Scans.{scan-found}
 use Rattle.tree.specs.Action.{evalTree, actionOf}
 use Rattle.tree.specs.declared.Evaluated.the-variants.{Gives}
 use Rattle.tree.proofs.Eval.{action-eval}
-use Rattle.compile.specs.Compile.{compiledRows, answerOf, tableAfter}
-use Rattle.compile.specs.Theorems.{tableRows, Answered}
+use Rattle.compile.specs.Compile.{compiledRows, answerOf, tableAfter, tableRows}
+use Rattle.compile.specs.Theorems.{AnswerTells}
 use Rattle.compile.specs.declared.Compiled.the-variants.{Rows}
 use Rattle.compile.proofs.Answered.{answers-rows}
 use Rattle.text.proofs.Right.{table-right}
+use Rattle.row.specs.Row.{rowsIn}
+use Rattle.table.specs.Table.{RightTable}
 
 -- the scan of the rows is the action of the tree
 rows-scan : (f : List ℕ) (l : Layout) (p : Packet) → scan meets DontCare (compiledRows f l) p ≡ evalTree (treeOf f l) p
@@ -41,7 +41,7 @@ rows-scan f l p =
 pub table-scans : (f t s p : List ℕ) (n : ℕ) → answerOf f t s ≡ Rows n → rightPacketWords p ≡ true
     → (scanNumber (scanOf (tableRows n (tableAfter f t s)) p) ≡ 0) × (actionOf f p ≡ Gives (scanAction (scanOf (tableRows n (tableAfter f t s)) p)))
 table-scans f t s p n q right =
-    let k : Answered f t s n = answers-rows f t s n q in
+    let k : AnswerTells f t s n = answers-rows f t s n q in
     let l : Layout = k .layout in
     let ws : List ℕ = tableRows n (tableAfter f t s) in
     let table : RightTable ws = check-exactly ws n .0 (table-right f t s n q) .0 in

@@ -23,8 +23,7 @@ use Rattle.table.specs.Scan.{scanOf}
 use Rattle.table.specs.declared.Scanned.the-variants.{Found}
 use Rattle.priority.specs.Numbering.{numberOf, prioritiesAfter, chainAfter}
 use Rattle.priority.specs.declared.Numbered.the-variants.{Priorities}
-use Rattle.compile.specs.Compile.{zeros, answerOf, tableAfter, scratchAfter, rowCount}
-use Rattle.compile.specs.Theorems.{tableRows}
+use Rattle.compile.specs.Compile.{zeros, answerOf, tableAfter, scratchAfter, compileCount, tableRows}
 use Rattle.compile.specs.declared.Compiled.the-variants.{Rows}
 
 -- a case: its number in the scope, a call, and what it gives
@@ -56,7 +55,7 @@ lent = zeros (4 * rowLength)
 
 -- the rows that the compile of a file leaves in such a buffer
 abbrev pub rowsOf : List ℕ → List ℕ
-rowsOf f = tableRows (rowCount (answerOf f lent lent)) (tableAfter f lent lent)
+rowsOf f = tableRows (compileCount (answerOf f lent lent)) (tableAfter f lent lent)
 
 -- a row that only asks for a destination prefix
 abbrev pub row : ℕ → ℕ → ℕ → ℕ → List ℕ

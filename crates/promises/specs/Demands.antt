@@ -15,8 +15,7 @@ use mathlib.Core.Logic.{_↔_, _⊎_}
 use lib.ListN.{length, getD, take, drop}
 use Rattle.theory.specs.Rows.{matchesAt}
 use Rattle.theory.specs.Nodes.{listTree}
-use Rattle.theory.specs.Number.{FirstPlace, distinct}
-use Rattle.theory.specs.Theorems.{Obeyed}
+use Rattle.theory.specs.Number.{FirstPlace, distinct, Obeyed}
 use Rattle.flow.specs.Packet.{packetOf, rightPacketWords, wrongPacket}
 use Rattle.flow.specs.Match.{meets}
 use Rattle.action.specs.Action.{inRange}
@@ -24,7 +23,7 @@ use Rattle.action.specs.Operator.{join}
 use Rattle.action.specs.Laws.{lawSearch, Shows}
 use Rattle.action.specs.declared.Action.{Action}
 use Rattle.action.specs.declared.Action.the-variants.{DontCare}
-use Rattle.row.specs.Row.{rowLength, rightRow}
+use Rattle.row.specs.Row.{rowLength, rightRow, wordsOf, rowsIn}
 use Rattle.policy.specs.Numbers.{lawBroken}
 use Rattle.policy.specs.Read.{plain, readOf, innerOf, siblingOf, operatorRecords, nodeRecords}
 use Rattle.policy.specs.File.{operatorAt, atomsOf, treeOf, allAtoms}
@@ -35,18 +34,14 @@ use Rattle.policy.specs.declared.Reading.the-variants as reading
 use Rattle.policy.specs.declared.Refusal.{Refusal}
 use Rattle.tree.specs.Action.{evalTree, actionOf}
 use Rattle.tree.specs.declared.Evaluated.the-variants as evaluated
-use Rattle.table.specs.Table.{wrongTable, wrongRow, rowCount, rowsIn, past, rightLength, checkOf}
+use Rattle.table.specs.Table.{wrongTable, wrongRow, rowCount, past, rightLength, checkOf, rowAt, RightTable}
 use Rattle.table.specs.Scan.{scanOf, scanNumber, scanAction}
-use Rattle.table.specs.Theorems.{rowAt, RightTable}
 use Rattle.table.specs.declared.Checked.the-variants as checked
 use Rattle.table.specs.declared.Scanned.the-variants as scanned
-use Rattle.priority.specs.Numbering.{shortBuffer, numberOf, prioritiesAfter, chainAfter}
-use Rattle.priority.specs.Theorems.{Ready, Shared, priority, link}
+use Rattle.priority.specs.Numbering.{shortBuffer, numberOf, prioritiesAfter, chainAfter, Ready, Shared, priority, link}
 use Rattle.priority.specs.declared.Numbered.the-variants as numbered
-use Rattle.common.specs.Tables.{wordsOf}
 use Rattle.compile.specs.Compile.{noRoom, noScratch, wrongRate, room, compiledRows, zeros, answerOf, tableAfter}
-use Rattle.compile.specs.Compile.{scratchAfter}
-use Rattle.compile.specs.Theorems.{tableRows}
+use Rattle.compile.specs.Compile.{scratchAfter, tableRows}
 use Rattle.compile.specs.declared.Compiled.the-variants as compiled
 use Rattle.promises.specs.Told.{searchTold, readTold, actionTold, compileTold, checkTold, scanTold, numberTold}
 use Rattle.promises.specs.Told.{between, Fixed}

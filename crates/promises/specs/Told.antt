@@ -61,7 +61,7 @@ actionTold x = record { refusal = tree.numbered x; action = tree.given x; count 
 
 -- the row count
 abbrev pub compileTold : Compiled → Told
-compileTold x = record { refusal = compile.numbered x; action = DontCare; count = compile.rowCount x }
+compileTold x = record { refusal = compile.compileRefusal x; action = DontCare; count = compile.compileCount x }
 
 -- how many rows a right table has
 abbrev pub checkTold : Checked → Told

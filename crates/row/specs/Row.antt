@@ -3,15 +3,18 @@
 --   rowLength                       how many words it has
 --   mostRows                        the most rows that a table may have
 --   rowOf, rowWords                 the match and the action that some words are, and their words
+--   rowsIn, wordsOf                 the rows that some words hold, and the words of rows, one behind the other
 --   rightRowMatch, rightRowAction   the match is right, the action is right
 --   rightRow                        a right row: an atom with a right match and a right action, whose match is not
 --                                   empty
 --   RightRow                        the same of a match and an action
+--   InRange                         the rate of a row lies in its range
 use Prim.Native.Nat.{ℕ, _+_}
 use mathlib.Core.Path.{_≡_}
 use mathlib.Core.Bool.{Bool, true, false, not, _&&_}
 use mathlib.Core.List.{List, [], _∷_, _++_}
 use lib.ListN.{getD}
+use Rattle.words.specs.Records.{rowsOf, flat}
 use Rattle.theory.specs.Rows.{Row}
 use Rattle.flow.specs.Match.{matchLength, matchOf, matchWords, isEmpty, rightMatch}
 use Rattle.flow.specs.declared.Match.{Match}
@@ -46,6 +49,14 @@ rowOf ws = record { match = matchOf ws; action = rowAction ws }
 abbrev pub rowWords : Row Match Action → List ℕ
 rowWords r = matchWords (r .match) ++ (kindOf (r .action) ∷ rateOf (r .action) ∷ [])
 
+-- the rows that some words hold
+abbrev pub rowsIn : List ℕ → List (Row Match Action)
+rowsIn ws = rowsOf rowLength rowOf ws
+
+-- the words of rows, one behind the other
+abbrev pub wordsOf : List (Row Match Action) → List ℕ
+wordsOf N = flat rowWords N
+
 -- the match is right
 unfoldable pub rightRowMatch : List ℕ → Bool
 rightRowMatch ws = rightMatch (matchOf ws)
@@ -63,3 +74,7 @@ pub record RightRow (r : Row Match Action) : Type 0 where
   pub match : rightMatch (r .match) ≡ true
   pub notEmpty : isEmpty (r .match) ≡ false
   pub action : inRange (r .action) ≡ true
+
+-- the rate of a row lies in its range
+abbrev pub InRange : Row Match Action → Type 0
+InRange r = inRange (r .action) ≡ true

@@ -20,12 +20,12 @@ use Rattle.flow.specs.Match.{isEmpty, common}
 use Rattle.flow.specs.declared.Match.{Match}
 use Rattle.action.specs.Operator as operator
 use Rattle.action.specs.declared.Action.{Action}
-use Rattle.row.specs.Row.{rowLength, rowOf, rowWords}
+use Rattle.row.specs.Row.{rowLength, rowOf, rowWords, rowsIn, wordsOf}
 use Rattle.row.proofs.Rows.{row-back, row-long}
 use Rattle.common.specs.declared.Made.{Made}
 use Rattle.common.specs.declared.Made.the-variants.{Words, Full}
 use Rattle.common.specs.Lays.{madeOf, Lays}
-use Rattle.common.specs.Tables.{rowsIn, wordsOf, commonRowsWords}
+use Rattle.common.specs.Tables.{commonRowsWords}
 use Rattle.rows.specs.Places.{part}
 use Rattle.rows.specs.Tables.{joinRows, joinWords}
 use Rattle.rows.proofs.Laid.{laid-part, laid-over, laid-first, laid-second, laid-same}

@@ -14,10 +14,10 @@ use Rattle.theory.specs.Rows.{kept}
 use Rattle.flow.specs.Match.{isEmpty, matchOf}
 use Rattle.flow.specs.declared.Match.{Match}
 use Rattle.action.specs.declared.Action.{Action}
-use Rattle.row.specs.Row.{rowLength, rowOf, rowAction, rowWords}
+use Rattle.row.specs.Row.{rowLength, rowOf, rowAction, rowWords, rowsIn, wordsOf}
 use Rattle.row.proofs.Rows.{row-long}
 use Rattle.common.specs.Lays.{madeOf, Lays}
-use Rattle.common.specs.Tables.{rowsIn, wordsOf, commonWithWords, commonRowsWords}
+use Rattle.common.specs.Tables.{commonWithWords, commonRowsWords}
 use Rattle.rows.specs.Places.{part, PutUpTo, Grows}
 use Rattle.rows.specs.Tables.{ownRows, joinWords, atomWords, ownWords}
 use Rattle.common.specs.declared.Made.{Made}

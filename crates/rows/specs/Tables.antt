@@ -13,8 +13,8 @@ use Rattle.flow.specs.Match.{isEmpty, common}
 use Rattle.flow.specs.declared.Match.{Match}
 use Rattle.action.specs.Operator as operator
 use Rattle.action.specs.declared.Action.{Action}
-use Rattle.row.specs.Row.{rowOf}
-use Rattle.common.specs.Tables.{rowsIn, wordsOf, commonRowsWords}
+use Rattle.row.specs.Row.{rowOf, rowsIn, wordsOf}
+use Rattle.common.specs.Tables.{commonRowsWords}
 
 -- two tables joined
 abbrev pub joinRows : List ℕ → List (Row Match Action) → List (Row Match Action) → List (Row Match Action)

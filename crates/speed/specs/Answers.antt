@@ -2,7 +2,6 @@
 --
 --   readNumber, treeNumber   the number of a refusal, 0 where there is none
 --   treeAction               the tree's action
---   compiledRows             the compile's row count
 --   withAction l a           the words l, with an action's kind and rate at their start if there is room
 use Prim.Native.Nat.{ℕ}
 use mathlib.Core.List.{List, [], _∷_}
@@ -13,8 +12,6 @@ use Rattle.policy.specs.Read as read
 use Rattle.policy.specs.declared.Reading.{Reading}
 use Rattle.tree.specs.Action as tree
 use Rattle.tree.specs.declared.Evaluated.{Evaluated}
-use Rattle.compile.specs.Compile as compile
-use Rattle.compile.specs.declared.Compiled.{Compiled}
 
 -- the number of a file's refusal, 0 where it is accepted
 abbrev pub readNumber : Reading → ℕ
@@ -27,10 +24,6 @@ treeNumber r = tree.numbered r .number
 -- the tree's action, don't care where it is refused
 abbrev pub treeAction : Evaluated → Action
 treeAction r = tree.given r
-
--- the compile's row count, 0 where it is refused
-abbrev pub compiledRows : Compiled → ℕ
-compiledRows r = compile.rowCount r
 
 -- the words l, with an action's kind and rate at their start if there is room
 abbrev pub withAction : List ℕ → Action → List ℕ

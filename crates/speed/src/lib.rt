@@ -3,10 +3,10 @@ ghost use mathlib.Core.Path.{_≡_};
 ghost use lib.ListN.{length};
 ghost use Rattle.policy.specs.Read.{readOf};
 ghost use Rattle.tree.specs.Action.{actionOf};
-ghost use Rattle.compile.specs.Compile.{answerOf, tableAfter, scratchAfter};
+ghost use Rattle.compile.specs.Compile.{answerOf, tableAfter, scratchAfter, compileCount};
 ghost use Rattle.table.specs.Scan.{scanOf, scanAction, scanTried};
 ghost use Rattle.priority.specs.Numbering.{numberOf, answerCount, prioritiesAfter, chainAfter};
-ghost use Rattle.speed.specs.Answers.{readNumber, treeNumber, treeAction, compiledRows, withAction};
+ghost use Rattle.speed.specs.Answers.{readNumber, treeNumber, treeAction, withAction};
 use action::Action;
 use action::kind;
 use action::rate;
@@ -45,7 +45,7 @@ pub extern "C" fn speed_tree(file: &[u32], packet: &[u32], given: &mut [u32]) ->
 // The compile; the answer is the row count, 0 where it is refused.
 #[no_mangle]
 pub extern "C" fn speed_compile(file: &[u32], table: &mut [u32], scratch: &mut [u32]) -> usize
-    ensures { λ r. ⌜ (r ≡ compiledRows (answerOf (now (file .entry)) (now (table .entry)) (now (scratch .entry))))
+    ensures { λ r. ⌜ (r ≡ compileCount (answerOf (now (file .entry)) (now (table .entry)) (now (scratch .entry))))
         × (now (table .exit) ≡ tableAfter (now (file .entry)) (now (table .entry)) (now (scratch .entry)))
         × (now (scratch .exit) ≡ scratchAfter (now (file .entry)) (now (table .entry)) (now (scratch .entry))) ⌝ }
 {
@@ -103,7 +103,7 @@ fn tree_given(answer: Evaluated) -> Action
 }
 
 fn row_count(answer: Compiled) -> usize
-    ensures { λ r. ⌜ r ≡ compiledRows answer ⌝ }
+    ensures { λ r. ⌜ r ≡ compileCount answer ⌝ }
 {
     match answer {
         Compiled::Rows(rows) => rows,

@@ -10,11 +10,12 @@ use Rattle.theory.proofs.Places.{scan-place, scan-none}
 use Rattle.flow.specs.Packet.{packetOf, rightPacketWords}
 use Rattle.flow.specs.Match.{meets}
 use Rattle.action.specs.declared.Action.the-variants.{DontCare}
-use Rattle.table.specs.Table.{rowCount, rowsIn, past}
+use Rattle.table.specs.Table.{rowCount, past, RightTable}
 use Rattle.table.specs.Scan.{found, scanOf}
-use Rattle.table.specs.Theorems.{RightTable, ScanFirst, ScanUnmatched, ScanRefused}
+use Rattle.table.specs.Theorems.{ScanFirst, ScanUnmatched, ScanRefused}
 use Rattle.table.specs.declared.Scanned.the-variants.{Found}
 use Rattle.table.proofs.Tables.{length-rows, check-exactly}
+use Rattle.row.specs.Row.{rowsIn}
 
 -- a right table and a right packet are scanned
 pub scan-found : (ws packet : List ℕ) → RightTable ws → rightPacketWords packet ≡ true → scanOf ws packet ≡ found 0 (rowsIn ws) (packetOf packet)

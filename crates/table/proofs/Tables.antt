@@ -11,18 +11,20 @@ use borrow.Author.Tests.{eqb-true, eq-eqb, leb-true, le-leb, not-true, not-false
 use Rattle.logic.proofs.Tests.{by-test, and-left, and-right, and-both}
 use Rattle.words.specs.Records.{records, rowsOf, flat}
 use Rattle.words.proofs.Records.{length-records, rows-flat, length-flat}
-use Rattle.theory.specs.Rows.{Row, EveryRow}
+use Rattle.theory.specs.Rows.{Row}
 use Rattle.theory.specs.Number.{FirstPlace}
 use Rattle.flow.specs.Match.{matchOf, isEmpty, rightMatch}
 use Rattle.flow.specs.declared.Match.{Match}
 use Rattle.action.specs.Action.{kindOf, rateOf, actionOf, rightAction}
 use Rattle.action.specs.declared.Action.{Action}
 use Rattle.action.proofs.Words.{words-of-action, right-words}
-use Rattle.row.specs.Row.{rowLength, mostRows, kindPlace, ratePlace, rowOf, rowAction, rowWords, rightRow, rightRowMatch, rightRowAction, RightRow}
+use Rattle.row.specs.Row.{rowLength, mostRows, kindPlace, ratePlace, rowOf, rowAction, rowWords, rightRow, rightRowMatch, rightRowAction, RightRow, rowsIn}
 use Rattle.row.proofs.Rows.{row-back, row-long, words-back}
-use Rattle.table.specs.Table.{wrongTable, wrongRow, rowCount, rowsIn, past, rightLength, checkFrom, checkRows, checkOf}
-use Rattle.table.specs.Theorems.{rowAt, RightTable, CheckExactly, CheckFirst, TableRows, TableWords, RowsRead, RowsWritten}
+use Rattle.table.specs.Table.{wrongTable, wrongRow, rowCount, past, rightLength, checkFrom, checkRows, checkOf, rowAt, RightTable}
+use Rattle.table.specs.Theorems.{CheckExactly, CheckFirst, TableRows, TableWords, RowsRead, RowsWritten}
 use Rattle.table.specs.declared.Checked.the-variants.{Rows, Wrong}
+use Rattle.logic.specs.Lists.{All}
+use Rattle.logic.proofs.Lists.{all-at, all-map}
 
 -- record i of records that stand k words apart
 records-at : (n k i : ℕ) (ws : List ℕ) → i < n → getD (records n k ws) i [] ≡ take k (drop (i * k) ws)
@@ -76,12 +78,6 @@ words-right r h = and-both (and-both (h .match) (ap not (h .notEmpty))) (right-w
 right-action : (ws : List ℕ) → rightRow ws ≡ true → rightRowAction ws ≡ true
 unfolding rightRow
 right-action ws h = and-right (rightRowMatch ws && not (isEmpty (matchOf ws))) (rightRowAction ws) h
-
--- what every row has, the row at a place has
-every-at : {M A : Type 0} (T : Row M A → Type 0) (d : Row M A) (N : List (Row M A)) (i : ℕ) → EveryRow T N → i < length N → T (getD N i d)
-every-at T d [] i f h = absurd (omega arith)
-every-at T d (r ∷ N) zero f h = f .0
-every-at T d (r ∷ N) (suc i) f h = every-at T d N i (f .1) (omega arith)
 
 -- where all rows are right, the check counts them; where row j is the first that is not, it names it
 check-counts : (i : ℕ) (rs : List (List ℕ)) → ((j : ℕ) → j < length rs → rightRow (getD rs j []) ≡ true) → checkFrom i rs ≡ Rows (i + length rs)
@@ -161,21 +157,16 @@ check-first ws i t f =
     })
     ∙ ap (Wrong wrongRow) e)
 
--- each row of rows is right where each of their words is
-rows-every : (rs : List (List ℕ)) → ((j : ℕ) → j < length rs → rightRow (getD rs j []) ≡ true) → EveryRow RightRow (map rowOf rs)
-rows-every [] f = tt
-rows-every (r ∷ rs) f = (row-right r (f 0 (omega arith)), rows-every rs (λ j h. f (suc j) (omega arith)))
-
 right-each : (ws : List ℕ) → RightTable ws → (j : ℕ) → j < length (each ws) → rightRow (getD (each ws) j []) ≡ true
 right-each ws t j h = rw (each-at ws j h) (t .rows j (omega (arith, length-records (rowCount ws) rowLength ws)))
 
 pub table-rows : TableRows
 unfolding rowsOf
-table-rows ws t = rows-every (each ws) (right-each ws t)
+table-rows ws t = all-map RightRow rowOf [] (each ws) (λ j h. row-right (getD (each ws) j []) (right-each ws t j h))
 
 -- so is the row at each place
 pub right-row-at : (ws : List ℕ) → RightTable ws → (i : ℕ) → i < rowCount ws → RightRow (getD (rowsIn ws) i past)
-right-row-at ws t i h = every-at RightRow past (rowsIn ws) i (table-rows ws t) (omega (arith, length-rows ws))
+right-row-at ws t i h = all-at RightRow past (rowsIn ws) i (table-rows ws t) (omega (arith, length-rows ws))
 
 -- a row has words
 row-some : 0 < rowLength
@@ -201,7 +192,7 @@ table-words N f h =
     record {
       whole = rw e (omega arith);
       few = rw e (omega arith);
-      rows = λ i g. let l : i < length N = omega arith in rw (flat-at N i l) (words-right (getD N i past) (every-at RightRow past N i f l));
+      rows = λ i g. let l : i < length N = omega arith in rw (flat-at N i l) (words-right (getD N i past) (all-at RightRow past N i f l));
     }
 
 -- right rows that are read are written again

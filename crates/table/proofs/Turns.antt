@@ -15,8 +15,8 @@ use Rattle.flow.specs.declared.Match.{Match}
 use Rattle.flow.specs.declared.Packet.{Packet}
 use Rattle.action.specs.declared.Action.{Action}
 use Rattle.action.specs.declared.Action.the-variants.{DontCare}
-use Rattle.row.specs.Row.{rowLength, rowOf, rowAction, rightRow}
-use Rattle.table.specs.Table.{wrongRow, rowCount, rowsIn, checkFrom, checkRows}
+use Rattle.row.specs.Row.{rowLength, rowOf, rowAction, rightRow, rowsIn}
+use Rattle.table.specs.Table.{wrongRow, rowCount, checkFrom, checkRows}
 use Rattle.table.specs.Scan.{found}
 use Rattle.table.specs.declared.Checked.{Checked}
 use Rattle.table.specs.declared.Checked.the-variants.{Rows, Wrong}

@@ -16,11 +16,12 @@ use Rattle.flow.specs.declared.Match.{Match}
 use Rattle.flow.specs.declared.Packet.{Packet}
 use Rattle.action.specs.declared.Action.{Action}
 use Rattle.action.specs.declared.Action.the-variants.{DontCare}
-use Rattle.table.specs.Table.{rowsIn, checkOf}
+use Rattle.table.specs.Table.{checkOf}
 use Rattle.table.specs.declared.Checked.{Checked}
 use Rattle.table.specs.declared.Checked.the-variants.{Rows, Wrong}
 use Rattle.table.specs.declared.Scanned.{Scanned}
 use Rattle.table.specs.declared.Scanned.the-variants.{Found, Refused}
+use Rattle.row.specs.Row.{rowsIn}
 
 -- the scan of rows before which k rows were tried
 abbrev pub found : ℕ → List (Row Match Action) → Packet → Scanned

@@ -4,18 +4,20 @@
 --   wrongTable        the number of a table of a wrong length
 --   wrongRow          the number of a wrong row
 --   rowCount ws       how many rows the words hold
---   rowsIn ws         the rows
 --   past              stands for a row past the last
 --   rightLength ws    the words are whole rows, and not too many
 --   checkFrom i rs    of the rows from row i on, the first wrong one, or how many rows there are
 --   checkRows ws      the same of all rows
 --   checkOf ws        the check's answer
-use Prim.Native.Nat.{ℕ, suc, _/_, _%_}
-use mathlib.Core.Bool.{Bool, cond, _&&_}
+--   rowAt ws i        the words of row i
+--   RightTable ws     what makes a table right
+use Prim.Native.Nat.{ℕ, suc, _*_, _/_, _%_, _≤_, _<_}
+use mathlib.Core.Path.{_≡_}
+use mathlib.Core.Bool.{Bool, true, cond, _&&_}
 use mathlib.Core.List.{List, [], _∷_}
 use lib.Dec.{eqb, leb}
-use lib.ListN.{length}
-use Rattle.words.specs.Records.{records, rowsOf}
+use lib.ListN.{length, take, drop}
+use Rattle.words.specs.Records.{records}
 use Rattle.theory.specs.Rows.{Row}
 use Rattle.flow.specs.declared.Match.{Match}
 use Rattle.action.specs.declared.Action.{Action}
@@ -34,10 +36,6 @@ wrongRow = 16
 -- how many rows the words hold
 abbrev pub rowCount : List ℕ → ℕ
 rowCount ws = length ws / rowLength
-
--- the rows that the words are
-abbrev pub rowsIn : List ℕ → List (Row Match Action)
-rowsIn ws = rowsOf rowLength rowOf ws
 
 -- what stands for a row past the last, where a place is asked for that has none
 abbrev pub past : Row Match Action
@@ -59,3 +57,13 @@ checkRows ws = checkFrom 0 (records (rowCount ws) rowLength ws)
 -- the check: first the length, then each row
 unfoldable pub checkOf : List ℕ → Checked
 checkOf ws = cond (rightLength ws) (checkRows ws) (Wrong wrongTable 0)
+
+-- the words of row i
+abbrev pub rowAt : List ℕ → ℕ → List ℕ
+rowAt ws i = take rowLength (drop (i * rowLength) ws)
+
+-- a right table: a multiple of 11 words, not too many rows, and each row right
+pub record RightTable (ws : List ℕ) : Type 0 where
+  pub whole : length ws % rowLength ≡ 0
+  pub few : rowCount ws ≤ mostRows
+  pub rows : (i : ℕ) → i < rowCount ws → rightRow (rowAt ws i) ≡ true

@@ -1,8 +1,6 @@
 -- What is proved of tables and the scan. A law of the same name in proofs/ proves each statement: check-exactly proves
 -- CheckExactly.
 --
---   rowAt                      the words of a row
---   RightTable                 what makes a table right
 --   CheckExactly               the check passes exactly the right tables
 --   CheckFirst                 a wrong row is named by the first place that has one, also behind a matching row
 --   TableRows, TableWords      the rows of a right table are right, and the words of right rows are a right table
@@ -17,28 +15,19 @@ use mathlib.Core.List.{List}
 use mathlib.Core.Logic.{_↔_}
 use lib.ListN.{length, getD, take, drop}
 use Rattle.words.specs.Records.{flat}
-use Rattle.theory.specs.Rows.{Row, EveryRow, matchesAt}
+use Rattle.theory.specs.Rows.{Row, matchesAt}
 use Rattle.theory.specs.Number.{FirstPlace}
 use Rattle.flow.specs.Packet.{packetOf, rightPacketWords, wrongPacket}
 use Rattle.flow.specs.Match.{meets}
 use Rattle.flow.specs.declared.Match.{Match}
 use Rattle.action.specs.declared.Action.{Action}
 use Rattle.action.specs.declared.Action.the-variants.{DontCare}
-use Rattle.row.specs.Row.{rowLength, mostRows, rowWords, rightRow, RightRow}
-use Rattle.table.specs.Table.{wrongRow, rowCount, rowsIn, past, rightLength, checkOf}
+use Rattle.row.specs.Row.{rowLength, mostRows, rowWords, rightRow, RightRow, rowsIn}
+use Rattle.table.specs.Table.{wrongRow, rowCount, past, rightLength, checkOf, rowAt, RightTable}
 use Rattle.table.specs.Scan.{scanOf}
 use Rattle.table.specs.declared.Checked.the-variants.{Rows, Wrong}
 use Rattle.table.specs.declared.Scanned.the-variants.{Found, Refused}
-
--- the words of row i
-abbrev pub rowAt : List ℕ → ℕ → List ℕ
-rowAt ws i = take rowLength (drop (i * rowLength) ws)
-
--- a right table: a multiple of 11 words, not too many rows, and each row right
-pub record RightTable (ws : List ℕ) : Type 0 where
-  pub whole : length ws % rowLength ≡ 0
-  pub few : rowCount ws ≤ mostRows
-  pub rows : (i : ℕ) → i < rowCount ws → rightRow (rowAt ws i) ≡ true
+use Rattle.logic.specs.Lists.{All}
 
 -- the check passes exactly the right tables, and answers how many rows they have
 abbrev pub CheckExactly : Type 0
@@ -52,11 +41,11 @@ CheckFirst =
 
 -- each row of a right table is right
 abbrev pub TableRows : Type 0
-TableRows = (ws : List ℕ) → RightTable ws → EveryRow RightRow (rowsIn ws)
+TableRows = (ws : List ℕ) → RightTable ws → All RightRow (rowsIn ws)
 
 -- the words of right rows, not too many, are a right table
 abbrev pub TableWords : Type 0
-TableWords = (N : List (Row Match Action)) → EveryRow RightRow N → length N ≤ mostRows → RightTable (flat rowWords N)
+TableWords = (N : List (Row Match Action)) → All RightRow N → length N ≤ mostRows → RightTable (flat rowWords N)
 
 -- rows that are written are read again
 abbrev pub RowsRead : Type 0

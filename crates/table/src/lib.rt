@@ -1,8 +1,9 @@
 // Tables: rows that stand one behind the other, which tables are right, and the scan.
 ghost use mathlib.Core.Path.{_≡_};
 ghost use lib.ListN.{getD};
-ghost use Rattle.table.specs.Table.{rowsIn, past, rightLength, checkRows, checkOf};
+ghost use Rattle.table.specs.Table.{past, rightLength, checkRows, checkOf};
 ghost use Rattle.table.specs.Scan.{found, scanOf};
+ghost use Rattle.row.specs.Row.{rowsIn};
 use action::Action;
 use flow::Match;
 use flow::Packet;

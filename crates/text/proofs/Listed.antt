@@ -12,19 +12,17 @@ use Rattle.words.specs.Words.{laid, copied}
 use Rattle.words.specs.Bytes.{wordBytes, wordsIn}
 use Rattle.words.proofs.Laid.{copied-fits, length-copied, length-laid, take-laid}
 use Rattle.words.proofs.Bytes.{length-words}
-use Rattle.row.specs.Row.{rowLength, mostRows}
-use Rattle.table.specs.Table.{rowCount, rowsIn}
+use Rattle.row.specs.Row.{rowLength, mostRows, rowsIn}
+use Rattle.table.specs.Table.{rowCount}
 use Rattle.table.proofs.Tables.{check-exactly}
 use Rattle.policy.specs.Numbers.{longestFile}
 use Rattle.policy.specs.declared.Refusal.{Refusal}
-use Rattle.compile.specs.Compile.{answerOf, tableAfter, Compiles}
-use Rattle.compile.specs.Theorems.{tableRows}
+use Rattle.compile.specs.Compile.{answerOf, tableAfter, Compiles, tableRows}
 use Rattle.compile.specs.declared.Compiled.{Compiled}
 use Rattle.compile.specs.declared.Compiled.the-variants.{Rows}
 use Rattle.compile.specs.declared.Compiled.the-variants as compiled
 use Rattle.compile.proofs.Answered.{answers-rows}
-use Rattle.priority.specs.Numbering.{prioritiesOf, numberOf, Answered}
-use Rattle.priority.specs.Theorems.{Ready}
+use Rattle.priority.specs.Numbering.{prioritiesOf, numberOf, Answered, Ready}
 use Rattle.priority.specs.declared.Numbered.{Numbered}
 use Rattle.priority.specs.declared.Numbered.the-variants as numbered
 use Rattle.priority.proofs.After.{number-ready, priorities-left}
@@ -32,7 +30,7 @@ use Rattle.priority.proofs.Whole.{priorities-many}
 use Rattle.line.specs.Text.{head, refusal}
 use Rattle.line.specs.Puts.{Puts}
 use Rattle.line.proofs.Putting.{_then_}
-use Rattle.text.specs.Listing.{wrongInput, room, longestInput, rightInput, lines, blank, tableText, fileText, listingOf}
+use Rattle.text.specs.Listing.{wrongInput, listingRoom, longestInput, rightInput, lines, blank, tableText, fileText, listingOf}
 use Rattle.text.proofs.Right.{table-right}
 
 -- the words of an input, where it is right
@@ -110,8 +108,8 @@ module _ (t ps cs : List ℕ) {ps′ cs′ : List ℕ} {r : Numbered} (c : Answe
     table-numbers : take (rowCount t) ps′ ≡ prioritiesOf t
     table-numbers = ap (take (rowCount t)) stored ∙ take-laid (prioritiesOf t) ps (rowCount t) (priorities-many t) (ready .priorities)
 
-  module _ (np : length ps ≡ room) (nc : length cs ≡ room) where
-    answer-room : r ≡ numberOf t room room
+  module _ (np : length ps ≡ listingRoom) (nc : length cs ≡ listingRoom) where
+    answer-room : r ≡ numberOf t listingRoom listingRoom
     answer-room = c .0 ∙ ap₂ (numberOf t) np nc
 
     pub table-listed : {l : ℕ} {o o₁ o₂ : List ℕ} {a b : ℕ} → r ≡ numbered.Priorities l → Puts (head (rowCount t) l) o 0 o₁ a
@@ -119,9 +117,9 @@ module _ (t ps cs : List ℕ) {ps′ cs′ : List ℕ} {r : Numbered} (c : Answe
         → Puts (tableText t) o 0 o₂ b
     unfolding tableText
     table-listed {l} {o} {o₁} {o₂} {a} {b} e p q =
-        let k : numberOf t room room ≡ numbered.Priorities l = sym answer-room ∙ e in
+        let k : numberOf t listingRoom listingRoom ≡ numbered.Priorities l = sym answer-room ∙ e in
         rw k (p then subst (λ x. Puts (lines x (rowsIn t)) o₁ a o₂ b) (table-numbers e) q)
 
     pub table-refused : {n i : ℕ} {o o₁ : List ℕ} {a : ℕ} → r ≡ numbered.Refused n i → Puts (refusal n i) o 0 o₁ a → Puts (tableText t) o 0 o₁ a
     unfolding tableText
-    table-refused {n} {i} e p = let k : numberOf t room room ≡ numbered.Refused n i = sym answer-room ∙ e in rw k p
+    table-refused {n} {i} e p = let k : numberOf t listingRoom listingRoom ≡ numbered.Refused n i = sym answer-room ∙ e in rw k p

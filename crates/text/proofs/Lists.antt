@@ -15,36 +15,37 @@ use Rattle.theory.specs.Number.{levelCount}
 use Rattle.theory.specs.Rows.{Row}
 use Rattle.flow.specs.declared.Match.{Match}
 use Rattle.action.specs.declared.Action.{Action}
-use Rattle.row.specs.Row.{rowLength}
-use Rattle.table.specs.Table.{rowCount, rowsIn}
+use Rattle.row.specs.Row.{rowLength, rowsIn}
+use Rattle.table.specs.Table.{rowCount}
 use Rattle.table.proofs.Tables.{check-exactly, length-rows}
-use Rattle.compile.specs.Compile.{answerOf, tableAfter}
-use Rattle.compile.specs.Theorems.{tableRows}
+use Rattle.compile.specs.Compile.{answerOf, tableAfter, tableRows}
 use Rattle.compile.specs.declared.Compiled.{Compiled}
 use Rattle.compile.specs.declared.Compiled.the-variants.{Rows, Refused}
 use Rattle.compile.proofs.Answered.{answers-rows}
 use Rattle.priority.specs.Numbering.{levelsOf, prioritiesOf, numberOf}
 use Rattle.priority.specs.declared.Numbered.the-variants.{Priorities}
 use Rattle.priority.proofs.Whole.{priorities-many}
-use Rattle.line.specs.Text.{line, head}
+use Rattle.line.specs.Text.{line, head, longestLine}
 use Rattle.line.specs.Puts.{stop, Puts}
-use Rattle.text.specs.Listing.{wrongInput, room, longestInput, rightInput, lines, blank, tableText, fileText, listingOf, ListsWhole}
-use Rattle.line.specs.Theorems.{longestLine}
-use Rattle.text.specs.Theorems.{longestListing, rowsText, ListsRows, ListsRefused, RefusedInput, NeverCut, WrittenWhole, KnownByFirst}
+use Rattle.text.specs.Listing.{wrongInput, listingRoom, longestInput, rightInput, lines, blank, tableText, fileText, listingOf, ListsWhole}
+use Rattle.text.specs.Listing.{longestListing, rowsText}
+use Rattle.text.specs.Theorems.{ListsRows, ListsRefused, RefusedInput, NeverCut, WrittenWhole, KnownByFirst}
 use Rattle.line.proofs.Lengths.{line-within, head-within, refusal-within}
 use Rattle.text.proofs.Right.{table-right}
 
 -- the rows of a file, where the compile answers rows
 module _ (f : List ℕ) (n : ℕ) (e : answerOf f blank blank ≡ Rows n) where
-  few : n ≤ room
-  few = let k : length blank ≡ rowLength * room = length-replicate {A = ℕ} (rowLength * room) 0 in omega (arith, answers-rows f blank blank n e .fits)
+  few : n ≤ listingRoom
+  few = let k : length blank ≡ rowLength * listingRoom = length-replicate {A = ℕ} (rowLength * listingRoom) 0 in omega
+      (arith, answers-rows f blank blank n e .fits)
 
   many : n ≡ rowCount (tableRows n (tableAfter f blank blank))
   many = check-exactly (tableRows n (tableAfter f blank blank)) n .0 (table-right f blank blank n e) .1
 
-  numbers : numberOf (tableRows n (tableAfter f blank blank)) room room ≡ Priorities (levelCount (levelsOf (tableRows n (tableAfter f blank blank))))
+  numbers : numberOf (tableRows n (tableAfter f blank blank)) listingRoom listingRoom
+      ≡ Priorities (levelCount (levelsOf (tableRows n (tableAfter f blank blank))))
   unfolding numberOf
-  numbers = rw (table-right f blank blank n e, le-leb n room few)
+  numbers = rw (table-right f blank blank n e, le-leb n listingRoom few)
 
 pub lists-rows : ListsRows
 unfolding fileText tableText

@@ -8,18 +8,17 @@ use Rattle.theory.specs.Rows.{Row}
 use Rattle.flow.specs.declared.Match.{Match}
 use Rattle.action.specs.declared.Action.{Action}
 use Rattle.row.specs.Row.{mostRows}
-use Rattle.table.specs.Table.{rowCount}
-use Rattle.table.specs.Theorems.{RightTable}
+use Rattle.table.specs.Table.{rowCount, RightTable}
 use Rattle.table.proofs.Tables.{check-exactly, table-words}
-use Rattle.compile.specs.Compile.{compiledRows, tableAfter}
-use Rattle.compile.specs.Theorems.{tableRows, Answered}
+use Rattle.compile.specs.Compile.{compiledRows, tableAfter, tableRows}
+use Rattle.compile.specs.Theorems.{AnswerTells}
 use Rattle.compile.proofs.Answered.{answers-rows}
 use Rattle.compile.proofs.Settling.{words-count}
 use Rattle.text.specs.Theorems.{TableRight}
 
 pub table-right : TableRight
 table-right f t s n q =
-    let k : Answered f t s n = answers-rows f t s n q in
+    let k : AnswerTells f t s n = answers-rows f t s n q in
     let N : List (Row Match Action) = compiledRows f (k .layout) in
     let few : length N ≤ mostRows = omega (arith, k .count, k .fits) in
     let table : RightTable (tableRows n (tableAfter f t s)) = subst RightTable (sym (k .stands)) (table-words N (k .right) few) in

@@ -7,8 +7,7 @@ use mathlib.Core.List.{List, _++_}
 use lib.ListN.{length, getD, take, drop, drop-of-length-le}
 use lib.Seq.{drop-cons}
 use Rattle.words.proofs.Records.{rows-at}
-use Rattle.row.specs.Row.{rowLength, rowOf}
-use Rattle.table.specs.Table.{rowsIn}
+use Rattle.row.specs.Row.{rowLength, rowOf, rowsIn}
 use Rattle.line.specs.Text.{line}
 use Rattle.line.specs.Puts.{Puts}
 use Rattle.line.proofs.Putting.{Ahead, ahead-start, ahead-step, ahead-end}

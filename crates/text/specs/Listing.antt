@@ -1,15 +1,18 @@
 -- The listing: for every input, however broken, the one text that answers it. See docs/FORMAT.md, "The listing".
 --
 --   wrongInput          the number of an input that is no file
---   room                the rows that the listing has room for
+--   listingRoom                the rows that the listing has room for
 --   longestInput        the bytes of the longest file
 --   rightInput b        whole words, and not more than the longest file has
 --   lines ps rs         rows, each with its priority
 --   tableText t         the listing of a table
 --   fileText f          the listing of a policy file
 --   listingOf b         the listing of an input
+--   longestListing      no listing has more bytes
+--   rowsText n t        the listing of a table t of n rows: the head, and a line for each row
+--   ListedRows f n t    the listing of the file f is that, and t has n rows and n priorities
 --   ListsWhole a n l m r   m is l with the listing at its start, up to r: whole, of every input that was read into a
-use Prim.Native.Nat.{ℕ, _*_, _%_, _≤_}
+use Prim.Native.Nat.{ℕ, _+_, _*_, _%_, _≤_}
 use mathlib.Core.Path.{_≡_}
 use mathlib.Core.Bool.{Bool, cond, _&&_}
 use mathlib.Core.List.{List, [], _∷_, _++_}
@@ -19,17 +22,17 @@ use Rattle.theory.specs.Rows.{Row}
 use Rattle.flow.specs.declared.Match.{Match}
 use Rattle.action.specs.declared.Action.{Action}
 use Rattle.words.specs.Bytes.{wordBytes, wordsIn}
-use Rattle.row.specs.Row.{rowLength}
-use Rattle.table.specs.Table.{rowCount, rowsIn}
+use Rattle.row.specs.Row.{rowLength, rowsIn}
+use Rattle.table.specs.Table.{rowCount}
 use Rattle.policy.specs.Numbers.{longestFile}
-use Rattle.compile.specs.Compile.{answerOf, tableAfter}
-use Rattle.compile.specs.Theorems.{tableRows}
+use Rattle.compile.specs.Compile.{answerOf, tableAfter, tableRows}
 use Rattle.compile.specs.declared.Compiled.{Compiled}
 use Rattle.compile.specs.declared.Compiled.the-variants as compiled
-use Rattle.priority.specs.Numbering.{numberOf, prioritiesOf}
+use Rattle.theory.specs.Number.{levelCount}
+use Rattle.priority.specs.Numbering.{levelsOf, numberOf, prioritiesOf}
 use Rattle.priority.specs.declared.Numbered.{Numbered}
 use Rattle.priority.specs.declared.Numbered.the-variants as numbered
-use Rattle.line.specs.Text.{line, head, refusal}
+use Rattle.line.specs.Text.{longestLine, line, head, refusal}
 use Rattle.line.specs.Puts.{Puts}
 
 -- the number of an input that is not whole words, or too long
@@ -37,8 +40,8 @@ abbrev pub wrongInput : ℕ
 wrongInput = 18
 
 -- the rows that the listing has room for
-abbrev pub room : ℕ
-room = 1024
+abbrev pub listingRoom : ℕ
+listingRoom = 1024
 
 -- the bytes of the longest file
 abbrev pub longestInput : ℕ
@@ -50,7 +53,7 @@ rightInput b = eqb (length b % wordBytes) 0 && leb (length b) longestInput
 
 -- the table, and the scratch, before the compile
 abbrev pub blank : List ℕ
-blank = replicate (rowLength * room) 0
+blank = replicate (rowLength * listingRoom) 0
 
 -- rows in scan order, each with its priority
 abbrev pub lines : List ℕ → List (Row Match Action) → List ℕ
@@ -65,7 +68,7 @@ numberedText t (numbered.Refused n i) = refusal n i
 
 -- the listing of a table
 unfoldable pub tableText : List ℕ → List ℕ
-tableText t = numberedText t (numberOf t room room)
+tableText t = numberedText t (numberOf t listingRoom listingRoom)
 
 -- what is shown of a file, by what the compile answers and the table that it leaves
 abbrev pub compiledText : List ℕ → Compiled → List ℕ
@@ -86,3 +89,17 @@ pub record ListsWhole (array : List ℕ) (n : ℕ) (before after : List ℕ) (r 
   pub puts : Puts (listingOf (take n array)) before 0 after r
   pub within : r ≤ length after
   pub whole : (input : List ℕ) → take (length array) input ≡ take n array → take r after ≡ listingOf input
+
+-- no listing is longer than so many lines: the head, and one for each row
+abbrev pub longestListing : ℕ
+longestListing = longestLine * (listingRoom + 1)
+
+-- the head, and a line for each row with its priority
+abbrev pub rowsText : ℕ → List ℕ → List ℕ
+rowsText n t = head n (levelCount (levelsOf t)) ++ lines (prioritiesOf t) (rowsIn t)
+
+-- the text, and that no row and no priority is left over
+pub record ListedRows (f : List ℕ) (n : ℕ) (t : List ℕ) : Type 0 where
+  pub text : fileText f ≡ rowsText n t
+  pub rows : length (rowsIn t) ≡ n
+  pub priorities : length (prioritiesOf t) ≡ n

@@ -1,8 +1,5 @@
 -- What is proved of the listing. A law of the same name in proofs/ proves each statement: never-cut proves NeverCut.
 --
---   longestListing                no listing has more bytes
---   rowsText n t                  the listing of a table t of n rows: the head, and a line for each row
---   ListedRows f n t              the listing of the file f is that, and t has n rows and n priorities
 --   TableRight                    the rows that the compile leaves pass the table's check, with as many rows
 --   ListsRows                     where the compile answers rows, they are listed: the numbering refuses nothing
 --   ListsRefused                  where the compile refuses, its number and place are listed
@@ -20,33 +17,19 @@ use lib.ListN.{length, take}
 use Rattle.words.specs.Records.{flat}
 use Rattle.words.specs.Bytes.{bytesOf}
 use Rattle.theory.specs.Number.{levelCount}
-use Rattle.table.specs.Table.{rowsIn, checkOf}
+use Rattle.table.specs.Table.{checkOf}
 use Rattle.table.specs.declared.Checked.the-variants as checked
 use Rattle.action.specs.Operator.{sibling}
 use Rattle.policy.specs.Examples.{tenant, tenantWith, lone}
 use Rattle.policy.specs.declared.Refusal.{Refusal}
-use Rattle.compile.specs.Compile.{answerOf, tableAfter}
-use Rattle.compile.specs.Theorems.{tableRows}
+use Rattle.compile.specs.Compile.{answerOf, tableAfter, tableRows}
 use Rattle.compile.specs.declared.Compiled.the-variants.{Rows, Refused}
 use Rattle.priority.specs.Numbering.{levelsOf, prioritiesOf}
-use Rattle.line.specs.Text.{ascii, head, refusal}
+use Rattle.line.specs.Text.{ascii, head, refusal, longestLine}
 use Rattle.line.specs.Puts.{Puts}
-use Rattle.line.specs.Theorems.{longestLine}
-use Rattle.text.specs.Listing.{wrongInput, room, longestInput, rightInput, lines, blank, fileText, listingOf}
-
--- no listing is longer than so many lines: the head, and one for each row
-abbrev pub longestListing : ℕ
-longestListing = longestLine * (room + 1)
-
--- the head, and a line for each row with its priority
-abbrev pub rowsText : ℕ → List ℕ → List ℕ
-rowsText n t = head n (levelCount (levelsOf t)) ++ lines (prioritiesOf t) (rowsIn t)
-
--- the text, and that no row and no priority is left over
-pub record ListedRows (f : List ℕ) (n : ℕ) (t : List ℕ) : Type 0 where
-  pub text : fileText f ≡ rowsText n t
-  pub rows : length (rowsIn t) ≡ n
-  pub priorities : length (prioritiesOf t) ≡ n
+use Rattle.text.specs.Listing.{wrongInput, listingRoom, longestInput, rightInput, lines, blank, fileText}
+use Rattle.text.specs.Listing.{listingOf, longestListing, ListedRows}
+use Rattle.row.specs.Row.{rowsIn}
 
 -- the rows that the compile leaves pass the table's check, with as many rows
 abbrev pub TableRight : Type 0
@@ -89,7 +72,11 @@ pub record Example : Type 0 where
 -- byte
 abbrev pub examples : List Example
 examples =
-    record { input = flat bytesOf tenant; text = "rows 3 priorities 3\n3 * 0.0.0.0/0 10.7.3.9/32 * * * gmb 40000\n2 * 0.0.0.0/0 10.7.0.0/16 * * * deny\n1 * 0.0.0.0/0 10.7.3.9/32 * * * gmb 40000\n" }
+    record {
+      input = flat bytesOf tenant;
+      text =
+          "rows 3 priorities 3\n3 * 0.0.0.0/0 10.7.3.9/32 * * * gmb 40000\n2 * 0.0.0.0/0 10.7.0.0/16 * * * deny\n1 * 0.0.0.0/0 10.7.3.9/32 * * * gmb 40000\n";
+    }
     ∷ record { input = flat bytesOf (tenantWith 1); text = "refused 10 1\n" }
     ∷ record { input = flat bytesOf (lone sibling); text = "rows 0 priorities 0\n" }
     ∷ record { input = []; text = "refused 1 0\n" }

@@ -2,9 +2,10 @@
 ghost use mathlib.Core.Path.{_≡_};
 ghost use Prim.Native.Nat.{_≤_};
 ghost use lib.ListN.{length, take};
-ghost use Rattle.table.specs.Table.{rowCount, rowsIn};
+ghost use Rattle.table.specs.Table.{rowCount};
 ghost use Rattle.line.specs.Puts.{Puts};
 ghost use Rattle.text.specs.Listing.{rightInput, lines, tableText, fileText, listingOf, ListsWhole};
+ghost use Rattle.row.specs.Row.{rowsIn};
 use compile::Compiled;
 use compile::compile;
 use line::put_head;

@@ -7,8 +7,8 @@ use mathlib.Core.List.{List}
 use lib.ListN.{getD, length}
 use Rattle.logic.proofs.Tests.{by-test, by-le}
 use Rattle.theory.specs.Rows.{Row, matchesAt}
-use Rattle.theory.specs.Number.{FirstPlace, rowsOverlap, levels, priorities, Right}
-use Rattle.theory.specs.Theorems.{Overlapping, Obeyed, SwitchScan, SwitchPriorities, SwitchFirst}
+use Rattle.theory.specs.Number.{FirstPlace, rowsOverlap, levels, priorities, Right, Obeyed}
+use Rattle.theory.specs.Theorems.{Overlapping, SwitchScan, SwitchPriorities, SwitchFirst}
 use Rattle.theory.proofs.Places.{scan-place}
 use Rattle.theory.proofs.Levels.{priorities-right}
 

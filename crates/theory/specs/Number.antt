@@ -16,14 +16,15 @@
 --   chain             the chain that forces L priorities
 --   Chained           what makes a chain right
 --   Right             what makes a numbering right
+--   Obeyed            a switch with such numbers may obey a row
 --   has, distinct     whether a list has a number, and its distinct numbers
-use Prim.Native.Nat.{ℕ, zero, suc, _-_, _<_, max}
+use Prim.Native.Nat.{ℕ, zero, suc, _-_, _≤_, _<_, max}
 use mathlib.Core.Path.{_≡_}
 use mathlib.Core.Bool.{Bool, true, false, cond, _&&_}
 use mathlib.Core.List.{List, [], _∷_, _++_, map}
 use lib.ListN.{getD, length}
 use lib.Dec.{eqb}
-use Rattle.theory.specs.Rows.{Row}
+use Rattle.theory.specs.Rows.{Row, matchesAt}
 
 -- Whether the rows at two places of a table overlap; d stands for a row past the last.
 abbrev pub rowsOverlap : {M A : Type 0} → (M → M → Bool) → Row M A → List (Row M A) → ℕ → ℕ → Bool
@@ -116,3 +117,10 @@ has y (x ∷ xs) = cond (eqb y x) true (has y xs)
 abbrev pub distinct : List ℕ → List ℕ
 distinct [] = []
 distinct (x ∷ xs) = cond (has x xs) (distinct xs) (x ∷ distinct xs)
+
+-- A switch with the numbers q may obey row i: it matches, and no matching row has a higher number.
+pub record Obeyed {M P A : Type 0} (meets : M → P → Bool) (d : Row M A) (N : List (Row M A)) (q : ℕ → ℕ) (p : P)
+    (i : ℕ) : Type 0 where
+  pub within : i < length N
+  pub matches : matchesAt meets d N p i ≡ true
+  pub highest : (j : ℕ) → j < length N → matchesAt meets d N p j ≡ true → q j ≤ q i

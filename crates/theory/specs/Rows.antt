@@ -6,7 +6,6 @@
 --   place          the first matching row's place, or the number of rows
 --   tried          how many rows the scan tries
 --   matchesAt      whether the row at a place matches
---   EveryRow       every row of a table has a property
 --   kept           an atom's table
 --   commonRow      a row of N and a row of N′ as one
 --   commonWith     the common rows of one row and a table
@@ -42,11 +41,6 @@ module _ {M P A : Type 0} (meets : M → P → Bool) where
 -- Whether the row at place i of a table matches; d stands for a row past the last.
 abbrev pub matchesAt : {M P A : Type 0} → (M → P → Bool) → Row M A → List (Row M A) → P → ℕ → Bool
 matchesAt meets d N p i = meets (getD N i d .match) p
-
--- Every row of a table has the property T.
-abbrev pub EveryRow : {M A : Type 0} → (Row M A → Type 0) → List (Row M A) → Type 0
-EveryRow T [] = Unit {0}
-EveryRow T (r ∷ N) = T r × EveryRow T N
 
 -- An atom's table: one row, or none if its match is empty.
 abbrev pub kept : {M A : Type 0} → (M → Bool) → Row M A → List (Row M A)

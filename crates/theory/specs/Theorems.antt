@@ -18,11 +18,12 @@ use mathlib.Core.Path.{_≡_}
 use mathlib.Core.Bool.{Bool, true, false, _&&_}
 use mathlib.Core.List.{List}
 use lib.ListN.{getD, length}
-use Rattle.theory.specs.Rows.{Row, scan, place, tried, matchesAt, EveryRow, commonRow, join}
-use Rattle.theory.specs.Tree.{Tree, node, bare, _▸_, Node, EveryAtom, own, eval, compile}
+use Rattle.logic.specs.Lists.{All}
+use Rattle.theory.specs.Rows.{Row, scan, place, tried, matchesAt, commonRow, join}
+use Rattle.theory.specs.Tree.{Tree, node, bare, _▸_, Node, EveryNode, GoodNode, own, eval, compile}
 use Rattle.theory.specs.Nodes.{Listed, plant, listTree, listTrees, ChildrenFound}
 use Rattle.theory.specs.Number.{rowsOverlap, FirstPlace, levels, levelCount, priorities, chain, Chained, Right}
-use Rattle.theory.specs.Number.{distinct}
+use Rattle.theory.specs.Number.{distinct, Obeyed}
 
 module _ {M P A O : Type 0} (meets : M → P → Bool) (dontCare : A) (joined : O → A → A → A) (common : M → M → M)
     (empty : M → Bool) where
@@ -59,12 +60,13 @@ module _ {M A : Type 0} (common : M → M → M) (empty : M → Bool) (op : A �
       (suc rows ≤ suc (length N) * suc (length N′)) × (length N + length N′ ≤ rows)
 
 module _ {M A O : Type 0} (joined : O → A → A → A) (common : M → M → M) (empty : M → Bool) where
-  -- A property that every atom has and common rows keep, every compiled row has; and no compiled row has the empty
-  -- match.
+  -- A property that every atom has, and that common rows keep under operators such as the nodes', every compiled row
+  -- has; and no compiled row has the empty match.
   abbrev pub CompileEvery : Type 1
-  CompileEvery = (T : Row M A → Type 0) → ((o : O) (r s : Row M A) → T r → T s → T (commonRow common (joined o) r s))
-      → (t : Tree (Node O M A)) → EveryAtom T t
-      → EveryRow (λ r. T r × (empty (r .match) ≡ false)) (compile common empty joined t)
+  CompileEvery = (K : O → Type 0) (T : Row M A → Type 0)
+      → ((o : O) (r s : Row M A) → K o → T r → T s → T (commonRow common (joined o) r s))
+      → (t : Tree (Node O M A)) → EveryNode (GoodNode K T) t
+      → All (λ r. T r × (empty (r .match) ≡ false)) (compile common empty joined t)
 
 module _ (X : Type 0) where
   -- Where every node finds its children, the list of the planted trees is the nodes.
@@ -112,13 +114,6 @@ module _ (over : ℕ → ℕ → Bool) (n : ℕ) where
 -- Where a packet meets two matches, they overlap.
 abbrev pub Overlapping : {M P : Type 0} → (M → P → Bool) → (M → M → Bool) → Type 0
 Overlapping {M} {P} meets overlap = (m n : M) (p : P) → meets m p ≡ true → meets n p ≡ true → overlap m n ≡ true
-
--- A switch with the numbers q may obey row i: it matches, and no matching row has a higher number.
-pub record Obeyed {M P A : Type 0} (meets : M → P → Bool) (d : Row M A) (N : List (Row M A)) (q : ℕ → ℕ) (p : P)
-    (i : ℕ) : Type 0 where
-  pub within : i < length N
-  pub matches : matchesAt meets d N p i ≡ true
-  pub highest : (j : ℕ) → j < length N → matchesAt meets d N p j ≡ true → q j ≤ q i
 
 module _ {M P A : Type 0} (meets : M → P → Bool) (dontCare : A) (overlap : M → M → Bool) where
   -- Under a right numbering, whatever row a switch obeys has the scan's action.

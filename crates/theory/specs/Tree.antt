@@ -3,14 +3,16 @@
 --
 --   Tree X, Forest X     a tree whose nodes each hold an X, and trees in order: node, bare, _▸_
 --   Node O M A           what a node of a policy holds: its operators and its atoms
---   EveryAtom            every atom of a tree has a property; EveryAtoms of a forest
+--   EveryNode            what every node of a tree holds has a property; EveryNodes of a forest
+--   GoodNode             a node's operators have one property, and its atoms another
 --   own                  a node's own action on a packet
 --   eval, evals          the action of a tree, and of children under a sibling operator
 --   table                a node's own table
 --   compile, compiles    the table of a tree, and of children under a sibling operator
 use mathlib.Core.Bool.{Bool, cond}
 use mathlib.Core.List.{List, [], _∷_}
-use Rattle.theory.specs.Rows.{Row, EveryRow, kept, join}
+use Rattle.logic.specs.Lists.{All}
+use Rattle.theory.specs.Rows.{Row, kept, join}
 
 infixr 67 _▸_
 -- A tree is what its root holds and its children in order, a forest no tree or one before others. Figure 1: T = (+P) ×
@@ -30,16 +32,23 @@ pub record Node (O M A : Type 0) : Type 0 where
   pub sibling : O
   pub atoms : List (Row M A)
 
-module _ {O M A : Type 0} (T : Row M A → Type 0) where
+module _ {X : Type 0} (Q : X → Type 0) where
   abbrev mutual
-    -- Every atom of a tree has the property T.
-    pub EveryAtom : Tree (Node O M A) → Type 0
-    EveryAtom (node n ts) = EveryRow T (n .atoms) × EveryAtoms ts
+    -- What every node of a tree holds has the property Q.
+    pub EveryNode : Tree X → Type 0
+    EveryNode (node x ts) = Q x × EveryNodes ts
 
     -- The same of every tree of a forest.
-    pub EveryAtoms : Forest (Node O M A) → Type 0
-    EveryAtoms bare = Unit {0}
-    EveryAtoms (t ▸ ts) = EveryAtom t × EveryAtoms ts
+    pub EveryNodes : Forest X → Type 0
+    EveryNodes bare = Unit {0}
+    EveryNodes (t ▸ ts) = EveryNode t × EveryNodes ts
+
+-- The operators of a node have the property K, and its atoms the property T.
+pub record GoodNode {O M A : Type 0} (K : O → Type 0) (T : Row M A → Type 0) (n : Node O M A) : Type 0 where
+  pub inner : K (n .inner)
+  pub parent : K (n .parent)
+  pub sibling : K (n .sibling)
+  pub atoms : All T (n .atoms)
 
 module _ {M P A O : Type 0} (meets : M → P → Bool) (dontCare : A) (joined : O → A → A → A) where
   -- The matching atoms' actions, each one counted, folded from the last, don't care at the end. Figure 1: cmb = A′₁ +

@@ -27,7 +27,7 @@ loop-holds c =
     (c .first-of-level .ensures)
 
 put-place-requires : tie.Need-put-place-requires Inv-loop μ-loop
-put-place-requires c κs = (c .before .before .loop .inv .room, omega (arith, c .before .before .loop .inv .row))
+put-place-requires c κs = (c .before .before .loop .inv .within, omega (arith, c .before .before .loop .inv .row))
 
 step-back-requires : tie.Need-step-back-requires Inv-loop μ-loop
 step-back-requires c κs =
@@ -41,7 +41,7 @@ loop-again c =
     linking-turn _ _ _ _ _ _ _ _ _ (turn .inv) (loop-test .taken) (c .before .before .before .put-place .ensures) (c .step-back .ensures)
 
 put-place-requires-2 : tie.Need-put-place-requires-2 Inv-loop μ-loop
-put-place-requires-2 c κs = (omega (arith, c .before .before .loop .inv .room), omega (arith, c .before .before .loop .inv .row))
+put-place-requires-2 c κs = (omega (arith, c .before .before .loop .inv .within), omega (arith, c .before .before .loop .inv .row))
 
 same-length : tie.Need-same-length Inv-loop μ-loop
 same-length c =

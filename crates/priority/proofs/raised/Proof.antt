@@ -4,10 +4,11 @@ use borrow.Author.Needs.{needs}
 use denote.Ref.{now}
 use lib.ListN.{getD}
 use Rattle.flow.specs.Match.{overlap}
-use Rattle.table.specs.Table.{rowsIn, past}
+use Rattle.table.specs.Table.{past}
 use Rattle.priority.proofs.Back.{raised-low, raised-over, raised-not}
 use Rattle.priority.proofs.raised.Statement.{statement}
 use Rattle.priority.proofs.raised.Tie as tie
+use Rattle.row.specs.Row.{rowsIn}
 
 returns : tie.Need-returns
 returns c =

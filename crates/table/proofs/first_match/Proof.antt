@@ -7,8 +7,7 @@ use mathlib.Core.Path.{_≡_}
 use mathlib.Core.List.{map}
 use lib.ListN.{length}
 use denote.Ref.{now}
-use Rattle.row.specs.Row.{rowLength, rowOf}
-use Rattle.table.specs.Table.{rowsIn}
+use Rattle.row.specs.Row.{rowLength, rowOf, rowsIn}
 use Rattle.table.specs.Scan.{found}
 use Rattle.table.proofs.Turns.{left, scan-start, match-found, match-later, match-none}
 use Rattle.table.proofs.first_match.Statement.{statement}

@@ -8,13 +8,13 @@ use borrow.Author.Needs.{needs}
 use mathlib.Core.List.{List}
 use denote.Ref.{now}
 use lib.ListN.{replicate}
-use Rattle.text.specs.Listing.{room}
+use Rattle.text.specs.Listing.{listingRoom}
 use Rattle.text.proofs.list_table.Statement.{statement}
 use Rattle.text.proofs.list_table.Tie as tie
 
 -- both buffers before the numbering
 abbrev none : List ℕ
-none = replicate room 0
+none = replicate listingRoom 0
 
 array-share-prefix-priorities : tie.Need-array-share-prefix-priorities
 array-share-prefix-priorities c =
