@@ -7,6 +7,7 @@ use lib.Dec.{eqb, leb}
 use lib.ListN.{getD, length, take, drop, length-map, take-append-drop, drop-of-length-le}
 use lib.Seq.{drop-drop}
 use borrow.Author.Tests.{leb-true, le-leb, eqb-true, eq-eqb}
+use Rattle.logic.specs.Lists.{All}
 use Rattle.words.proofs.Records.{length-records}
 use Rattle.theory.specs.Rows.{Row}
 use Rattle.theory.specs.Nodes.{plant}
@@ -45,8 +46,7 @@ pub record Stages (e : Edition) (f : List ℕ) (a b c : ℕ) : Type 0 where
 
 -- all of some stages are passed
 abbrev pub AllPassed : List Test → Type 0
-AllPassed [] = Unit {0}
-AllPassed (t ∷ ts) = (t ≡ Passed) × AllPassed ts
+AllPassed ts = All (λ t. t ≡ Passed) ts
 
 -- an answer accepts exactly when all stages are passed
 all-passed : (ts : List Test) (l m : Layout) → answer ts l ≡ Accepted m → AllPassed ts × (l ≡ m)

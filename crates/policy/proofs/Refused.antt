@@ -7,6 +7,7 @@ use mathlib.Core.List.{List, [], _∷_, _++_, map}
 use mathlib.Core.Logic.{_⊎_, inl, inr, ⊎-elim}
 use lib.Dec.{eqb, leb, ltb}
 use lib.ListN.{getD, length, drop}
+use Rattle.logic.specs.Lists.{All}
 use Rattle.words.proofs.Records.{length-records}
 use Rattle.words.specs.Records.{records}
 use Rattle.action.specs.Laws.{lawSearch, Shows}
@@ -110,13 +111,9 @@ shape-plain (k ∷ ks) st i =
     go false p = failed-plain noTree i (omega arith) (omega arith)
 
 -- of stages with plain refusals and one more, the answer is plain, or all but the last are passed
-AllPlain : List Test → Type 0
-AllPlain [] = Unit {0}
-AllPlain (t ∷ ts) = Plain t × AllPlain ts
-
-first-refusal : (ts : List Test) (u : Test) (l : Layout) (r : Refusal) → AllPlain ts → answer (ts ++ (u ∷ [])) l ≡ Refused r
+first-refusal : (ts : List Test) (u : Test) (l : Layout) (r : Refusal) → All Plain ts → answer (ts ++ (u ∷ [])) l ≡ Refused r
     → PlainRefusal r ⊎ (AllPassed ts × (u ≡ Failed r))
-unfolding answer AllPlain
+unfolding answer
 first-refusal [] Passed l r p e = let z : _≡_ {A = ℕ} 0 1 = cc in absurd (omega arith)
 first-refusal [] (Failed s) l r p e = inr (tt, cc)
 first-refusal (Passed ∷ ts) u l r p e = ⊎-elim (λ h. inl h) (λ h. inr ((refl, h .0), h .1)) (first-refusal ts u l r (p .1) e)
@@ -135,8 +132,8 @@ module _ (e : Edition) (f : List ℕ) (a b c : ℕ) where
       ∷ sumFault (nodesIn e f a b c) b
       ∷ []
 
-  before-plain : AllPlain before
-  unfolding before AllPlain shapeFault sumFault
+  before-plain : All Plain before
+  unfolding before shapeFault sumFault
   before-plain = (
     header-plain e f,
     (

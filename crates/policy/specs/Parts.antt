@@ -13,6 +13,7 @@ use mathlib.Core.Path.{_≡_}
 use mathlib.Core.Bool.{true}
 use mathlib.Core.List.{List, [], _∷_, _++_, map}
 use lib.ListN.{getD, length}
+use Rattle.logic.specs.Lists.{All}
 use Rattle.words.specs.Records.{flat}
 use Rattle.row.specs.Row.{rowOf}
 use Rattle.policy.specs.Numbers.{headerOf, operatorLengthIn, atomLengthIn, nodeLength}
@@ -57,8 +58,7 @@ layoutOfParts P = layout (length (P .operators)) (length (P .atoms)) (length (P 
 
 -- each record has k words
 abbrev pub EachLong : ℕ → List (List ℕ) → Type 0
-EachLong k [] = Unit {0}
-EachLong k (r ∷ rs) = (length r ≡ k) × EachLong k rs
+EachLong k rs = All (λ r. length r ≡ k) rs
 
 -- right parts, but for the laws
 pub record RightPartsIn (e : Edition) (P : Parts) : Type 0 where
