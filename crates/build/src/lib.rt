@@ -10,9 +10,9 @@ use nodes::Spot;
 use nodes::atoms_at;
 use nodes::node_at;
 use nodes::operator_at;
-use policy::ATOM_WORDS;
 use rows::join;
 use rows::own_rows;
+use section::ATOM_WORDS;
 
 // A table that was built: the place past its end, and the place of the nodes behind its own.
 pub struct Part {

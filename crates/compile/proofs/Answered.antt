@@ -20,13 +20,15 @@ use Rattle.action.specs.Action.{inRange}
 use Rattle.action.specs.Operator as operator
 use Rattle.action.specs.declared.Action.{Action}
 use Rattle.row.specs.Row.{rowLength, rowOf, rightRowMatch, RightRow, wordsOf, InRange}
-use Rattle.policy.specs.Numbers.{atomLength, nodeLength}
-use Rattle.policy.specs.Read.{plain, readOf, ownOf, nodesAt, operatorRecords, atomRecords, nodeRecords}
+use Rattle.section.specs.Numbers.{atomLength, nodeLength}
+use Rattle.refusal.specs.Plain.{plain}
+use Rattle.policy.specs.Read.{readOf, nodesAt, operatorRecords, atomRecords, nodeRecords}
+use Rattle.section.specs.Sections.{ownOf}
 use Rattle.policy.specs.Read as read
 use Rattle.policy.specs.File.{operatorAt, held, treeOf, atomsOf}
-use Rattle.policy.specs.WellFormed.{RightNode}
+use Rattle.section.specs.Due.{RightNode}
 use Rattle.policy.specs.declared.Layout.{Layout}
-use Rattle.policy.specs.declared.Refusal.{Refusal}
+use Rattle.refusal.specs.declared.Refusal.{Refusal}
 use Rattle.policy.specs.declared.Reading.{Reading}
 use Rattle.policy.specs.declared.Reading.the-variants as reading
 use Rattle.policy.proofs.Accepted.{accepted-exactly, accepted-tree}

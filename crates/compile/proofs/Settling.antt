@@ -18,12 +18,13 @@ use Rattle.action.specs.declared.Action.{Action}
 use Rattle.action.proofs.Words.{right-words}
 use Rattle.row.specs.Row.{rowLength, rowOf, rowWords, rightRowAction, wordsOf}
 use Rattle.row.proofs.Rows.{row-back, row-long}
-use Rattle.policy.specs.Read.{plain, readOf}
+use Rattle.refusal.specs.Plain.{plain}
+use Rattle.policy.specs.Read.{readOf}
 use Rattle.policy.specs.File.{PolicyTree}
 use Rattle.policy.specs.declared.Layout.{Layout}
 use Rattle.policy.specs.declared.Reading.{Reading}
 use Rattle.policy.specs.declared.Reading.the-variants as reading
-use Rattle.policy.specs.declared.Refusal.{Refusal}
+use Rattle.refusal.specs.declared.Refusal.{Refusal}
 use Rattle.nodes.specs.Nodes.{rootSpot}
 use Rattle.nodes.specs.declared.Spot.{Spot}
 use Rattle.nodes.proofs.Walk.{root-tree}

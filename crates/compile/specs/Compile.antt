@@ -20,12 +20,13 @@ use Rattle.action.specs.Action.{inRange}
 use Rattle.action.specs.declared.Action.{Action}
 use Rattle.words.specs.Records.{rowsOf}
 use Rattle.row.specs.Row.{rowLength, mostRows, rightRowAction, wordsOf}
-use Rattle.policy.specs.Read.{plain, readOf}
+use Rattle.refusal.specs.Plain.{plain}
+use Rattle.policy.specs.Read.{readOf}
 use Rattle.policy.specs.File.{treeOf}
 use Rattle.policy.specs.declared.Layout.{Layout}
 use Rattle.policy.specs.declared.Reading.{Reading}
 use Rattle.policy.specs.declared.Reading.the-variants as reading
-use Rattle.policy.specs.declared.Refusal.{Refusal}
+use Rattle.refusal.specs.declared.Refusal.{Refusal}
 use Rattle.build.specs.Build.{compileTree}
 use Rattle.compile.specs.declared.Compiled.{Compiled}
 use Rattle.compile.specs.declared.Compiled.the-variants.{Rows, Refused}

@@ -14,7 +14,8 @@ use Rattle.flow.specs.declared.Match.{Match}
 use Rattle.action.specs.Action.{inRange}
 use Rattle.action.specs.declared.Action.{Action}
 use Rattle.row.specs.Row.{rowLength, RightRow, wordsOf, InRange}
-use Rattle.policy.specs.Read.{plain, readOf}
+use Rattle.refusal.specs.Plain.{plain}
+use Rattle.policy.specs.Read.{readOf}
 use Rattle.policy.specs.declared.Layout.{Layout}
 use Rattle.policy.specs.declared.Reading.the-variants.{Accepted}
 use Rattle.compile.specs.Compile.{noRoom, room, compiledRows, zeros, answerOf, tableAfter, scratchAfter}

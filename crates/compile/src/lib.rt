@@ -2,19 +2,19 @@
 // be.
 ghost use mathlib.Core.Path.{_≡_};
 ghost use lib.ListN.{length};
-ghost use Rattle.policy.specs.Read.{readOf, plain};
+ghost use Rattle.policy.specs.Read.{readOf};
+ghost use Rattle.refusal.specs.Plain.{plain};
 ghost use Rattle.policy.specs.declared.Reading.the-variants.{Accepted};
 ghost use Rattle.build.specs.Build.{Within};
 ghost use Rattle.compile.specs.Compile.{room, fineWords, Compiles, AcceptedCompiles, Settles};
-use action::Action;
-use action::Law;
 use build::Built;
 use build::subtree;
 use nodes::root;
 use policy::Layout;
 use policy::Reading;
-use policy::Refusal;
 use policy::read;
+use refusal::Refusal;
+use refusal::plain;
 use row::MOST_ROWS;
 use row::ROW_WORDS;
 use row::right_row_action;
@@ -114,12 +114,5 @@ fn room_of(words: usize) -> usize
 fn refused(number: u32) -> Compiled
     ensures { λ r. ⌜ r ≡ Compiled.Refused (plain number 0) ⌝ }
 {
-    Compiled::Refused(Refusal {
-        number,
-        place: 0,
-        law: Law::Unnamed,
-        first: Action::DONT_CARE,
-        second: Action::DONT_CARE,
-        third: Action::DONT_CARE,
-    })
+    Compiled::Refused(plain(number, 0))
 }

@@ -4,12 +4,12 @@
 use compile::Compiled;
 use compile::compile;
 use libc::STDOUT_FILENO;
-use policy::ATOM_WORDS;
-use policy::FIRST_OPERATOR;
-use policy::NODE_WORDS;
-use policy::OPERATOR_WORDS;
 use row::MOST_ROWS;
 use row::ROW_WORDS;
+use section::ATOM_WORDS;
+use section::FIRST_OPERATOR;
+use section::NODE_WORDS;
+use section::OPERATOR_WORDS;
 use words::copy;
 
 // The words before the first atom: the operator count, an operator and the atom count.

@@ -15,11 +15,13 @@ use Rattle.row.specs.Row.{rowLength, rowOf}
 use Rattle.flow.specs.declared.Match.{Match}
 use Rattle.action.specs.declared.Action.{Action}
 use Rattle.action.proofs.Cells.{cells-equal}
-use Rattle.policy.specs.Numbers.{firstOperator, operatorLength, atomLength, nodeLength}
-use Rattle.policy.specs.Read.{innerOf, parentOf, siblingOf, ownOf, childrenOf, ownAtoms, nodesAt, endOf, operatorRecords}
+use Rattle.section.specs.Numbers.{firstOperator, operatorLength, atomLength, nodeLength}
+use Rattle.section.specs.Sections.{innerOf, parentOf, siblingOf, ownOf, childrenOf}
+use Rattle.policy.specs.Read.{ownAtoms, nodesAt, endOf, operatorRecords}
 use Rattle.policy.specs.Read as read
 use Rattle.policy.specs.File.{PolicyNode, operatorAt, nodeOf, held, atomsOf}
-use Rattle.policy.specs.WellFormed.{RightNode, Otherwise}
+use Rattle.section.specs.Due.{RightNode}
+use Rattle.policy.specs.WellFormed.{Otherwise}
 use Rattle.policy.proofs.Accepted.{accepted-exactly}
 use Rattle.logic.proofs.Tests.{by-le}
 use Rattle.nodes.specs.Nodes.{nodePlace, nodeAt, fromOperator, cellsAt, atomsAt}

@@ -9,7 +9,7 @@ use lib.ListN.{getD, drop, drop-of-length-le}
 use borrow.Author.Tests.{eqb-true, eqb-false, le-ltb}
 use Rattle.theory.specs.Tree.{Tree, Forest, node, bare, _▸_}
 use Rattle.theory.specs.Nodes.{takeTrees, dropTrees, plant}
-use Rattle.policy.specs.Numbers.{mostOperators}
+use Rattle.section.specs.Numbers.{mostOperators}
 use Rattle.policy.specs.Read.{nodesAt, readOf}
 use Rattle.policy.specs.Read as read
 use Rattle.policy.specs.File.{PolicyNode, firstTree, treeOf}

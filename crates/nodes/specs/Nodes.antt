@@ -11,7 +11,7 @@ use mathlib.Core.List.{List, []}
 use lib.Dec.{leb, ltb}
 use lib.ListN.{getD, length, take, drop}
 use Rattle.action.specs.Operator.{cellsOf}
-use Rattle.policy.specs.Numbers.{firstOperator, operatorLength, atomLength, nodeLength, mostOperators}
+use Rattle.section.specs.Numbers.{firstOperator, operatorLength, atomLength, nodeLength, mostOperators}
 use Rattle.policy.specs.Read as read
 use Rattle.policy.specs.declared.Layout.{Layout}
 use Rattle.nodes.specs.declared.NodeWords.{NodeWords}

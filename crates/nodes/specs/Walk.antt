@@ -17,7 +17,7 @@ use mathlib.Core.List.{List}
 use lib.ListN.{getD, take, drop}
 use Rattle.theory.specs.Tree.{Forest}
 use Rattle.theory.specs.Nodes.{Listed, takeTrees, dropTrees, plant}
-use Rattle.policy.specs.Numbers.{headerLength, atomLength}
+use Rattle.section.specs.Numbers.{headerLength, atomLength}
 use Rattle.policy.specs.Read.{ownAtoms, nodesAt, nodeRecords, layout, readOf}
 use Rattle.policy.specs.Read as read
 use Rattle.policy.specs.File.{PolicyNode, PolicyTree, fileNodes, firstTree}

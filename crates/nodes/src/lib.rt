@@ -7,17 +7,17 @@ ghost use Rattle.nodes.specs.Nodes.{nodePlace, nodeAt, fromOperator, cel
 use action::Action;
 use action::Operator;
 use action::operator_of;
-use policy::ATOM_WORDS;
-use policy::CHILDREN;
-use policy::FIRST_OPERATOR;
-use policy::INNER;
 use policy::Layout;
-use policy::MOST_OPERATORS;
-use policy::NODE_WORDS;
-use policy::OPERATOR_WORDS;
-use policy::OWN;
-use policy::PARENT;
-use policy::SIBLING;
+use section::ATOM_WORDS;
+use section::CHILDREN;
+use section::FIRST_OPERATOR;
+use section::INNER;
+use section::MOST_OPERATORS;
+use section::NODE_WORDS;
+use section::OPERATOR_WORDS;
+use section::OWN;
+use section::PARENT;
+use section::SIBLING;
 use words::word;
 
 // A place in the list of nodes: how many nodes are left from it on, and the word where the next node's atoms start.

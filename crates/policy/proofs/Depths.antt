@@ -8,10 +8,13 @@ use mathlib.Core.Logic.{_⊎_, inl, inr}
 use lib.Dec.{eqb, leb}
 use lib.ListN.{length, take}
 use borrow.Author.Tests.{leb-true, le-leb, ne-eqb}
-use Rattle.policy.specs.Numbers.{deepest, noTree}
-use Rattle.policy.specs.Read.{plain, unless, waitingNodes, oneLess, shape}
-use Rattle.policy.specs.Order.{FirstWrong, lacking, ended, nodesAbove, HasPlace}
-use Rattle.policy.specs.declared.Test.the-variants.{Failed}
+use Rattle.section.specs.Numbers.{deepest, noTree}
+use Rattle.refusal.specs.Plain.{plain}
+use Rattle.section.specs.Sections.{unless}
+use Rattle.policy.specs.Read.{waitingNodes, oneLess, shape}
+use Rattle.section.specs.Due.{FirstWrong}
+use Rattle.policy.specs.Order.{lacking, ended, nodesAbove, HasPlace}
+use Rattle.section.specs.declared.Test.the-variants.{Failed}
 use Rattle.logic.proofs.Tests.{by-test, by-le, and-left, and-right}
 
 -- how many nodes the entries of a stack lack together

@@ -1,12 +1,9 @@
-pub mod Editions
-pub mod Lengths
-pub mod Records
 pub mod Nodes
 pub mod Stack
 pub mod Turns
 pub mod Chain
 pub mod Trees
-pub mod Passed
+pub mod Named
 pub mod Accepted
 pub mod Refused
 pub mod Parts

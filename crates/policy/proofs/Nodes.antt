@@ -11,13 +11,14 @@ use Rattle.action.specs.Laws.{lawSearch}
 use Rattle.action.specs.declared.Lawful.{Lawful}
 use Rattle.words.specs.Records.{records}
 use Rattle.words.proofs.Records.{records-next, record-word}
-use Rattle.policy.specs.Read.{_else_, ownAtoms, names, named, broken, operatorFault, lawsFrom}
-use Rattle.policy.specs.Cells.{operatorRow, operatorRows}
-use Rattle.policy.specs.declared.Edition.{Edition}
-use Rattle.policy.specs.declared.Edition.the-variants.{First}
-use Rattle.policy.specs.declared.Refusal.{Refusal}
-use Rattle.policy.specs.declared.Test.{Test}
-use Rattle.policy.specs.declared.Test.the-variants.{Passed, Failed}
+use Rattle.section.specs.Sections.{_else_}
+use Rattle.policy.specs.Read.{ownAtoms, names, named, broken, operatorFault, lawsFrom}
+use Rattle.section.specs.Cells.{operatorRow, operatorRows}
+use Rattle.section.specs.declared.Edition.{Edition}
+use Rattle.section.specs.declared.Edition.the-variants.{First}
+use Rattle.refusal.specs.declared.Refusal.{Refusal}
+use Rattle.section.specs.declared.Test.{Test}
+use Rattle.section.specs.declared.Test.the-variants.{Passed, Failed}
 
 -- sums
 module _ (from left sum v : ℕ) (f : List ℕ) (inv : sum + ownAtoms (records left 5 (drop from f)) ≡ v) where

@@ -1,188 +1,40 @@
 -- The order of refusals 1 to 9: what is due is what the first stage that refuses finds, and to every file that is not well formed but for the laws
 -- something is. Assumes nothing.
-use Prim.Native.Nat.{ℕ, zero, suc, _+_, _*_, _<_}
+use Prim.Native.Nat.{ℕ, _+_, _<_}
 use native.Mathlib.Omega.{arith}
-use mathlib.Core.Path.{_≡_, refl, sym, ap, _∙_}
-use mathlib.Core.Bool.{Bool, true, false, _&&_, and-false}
+use mathlib.Core.Path.{_≡_, sym, ap, _∙_}
 use mathlib.Core.List.{List, [], _∷_}
 use mathlib.Core.Logic.{_⊎_, inl, inr, ⊎-elim}
-use lib.Dec.{eqb, leb, ltb}
+use lib.Dec.{eqb}
 use lib.ListN.{getD, length, drop, length-map}
-use borrow.Author.Tests.{lt-ltb, le-ltb, le-leb, lt-leb, eqb-true, eqb-false, ne-eqb}
-use Rattle.words.specs.Records.{records}
+use borrow.Author.Tests.{le-leb, lt-leb, eqb-true, eqb-false, ne-eqb}
 use Rattle.words.proofs.Records.{length-records}
 use Rattle.action.specs.Operator.{RightCodes}
-use Rattle.policy.specs.Numbers.{headerLengthIn, operatorLengthIn, nodeLength, mostAtoms, mostChildren, wrongCell, wrongNode, extraWords}
-use Rattle.policy.specs.Numbers.{noTree, wrongSum, lawBroken}
-use Rattle.policy.specs.Atom.{rightAtomMatch, rightAtomAction}
-use Rattle.policy.specs.Cells.{rightCellIn, operatorRows}
-use Rattle.policy.specs.Read.{plain, unless, each, recordLength, least, most, headerFault}
-use Rattle.policy.specs.Read.{countFault, cellsFrom, cellsFault, atomFault, nodeFault, recordFault, sectionFault}
-use Rattle.policy.specs.Read.{innerOf, parentOf, siblingOf, ownOf, childrenOf, shape, shapeFault, ownAtoms, sumFault, lawsFrom}
+use Rattle.section.specs.Numbers.{headerLengthIn, operatorLengthIn, nodeLength, extraWords}
+use Rattle.section.specs.Numbers.{noTree, wrongSum, lawBroken}
+use Rattle.section.specs.Cells.{operatorRows}
+use Rattle.refusal.specs.Plain.{plain}
+use Rattle.section.specs.Sections.{childrenOf}
+use Rattle.policy.specs.Read.{shape, shapeFault, ownAtoms, sumFault, lawsFrom}
 use Rattle.policy.specs.Read.{atomsAtIn, nodesAtIn, endIn, operatorsIn, nodesIn, wholeStages, stages, layout, answer, readAs, numbered}
 use Rattle.policy.specs.Steps.{withWhole}
 use Rattle.policy.specs.File.{operatorAt, fileNodesIn}
-use Rattle.policy.specs.WellFormed.{Present, RightHeader, RightNode, OneTree, OtherwiseIn, WellFormedIn}
-use Rattle.policy.specs.Order.{FirstWrong, RightRecord, recordAt, Good, RecordDue, cell, match, action, node, SectionDue, no-count, beyond, cut}
-use Rattle.policy.specs.Order.{wrong-record}
-use Rattle.policy.specs.Order.{ended, HasPlace, childCountsIn, HeaderDue, GoodSections, Due, in-header, in-operators, in-atoms, in-nodes, extra, no-place}
+use Rattle.section.specs.Due.{RightNode}
+use Rattle.policy.specs.WellFormed.{OneTree, OtherwiseIn, WellFormedIn}
+use Rattle.policy.specs.Order.{ended, HasPlace, childCountsIn, GoodSections, Due, in-header, in-operators, in-atoms, in-nodes, extra, no-place}
 use Rattle.policy.specs.Order.{missing, sum, FileOrder}
-use Rattle.policy.specs.declared.Edition.{Edition}
-use Rattle.policy.specs.declared.Edition.the-variants.{First}
+use Rattle.section.specs.declared.Edition.{Edition}
 use Rattle.policy.specs.declared.Reading.the-variants.{Accepted, Refused}
-use Rattle.policy.specs.declared.Refusal.{Refusal}
-use Rattle.policy.specs.declared.Section.{Section}
-use Rattle.policy.specs.declared.Section.the-variants.{Operators, Atoms, Nodes}
-use Rattle.policy.specs.declared.Test.{Test}
-use Rattle.policy.specs.declared.Test.the-variants.{Passed, Failed}
-use Rattle.policy.proofs.Passed.{passed-header, operators-many, right-operators, node-fault, fault-node, right-record, present-long, present-fault}
-use Rattle.policy.proofs.Passed.{good-passed}
-use Rattle.policy.proofs.Passed.{laws-kept, kept-laws}
+use Rattle.section.specs.declared.Section.the-variants.{Operators, Atoms, Nodes}
+use Rattle.section.specs.declared.Test.the-variants.{Passed, Failed}
+use Rattle.section.proofs.Passed.{passed-header, good-passed}
+use Rattle.policy.proofs.Named.{operators-many, right-operators, laws-kept, kept-laws}
 use Rattle.policy.proofs.Trees.{shape-one-tree, one-tree-shape}
 use Rattle.policy.proofs.Accepted.{children-shape, good-otherwise, accepted-as}
 use Rattle.policy.proofs.Refused.{refused-law-as, broken-refused-as}
 use Rattle.policy.proofs.Depths.{shape-first, shape-places, has-place}
 use Rattle.logic.proofs.Tests.{by-test, by-le}
-
--- of some places all are right, or there is a first wrong one
-first-wrong : (Right : ℕ → Type 0) → ((i : ℕ) → Right i ⊎ (¬ Right i)) → (n : ℕ) → ((i : ℕ) → i < n → Right i) ⊎ ((i : ℕ) × FirstWrong Right n i)
-first-wrong Right decide zero = inl (λ i h. absurd (omega arith))
-first-wrong Right decide (suc n) = ⊎-elim
-    (λ before. ⊎-elim
-    (λ here. inl (λ i h. by-le n i (λ l. let e : i ≡ n = omega arith in rw e here) (λ l. before i l)))
-    (λ here. inr (n, record { within = omega arith; wrong = here; before = before }))
-    (decide n))
-    (λ w. inr (w .0, record { within = omega (arith, w .1 .within); wrong = w .1 .wrong; before = w .1 .before }))
-    (first-wrong Right decide n)
-
--- RECORDS. Of records in order the first that is refused is.
-each-first : (t : ℕ → List ℕ → Test) (at k : ℕ) (rs : List (List ℕ)) (i : ℕ) (x : Refusal) → i < length rs
-    → ((j : ℕ) → j < i → (p : ℕ) → t p (getD rs j []) ≡ Passed) → t (at + k * i) (getD rs i []) ≡ Failed x → each t at k rs ≡ Failed x
-each-first t at k [] i x h b e = absurd (omega arith)
-each-first t at k (r ∷ rs) zero x h b e =
-    let z : at + k * 0 ≡ at = omega arith in
-    let e′ : t at r ≡ Failed x = rw z at e in
-    rw e′
-each-first t at k (r ∷ rs) (suc i) x h b e =
-    let g : k * suc i ≡ k + k * i = omega arith in
-    let z : at + k * suc i ≡ at + k + k * i = omega arith in
-    rw (b 0 (omega arith) at) (each-first t (at + k) k rs i x (omega arith) (λ j l p. b (suc j) (omega arith) p) (rw z at e))
-
--- and of cells the first that is wrong
-cells-first : (ed : Edition) (j at : ℕ) (cs : List ℕ) (m : ℕ) → m < length cs → ((i : ℕ) → i < m → rightCellIn ed (j + i) (getD cs i 0) ≡ true)
-    → rightCellIn ed (j + m) (getD cs m 0) ≡ false → cellsFrom ed j at cs ≡ Failed (plain wrongCell (at + m))
-cells-first ed j at [] m h b e = absurd (omega arith)
-cells-first ed j at (c ∷ cs) zero h b e =
-    let z : j + 0 ≡ j = omega arith in
-    let y : at + 0 ≡ at = omega arith in
-    let e′ : rightCellIn ed j c ≡ false = rw z at e in
-    rw (e′, y)
-cells-first ed j at (c ∷ cs) (suc m) h b e =
-    let z : j + 0 ≡ j = omega arith in
-    let y : at + suc m ≡ suc at + m = omega arith in
-    let x : (i : ℕ) → j + suc i ≡ suc j + i = λ i. omega arith in
-    let first : rightCellIn ed j c ≡ true = rw z at (b 0 (omega arith)) in
-    rw (first, y) (cells-first ed (suc j) (suc at) cs m (omega arith) (λ i l. rw (x i) at (b (suc i) (omega arith))) (rw (x m) at e))
-
--- tests and stages, by their outcome
-not-true : (b : Bool) → ¬ (b ≡ true) → b ≡ false
-not-true true h = absurd (h refl)
-not-true false h = refl
-
-true-or-not : (b : Bool) → (b ≡ true) ⊎ (¬ (b ≡ true))
-true-or-not true = inl refl
-true-or-not false = inr (λ e. let z : _≡_ {A = ℕ} 0 1 = cc in omega arith)
-
-unless-failed : (b : Bool) (n at : ℕ) → ¬ (unless b n at ≡ Passed) → unless b n at ≡ Failed (plain n at)
-unless-failed true n at h = absurd (h refl)
-unless-failed false n at h = refl
-
-passed-or-not : (t : Test) → (t ≡ Passed) ⊎ (¬ (t ≡ Passed))
-passed-or-not Passed = inl refl
-passed-or-not (Failed x) = inr (λ e. let z : _≡_ {A = ℕ} 0 1 = cc in omega arith)
-
--- a wrong record is refused as is due
-record-due : (at : ℕ) (r : List ℕ) {s : Section} {n p : ℕ} → RecordDue at r s n p → length r ≡ recordLength s → recordFault s at r ≡ Failed (plain n p)
-unfolding cellsFault atomFault nodeFault
-record-due at r (cell {e} {j} w) long =
-    let z : (i : ℕ) → 0 + i ≡ i = λ i. omega arith in
-    cells-first e 0 at r j (omega (arith, w .within)) (λ i l. rw (z i) (w .before i l)) (rw (z j) (not-true _ (w .wrong)))
-record-due at r (match t) long = rw t
-record-due at r (action t u) long = rw (t, u)
-record-due at r (node {a} h) long =
-    let t : Bool = ltb (innerOf r) a && ltb (parentOf r) a && ltb (siblingOf r) a && leb (ownOf r) mostAtoms && leb (childrenOf r) mostChildren in
-    unless-failed t wrongNode at (λ e. h (node-fault a at r e))
-
--- a record is right, or something is due to it
-record-cases : (s : Section) (at : ℕ) (r : List ℕ) → RightRecord s r ⊎ ((n : ℕ) × (p : ℕ) × RecordDue at r s n p)
-record-cases (Operators e) at r = ⊎-elim
-    (λ h. inl h)
-    (λ w. inr (_, _, cell (w .1)))
-    (first-wrong (λ j. rightCellIn e j (getD r j 0) ≡ true) (λ j. true-or-not _) (operatorLengthIn e))
-record-cases (Atoms e) at r = by-test (rightAtomMatch e r)
-    (λ t. by-test (rightAtomAction e r) (λ u. inl (t, u)) (λ u. inr (_, _, action t u)))
-    (λ t. inr (_, _, match t))
-record-cases (Nodes a) at r = ⊎-elim
-    (λ e. inl (node-fault a at r e))
-    (λ h. inr (_, _, node (λ n. h (fault-node a at r n))))
-    (passed-or-not (nodeFault a at r))
-
--- and not both
-not-right : (at : ℕ) (r : List ℕ) {s : Section} {n p : ℕ} → RecordDue at r s n p → ¬ RightRecord s r
-not-right at r (cell {e} {j} w) h = w .wrong (h j (w .within))
-not-right at r (match t) h = let z : _≡_ {A = ℕ} 0 1 = cc (h .0) in omega arith
-not-right at r (action t u) h = let z : _≡_ {A = ℕ} 0 1 = cc (h .1) in omega arith
-not-right at r (node n) h = n h
-
--- SECTIONS
-module _ (f : List ℕ) (at : ℕ) (s : Section) where
-  -- what is due to a section is what it is refused with
-  section-due : {n p : ℕ} → SectionDue f at s n p → sectionFault f at s ≡ Failed (plain n p)
-  unfolding sectionFault countFault
-  section-due (no-count h) = rw (le-ltb at (length f) h)
-  section-due (beyond h (inl g)) = rw (lt-ltb at (length f) h, lt-leb (least s) (getD f at 0) g)
-  section-due (beyond h (inr g)) = rw (lt-ltb at (length f) h, lt-leb (getD f at 0) (most s) g, and-false (leb (least s) (getD f at 0)))
-  section-due (cut h l m g) =
-      let n : ℕ = getD f at 0 in
-      rw (lt-ltb at (length f) h, le-leb (least s) n l, le-leb n (most s) m, lt-leb (at + 1 + recordLength s * n) (length f) g)
-  section-due (wrong-record {n} {i} {number} {place} p w d) =
-      present-fault f at s n p
-      ∙ each-first (recordFault s) (at + 1) (recordLength s) (records n (recordLength s) (drop (at + 1) f)) i (plain number place)
-      (rw length-records (w .within))
-      (λ j l q. right-record s q (recordAt f at s n j) (present-long f at s n p j (omega (arith, w .within))) (w .before j l))
-      (record-due (at + 1 + recordLength s * i) (recordAt f at s n i) d (present-long f at s n p i (w .within)))
-
-  -- a section is good, or something is due to it
-  section-cases : Good f at s (getD f at 0) ⊎ ((n : ℕ) × (p : ℕ) × SectionDue f at s n p)
-  section-cases =
-      let n : ℕ = getD f at 0 in
-      by-le (length f) at (λ h. inr (_, _, no-count h))
-      (λ h. by-le (least s) n
-      (λ l. by-le n (most s)
-      (λ m. by-le (at + 1 + recordLength s * n) (length f)
-      (λ w. present (record { there = h; count = refl; least = l; most = m; whole = w }))
-      (λ w. inr (_, _, cut h l m w)))
-      (λ m. inr (_, _, beyond h (inr m))))
-      (λ l. inr (_, _, beyond h (inl l))))
-    where
-      decide : (i : ℕ) → RightRecord s (recordAt f at s (getD f at 0) i) ⊎ (¬ RightRecord s (recordAt f at s (getD f at 0) i))
-      decide i = ⊎-elim (λ h. inl h) (λ d. inr (not-right 0 (recordAt f at s (getD f at 0) i) (d .2))) (record-cases s 0 (recordAt f at s (getD f at 0) i))
-
-      present : Present f at (least s) (most s) (recordLength s) (getD f at 0) → Good f at s (getD f at 0) ⊎ ((n : ℕ) × (p : ℕ) × SectionDue f at s n p)
-      present p = ⊎-elim
-          (λ h. inl (record { present = p; right = h }))
-          (λ w. ⊎-elim
-          (λ h. absurd (w .1 .wrong h))
-          (λ d. inr (_, _, wrong-record p (w .1) (d .2)))
-          (record-cases s (at + 1 + recordLength s * w .0) (recordAt f at s (getD f at 0) (w .0))))
-          (first-wrong (λ j. RightRecord s (recordAt f at s (getD f at 0) j)) decide (getD f at 0))
-
--- THE HEADER: what is due to it is what it is refused with, and it is right or something is
-header-due : (e : Edition) (f : List ℕ) (n at : ℕ) → HeaderDue e f n at → headerFault e f ≡ Failed (plain n at)
-header-due First f n at d = absurd d
-
-header-cases : (e : Edition) (f : List ℕ) → RightHeader e f ⊎ ((n : ℕ) × (at : ℕ) × HeaderDue e f n at)
-header-cases First f = inl refl
+use Rattle.section.proofs.Due.{first-wrong, passed-or-not, section-due, section-cases, header-due, header-cases}
 
 -- THE FILE. Once the header and all three sections are good the other stages answer.
 module _ (e : Edition) (f : List ℕ) (a b c : ℕ) where

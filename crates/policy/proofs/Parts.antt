@@ -8,13 +8,14 @@ use lib.ListN.{getD, length, take, drop, length-append, length-drop, take-append
 use lib.Seq.{drop-cons, drop-drop, take-at, drop-at, length-take-le}
 use Rattle.words.specs.Records.{records}
 use Rattle.words.proofs.Records.{length-records}
-use Rattle.policy.specs.Numbers.{headerLengthIn, headerOf, operatorLengthIn, atomLengthIn, nodeLength, mostOperators, mostAtoms, mostNodes}
+use Rattle.section.specs.Numbers.{headerLengthIn, headerOf, operatorLengthIn, atomLengthIn, nodeLength, mostOperators, mostAtoms, mostNodes}
 use Rattle.policy.specs.Read.{atomsAtIn, nodesAtIn, endIn, operatorsIn, atomsIn, nodesIn, layout}
-use Rattle.policy.specs.WellFormed.{Present, RightHeader, OtherwiseIn, WellFormedIn}
+use Rattle.section.specs.Due.{Present, RightHeader}
+use Rattle.policy.specs.WellFormed.{OtherwiseIn, WellFormedIn}
 use Rattle.policy.specs.Parts.{Parts, recordWords, sectionWords, fileWordsIn, partsIn, layoutOfParts, EachLong, RightPartsIn, LawfulPartsIn}
 use Rattle.policy.specs.Theorems.{PartsAccepted, AcceptedParts, PartsWhole, PartsRead}
-use Rattle.policy.specs.declared.Edition.{Edition}
-use Rattle.policy.specs.declared.Edition.the-variants.{First}
+use Rattle.section.specs.declared.Edition.{Edition}
+use Rattle.section.specs.declared.Edition.the-variants.{First}
 use Rattle.policy.proofs.Accepted.{accepted-as}
 
 -- records that are there have their length, and their words are what they were taken from

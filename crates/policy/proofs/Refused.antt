@@ -14,27 +14,29 @@ use Rattle.action.specs.Laws.{lawSearch, Shows}
 use Rattle.action.specs.declared.Lawful.{Lawful}
 use Rattle.action.specs.declared.Lawful.the-variants.{Yes, Broken}
 use Rattle.action.proofs.Exact.{search-exact, search-shows}
-use Rattle.policy.specs.Numbers.{latest, headerLengthIn, operatorLengthIn, mostAtoms, mostChildren, deepest, short, wrongCount, wrongCell, wrongMatch}
-use Rattle.policy.specs.Numbers.{wrongAction, wrongNode, extraWords, noTree, wrongSum, lawBroken}
-use Rattle.policy.specs.Read.{plain, unless, _else_, each, recordLength, least, most, headerFault, countFault, cellsFrom, cellsFault, atomFault}
-use Rattle.policy.specs.Read.{nodeFault, recordFault, behind, sectionFault, innerOf, parentOf, siblingOf, ownOf, childrenOf, waitingNodes, oneLess, shape}
+use Rattle.section.specs.Numbers.{latest, headerLengthIn, operatorLengthIn, mostAtoms, mostChildren, deepest, short, wrongCount, wrongCell, wrongMatch}
+use Rattle.section.specs.Numbers.{wrongAction, wrongNode, extraWords, noTree, wrongSum, lawBroken}
+use Rattle.refusal.specs.Plain.{plain}
+use Rattle.section.specs.Sections.{unless, _else_, each, recordLength, least, most, headerFault, countFault, cellsFrom, cellsFault, atomFault}
+use Rattle.section.specs.Sections.{nodeFault, recordFault, behind, sectionFault, innerOf, parentOf, siblingOf, ownOf, childrenOf}
+use Rattle.policy.specs.Read.{waitingNodes, oneLess, shape}
 use Rattle.policy.specs.Read.{shapeFault, ownAtoms, sumFault, named, broken, operatorFault, lawsFrom, lawsFault, atomsAtIn, nodesAtIn, endIn}
 use Rattle.policy.specs.Read.{operatorsIn, nodesIn, extraFault, wholeStages, stages, layout, answer, readAs}
-use Rattle.policy.specs.Atom.{rightAtomMatch, rightAtomAction}
-use Rattle.policy.specs.Cells.{rightCellIn, operatorRows}
+use Rattle.section.specs.Atom.{rightAtomMatch, rightAtomAction}
+use Rattle.section.specs.Cells.{rightCellIn, operatorRows}
 use Rattle.policy.specs.File.{operatorAt}
 use Rattle.policy.specs.WellFormed.{OtherwiseIn}
 use Rattle.policy.specs.Theorems.{RefusedLawAs, RefusedLaw, BrokenRefusedAs, BrokenRefused, RefusedPlainAs, RefusedPlain}
-use Rattle.policy.specs.declared.Edition.{Edition}
-use Rattle.policy.specs.declared.Edition.the-variants.{First}
+use Rattle.section.specs.declared.Edition.{Edition}
+use Rattle.section.specs.declared.Edition.the-variants.{First}
 use Rattle.policy.specs.declared.Layout.{Layout}
 use Rattle.policy.specs.declared.Reading.the-variants.{Refused}
-use Rattle.policy.specs.declared.Refusal.{Refusal}
-use Rattle.policy.specs.declared.Section.{Section}
-use Rattle.policy.specs.declared.Section.the-variants.{Operators, Atoms, Nodes}
-use Rattle.policy.specs.declared.Test.{Test}
-use Rattle.policy.specs.declared.Test.the-variants.{Passed, Failed}
-use Rattle.policy.proofs.Passed.{operators-many, right-operators, laws-kept, unbroken}
+use Rattle.refusal.specs.declared.Refusal.{Refusal}
+use Rattle.section.specs.declared.Section.{Section}
+use Rattle.section.specs.declared.Section.the-variants.{Operators, Atoms, Nodes}
+use Rattle.section.specs.declared.Test.{Test}
+use Rattle.section.specs.declared.Test.the-variants.{Passed, Failed}
+use Rattle.policy.proofs.Named.{operators-many, right-operators, laws-kept, unbroken}
 use Rattle.policy.proofs.Accepted.{AllPassed, Stages, otherwise-of, of-otherwise}
 use Rattle.logic.proofs.Tests.{by-test}
 use Rattle.action.specs.Operator.{cellsOf}

@@ -11,13 +11,14 @@ use borrow.Author.Tests.{eqb-true, leb-true, le-leb}
 use Rattle.theory.specs.Tree.{Tree, Forest, node, bare, _▸_}
 use Rattle.theory.specs.Nodes.{Listed, takeTrees, dropTrees, countTrees, plant, listTree, listTrees, ChildrenFound}
 use Rattle.theory.proofs.Nodes.{_⧺_, list-plant, plants-before, plant-list}
-use Rattle.policy.specs.Numbers.{deepest, noTree}
-use Rattle.policy.specs.Read.{plain, waitingNodes, oneLess, shape}
+use Rattle.section.specs.Numbers.{deepest, noTree}
+use Rattle.refusal.specs.Plain.{plain}
+use Rattle.policy.specs.Read.{waitingNodes, oneLess, shape}
 use Rattle.policy.specs.WellFormed.{depth, depths, OneTree}
-use Rattle.policy.specs.declared.Refusal.{Refusal}
-use Rattle.policy.specs.declared.Test.{Test}
-use Rattle.policy.specs.declared.Test.the-variants.{Passed, Failed}
-use Rattle.policy.proofs.Records.{unless-true}
+use Rattle.refusal.specs.declared.Refusal.{Refusal}
+use Rattle.section.specs.declared.Test.{Test}
+use Rattle.section.specs.declared.Test.the-variants.{Passed, Failed}
+use Rattle.section.proofs.Records.{unless-true}
 use Rattle.logic.proofs.Tests.{and-left, and-right}
 
 -- a test that guards a refusal was passed

@@ -10,10 +10,12 @@ use lib.Dec.{eqb, leb}
 use borrow.Author.Tests.{le-leb, lt-leb}
 use Rattle.words.specs.Records.{records}
 use Rattle.words.proofs.Records.{records-next, record-word}
-use Rattle.policy.specs.Read.{plain, unless, waitingNodes, oneLess, childrenOf, shape}
+use Rattle.refusal.specs.Plain.{plain}
+use Rattle.section.specs.Sections.{unless, childrenOf}
+use Rattle.policy.specs.Read.{waitingNodes, oneLess, shape}
 use Rattle.policy.specs.Steps.{stacked}
-use Rattle.policy.specs.declared.Test.{Test}
-use Rattle.policy.specs.declared.Test.the-variants.{Failed}
+use Rattle.section.specs.declared.Test.{Test}
+use Rattle.section.specs.declared.Test.the-variants.{Failed}
 use Rattle.policy.proofs.Stack.{stacked-length, enter}
 
 module _ (f : List ℕ) (from left i : ℕ) (w : List ℕ) (h d : ℕ) (v : Test)

@@ -17,12 +17,12 @@ use Rattle.row.specs.Row.{rowOf}
 use Rattle.flow.specs.declared.Match.{Match}
 use Rattle.action.specs.Operator.{cellsOf}
 use Rattle.action.specs.declared.Action.{Action}
-use Rattle.policy.specs.Numbers.{latest}
-use Rattle.policy.specs.Atom.{atomRow}
-use Rattle.policy.specs.Cells.{operatorRows}
-use Rattle.policy.specs.Read.{innerOf, parentOf, siblingOf, ownOf, childrenOf}
+use Rattle.section.specs.Numbers.{latest}
+use Rattle.section.specs.Atom.{atomRow}
+use Rattle.section.specs.Cells.{operatorRows}
+use Rattle.section.specs.Sections.{innerOf, parentOf, siblingOf, ownOf, childrenOf}
 use Rattle.policy.specs.Read.{operatorsIn, atomsIn, nodesIn}
-use Rattle.policy.specs.declared.Edition.{Edition}
+use Rattle.section.specs.declared.Edition.{Edition}
 use Rattle.policy.specs.declared.Layout.{Layout}
 
 -- a node: its operators, each by its cells, and its atoms

@@ -1,6 +1,3 @@
-pub mod Numbers
-pub mod Atom
-pub mod Cells
 pub mod Read
 pub mod Steps
 pub mod File

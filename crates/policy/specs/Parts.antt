@@ -16,14 +16,15 @@ use lib.ListN.{getD, length}
 use Rattle.logic.specs.Lists.{All}
 use Rattle.words.specs.Records.{flat}
 use Rattle.row.specs.Row.{rowOf}
-use Rattle.policy.specs.Numbers.{headerOf, operatorLengthIn, atomLengthIn, nodeLength}
-use Rattle.policy.specs.Numbers.{mostOperators, mostAtoms, mostNodes}
-use Rattle.policy.specs.Atom.{atomRow, rightAtomMatch, rightAtomAction}
-use Rattle.policy.specs.Cells.{rightCellIn, operatorRows}
+use Rattle.section.specs.Numbers.{headerOf, operatorLengthIn, atomLengthIn, nodeLength}
+use Rattle.section.specs.Numbers.{mostOperators, mostAtoms, mostNodes}
+use Rattle.section.specs.Atom.{atomRow, rightAtomMatch, rightAtomAction}
+use Rattle.section.specs.Cells.{rightCellIn, operatorRows}
 use Rattle.policy.specs.Read.{ownAtoms, operatorsIn, atomsIn, nodesIn, layout}
 use Rattle.policy.specs.File.{held}
-use Rattle.policy.specs.WellFormed.{OneTree, RightNode, LawsKept}
-use Rattle.policy.specs.declared.Edition.{Edition}
+use Rattle.policy.specs.WellFormed.{OneTree, LawsKept}
+use Rattle.section.specs.Due.{RightNode}
+use Rattle.section.specs.declared.Edition.{Edition}
 use Rattle.policy.specs.declared.Layout.{Layout}
 
 -- the operators, atoms and nodes of a policy, each by its words

@@ -2,155 +2,38 @@
 -- stages, or the layout.
 -- See docs/FORMAT.md, "The policy file" and "Numbers a caller can get back".
 --
---   unless, _else_         a refusal where a test is not met; the first of two
---   each                   the first refusal of some records in order
---   headerFault            the header is the edition's
---   countFault             a section's count is there (1) and within its limits (2)
---   sectionFault           the count, then the whole section (1), then its records in order
---   recordFault            an operator's cells (3), an atom's match (4) and then its action (5), a node's words (6)
 --   shapeFault             the nodes are one tree, no deeper than allowed (8)
 --   sumFault               the own-atom counts add up to the atoms (9)
 --   lawsFault              the operators that some node names as inner or sibling keep the laws (10)
---   behind                 where a section ends: the next one's count stands there
 --   extraFault             no words stand behind the last node (7)
 --   wholeStages            once the sections are good: the end, the tree, the sum and the laws
 --   stages, answer         all stages in order
 --   readAs, readOf         the answer, for an edition and for the newest
 --   numbered               the answer's number, place, law and actions
-use Prim.Native.Nat.{ℕ, zero, suc, _+_, _*_, pred}
+use Prim.Native.Nat.{ℕ, zero, suc, _+_, pred}
 use mathlib.Core.Bool.{Bool, false, cond, _&&_, _||_}
 use mathlib.Core.List.{List, [], _∷_, map}
-use lib.Dec.{eqb, leb, ltb}
+use lib.Dec.{eqb, leb}
 use lib.ListN.{getD, length, drop}
 use Rattle.words.specs.Records.{records}
 use Rattle.action.specs.Laws.{lawSearch}
-use Rattle.action.specs.declared.Action.the-variants.{DontCare}
-use Rattle.action.specs.declared.Law.the-variants.{Unnamed}
 use Rattle.action.specs.declared.Lawful.{Lawful}
 use Rattle.action.specs.declared.Lawful.the-variants.{Yes, Broken}
-use Rattle.policy.specs.Numbers.{latest, headerLengthIn, operatorLengthIn, atomLengthIn, nodeLength}
-use Rattle.policy.specs.Numbers.{mostOperators, mostAtoms, mostNodes, mostChildren, deepest}
-use Rattle.policy.specs.Numbers.{short, wrongCount, wrongCell, wrongMatch, wrongAction, wrongNode}
-use Rattle.policy.specs.Numbers.{extraWords, noTree, wrongSum, lawBroken}
-use Rattle.policy.specs.Atom.{rightAtomMatch, rightAtomAction}
-use Rattle.policy.specs.Cells.{rightCellIn, operatorRows}
-use Rattle.policy.specs.declared.Edition.{Edition}
-use Rattle.policy.specs.declared.Edition.the-variants.{First}
+use Rattle.section.specs.Numbers.{latest, headerLengthIn, operatorLengthIn, atomLengthIn, nodeLength}
+use Rattle.section.specs.Numbers.{deepest}
+use Rattle.section.specs.Numbers.{extraWords, noTree, wrongSum, lawBroken}
+use Rattle.section.specs.Cells.{operatorRows}
+use Rattle.section.specs.declared.Edition.{Edition}
 use Rattle.policy.specs.declared.Layout.{Layout}
 use Rattle.policy.specs.declared.Reading.{Reading}
 use Rattle.policy.specs.declared.Reading.the-variants.{Accepted, Refused}
-use Rattle.policy.specs.declared.Refusal.{Refusal}
-use Rattle.policy.specs.declared.Section.{Section}
-use Rattle.policy.specs.declared.Section.the-variants.{Operators, Atoms, Nodes}
-use Rattle.policy.specs.declared.Test.{Test}
-use Rattle.policy.specs.declared.Test.the-variants.{Passed, Failed}
+use Rattle.refusal.specs.declared.Refusal.{Refusal}
+use Rattle.section.specs.declared.Section.the-variants.{Operators, Atoms, Nodes}
+use Rattle.section.specs.declared.Test.{Test}
+use Rattle.section.specs.declared.Test.the-variants.{Passed, Failed}
 use Rattle.action.specs.Operator.{cellsOf}
-
--- a refusal that names no law
-abbrev pub plain : ℕ → ℕ → Refusal
-plain n at = record { number = n; place = at; law = Unnamed; first = DontCare; second = DontCare; third = DontCare }
-
--- the refusal n at a place, where a test is not met
-abbrev pub unless : Bool → ℕ → ℕ → Test
-unless b n at = cond b Passed (Failed (plain n at))
-
--- the first of two refusals
-abbrev pub _else_ : Test → Test → Test
-_else_ Passed y = y
-_else_ (Failed r) y = Failed r
-
--- the first refusal of records that stand k words apart from a place on
-abbrev pub each : (ℕ → List ℕ → Test) → ℕ → ℕ → List (List ℕ) → Test
-each t at k [] = Passed
-each t at k (r ∷ rs) = _else_ (t at r) (each t (at + k) k rs)
-
--- the words of a section's records
-abbrev pub recordLength : Section → ℕ
-recordLength (Operators e) = operatorLengthIn e
-recordLength (Atoms e) = atomLengthIn e
-recordLength (Nodes n) = nodeLength
-
--- the fewest records that a section may have
-abbrev pub least : Section → ℕ
-least (Operators e) = 1
-least (Atoms e) = 0
-least (Nodes n) = 1
-
--- the most records that a section may have
-abbrev pub most : Section → ℕ
-most (Operators e) = mostOperators
-most (Atoms e) = mostAtoms
-most (Nodes n) = mostNodes
-
--- the header of an edition: the first has none
-abbrev pub headerFault : Edition → List ℕ → Test
-headerFault First f = Passed
-
--- the count of a section is there, and within its limits
-unfoldable pub countFault : List ℕ → ℕ → Section → Test
-countFault f at s =
-    _else_ (unless (ltb at (length f)) short (length f))
-    (unless (leb (least s) (getD f at 0) && leb (getD f at 0) (most s)) wrongCount at)
-
--- the cells from the j-th on are right, the first of them at a place
-abbrev pub cellsFrom : Edition → ℕ → ℕ → List ℕ → Test
-cellsFrom e j at [] = Passed
-cellsFrom e j at (c ∷ cs) = _else_ (unless (rightCellIn e j c) wrongCell at) (cellsFrom e (suc j) (suc at) cs)
-
--- the cells of an operator are right
-unfoldable pub cellsFault : Edition → ℕ → List ℕ → Test
-cellsFault e at r = cellsFrom e 0 at r
-
--- the match of an atom is right, then its action
-unfoldable pub atomFault : Edition → ℕ → List ℕ → Test
-atomFault e at r = _else_ (unless (rightAtomMatch e r) wrongMatch at) (unless (rightAtomAction e r) wrongAction at)
-
--- the words of a node: inner, parent and sibling operator indexes, own-atom count, child count
-abbrev pub innerOf : List ℕ → ℕ
-innerOf r = getD r 0 0
-
-abbrev pub parentOf : List ℕ → ℕ
-parentOf r = getD r 1 0
-
-abbrev pub siblingOf : List ℕ → ℕ
-siblingOf r = getD r 2 0
-
-abbrev pub ownOf : List ℕ → ℕ
-ownOf r = getD r 3 0
-
-abbrev pub childrenOf : List ℕ → ℕ
-childrenOf r = getD r 4 0
-
--- the operator indexes of a node are below the number of operators, its counts within their limits
-unfoldable pub nodeFault : ℕ → ℕ → List ℕ → Test
-nodeFault operators at r =
-    unless
-    (ltb (innerOf r) operators
-    && ltb (parentOf r) operators
-    && ltb (siblingOf r) operators
-    && leb (ownOf r) mostAtoms
-    && leb (childrenOf r) mostChildren)
-    wrongNode
-    at
-
--- a record of a section is right
-abbrev pub recordFault : Section → ℕ → List ℕ → Test
-recordFault (Operators e) at r = cellsFault e at r
-recordFault (Atoms e) at r = atomFault e at r
-recordFault (Nodes n) at r = nodeFault n at r
-
--- where a section of n records ends, whose count stands at a place
-abbrev pub behind : ℕ → Section → ℕ → ℕ
-behind at s n = at + 1 + recordLength s * n
-
--- a section: its count, then the whole section, then its records in order
-unfoldable pub sectionFault : List ℕ → ℕ → Section → Test
-sectionFault f at s =
-    let k : ℕ = recordLength s in
-    let n : ℕ = getD f at 0 in
-    _else_ (countFault f at s)
-    (_else_ (unless (leb (behind at s n) (length f)) short (length f))
-    (each (recordFault s) (at + 1) k (records n k (drop (at + 1) f))))
+use Rattle.section.specs.Sections.{unless, _else_, headerFault, sectionFault, behind, innerOf, siblingOf, ownOf, childrenOf}
+use Rattle.refusal.specs.Plain.{plain}
 
 -- of the children still to come of each open node, the innermost first: those that wait for one
 abbrev pub waitingNodes : List ℕ → List ℕ

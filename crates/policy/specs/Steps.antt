@@ -3,11 +3,12 @@
 use Prim.Native.Nat.{ℕ, zero, suc, _≤_}
 use mathlib.Core.List.{List, [], _∷_}
 use lib.ListN.{getD, length}
-use Rattle.policy.specs.Numbers.{mostOperators}
-use Rattle.policy.specs.Read.{headerFault, behind, sectionFault, wholeStages, layout, answer}
-use Rattle.policy.specs.declared.Edition.{Edition}
+use Rattle.section.specs.Numbers.{mostOperators}
+use Rattle.section.specs.Sections.{headerFault, behind, sectionFault}
+use Rattle.policy.specs.Read.{wholeStages, layout, answer}
+use Rattle.section.specs.declared.Edition.{Edition}
 use Rattle.policy.specs.declared.Reading.{Reading}
-use Rattle.policy.specs.declared.Section.the-variants.{Operators, Atoms, Nodes}
+use Rattle.section.specs.declared.Section.the-variants.{Operators, Atoms, Nodes}
 
 -- a file reaches to a place, and its operators are there, whose count stands at h
 abbrev pub Reaches : Edition → List ℕ → ℕ → ℕ → ℕ → Type 0

@@ -8,17 +8,17 @@ use mathlib.Core.Logic.{_↔_}
 use Rattle.theory.specs.Tree.{bare, _▸_}
 use Rattle.theory.specs.Nodes.{plant, listTree}
 use Rattle.action.specs.Laws.{Shows}
-use Rattle.policy.specs.Numbers.{latest, deepest, lawBroken}
-use Rattle.policy.specs.Read.{operatorsIn, nodesIn, operatorRecords, nodeRecords}
-use Rattle.policy.specs.Read.{plain, named, layout, readAs, readOf}
-use Rattle.policy.specs.Cells.{operatorRows}
+use Rattle.section.specs.Numbers.{latest, deepest, lawBroken}
+use Rattle.policy.specs.Read.{operatorsIn, nodesIn, operatorRecords, nodeRecords, named, layout, readAs, readOf}
+use Rattle.refusal.specs.Plain.{plain}
+use Rattle.section.specs.Cells.{operatorRows}
 use Rattle.policy.specs.File.{operatorAt, atomsOf, fileNodes, treeOf, allAtoms}
 use Rattle.policy.specs.WellFormed.{depth, OtherwiseIn, Otherwise, LawsKept, KeepsLaws, WellFormedIn, WellFormed}
 use Rattle.policy.specs.Parts.{Parts, fileWordsIn, partsIn, layoutOfParts, RightPartsIn, LawfulPartsIn}
-use Rattle.policy.specs.declared.Edition.{Edition}
+use Rattle.section.specs.declared.Edition.{Edition}
 use Rattle.policy.specs.declared.Layout.{Layout}
 use Rattle.policy.specs.declared.Reading.the-variants.{Accepted, Refused}
-use Rattle.policy.specs.declared.Refusal.{Refusal}
+use Rattle.refusal.specs.declared.Refusal.{Refusal}
 
 -- a file is accepted exactly when it is well formed (accepted-as, accepted-exactly)
 abbrev pub AcceptedAs : Type 0

@@ -1,37 +1,28 @@
 -- When a policy file is well formed, in the words of the scope, without the order in which it is read. See
 -- docs/FORMAT.md, "The policy file".
 --
---   Present              a section: its count is there and within limits, and so are all its records
 --   depth, depths        how deep a tree is; the deepest of some trees
 --   OneTree              some nodes in file order are those of one tree, no deeper than allowed
---   RightHeader          a file begins with the header of an edition
 --   KeepsLaws            an operator is commutative and associative over all actions with allowed rates
 --   WellFormedIn e f l   the file f of the edition e is well formed, with the layout l; WellFormed of the newest
-use Prim.Native.Nat.{ℕ, suc, _+_, _*_, _≤_, _<_, max}
+use Prim.Native.Nat.{ℕ, suc, _≤_, _<_, max}
 use mathlib.Core.Path.{_≡_}
 use mathlib.Core.Bool.{true}
 use mathlib.Core.List.{List, []}
-use lib.ListN.{getD, length, take}
+use lib.ListN.{getD, length}
 use Rattle.theory.specs.Tree.{Tree, Forest, node, bare, _▸_}
 use Rattle.theory.specs.Nodes.{Listed, listTree}
 use Rattle.action.specs.Laws.{Commutative, Associative}
-use Rattle.policy.specs.Numbers.{latest, headerLengthIn, headerOf, operatorLengthIn, atomLengthIn, nodeLength}
-use Rattle.policy.specs.Numbers.{mostOperators, mostAtoms, mostNodes, mostChildren, deepest}
-use Rattle.policy.specs.Read.{innerOf, parentOf, siblingOf, ownOf, childrenOf, ownAtoms}
-use Rattle.policy.specs.Read.{atomsAtIn, nodesAtIn, endIn, operatorsIn, atomsIn, nodesIn}
+use Rattle.section.specs.Numbers.{latest, headerLengthIn, operatorLengthIn, atomLengthIn, nodeLength}
+use Rattle.section.specs.Numbers.{mostOperators, mostAtoms, mostNodes, deepest}
+use Rattle.section.specs.Sections.{innerOf, siblingOf}
+use Rattle.policy.specs.Read.{ownAtoms, atomsAtIn, nodesAtIn, endIn, operatorsIn, atomsIn, nodesIn}
 use Rattle.policy.specs.File.{operatorAt, fileNodesIn}
-use Rattle.policy.specs.Atom.{rightAtomMatch, rightAtomAction}
-use Rattle.policy.specs.Cells.{rightCellIn, operatorRows}
-use Rattle.policy.specs.declared.Edition.{Edition}
+use Rattle.section.specs.Atom.{rightAtomMatch, rightAtomAction}
+use Rattle.section.specs.Cells.{rightCellIn, operatorRows}
+use Rattle.section.specs.declared.Edition.{Edition}
 use Rattle.policy.specs.declared.Layout.{Layout}
-
--- the count at a place is n, from low to high, and the n records of k words behind it are there
-pub record Present (f : List ℕ) (at low high k n : ℕ) : Type 0 where
-  pub there : at < length f
-  pub count : getD f at 0 ≡ n
-  pub least : low ≤ n
-  pub most : n ≤ high
-  pub whole : at + 1 + k * n ≤ length f
+use Rattle.section.specs.Due.{Present, RightHeader, RightNode}
 
 module _ {X : Type 0} where
   abbrev mutual
@@ -53,18 +44,6 @@ pub record OneTree {X : Type 0} (ns : List (Listed X)) : Type 0 where
 -- an operator keeps both laws over all actions with allowed rates
 abbrev pub KeepsLaws : List ℕ → Type 0
 KeepsLaws o = Commutative o × Associative o
-
--- a node's operator indexes are below the number of operators, its counts within their limits
-pub record RightNode (operators : ℕ) (r : List ℕ) : Type 0 where
-  pub inner : innerOf r < operators
-  pub parent : parentOf r < operators
-  pub sibling : siblingOf r < operators
-  pub own : ownOf r ≤ mostAtoms
-  pub children : childrenOf r ≤ mostChildren
-
--- a file begins with the header of an edition
-abbrev pub RightHeader : Edition → List ℕ → Type 0
-RightHeader e f = take (headerLengthIn e) f ≡ headerOf e
 
 -- a well-formed file of an edition, of a operators, b atoms and c nodes, but for the laws
 pub record OtherwiseIn (e : Edition) (f : List ℕ) (a b c : ℕ) : Type 0 where

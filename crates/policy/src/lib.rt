@@ -2,86 +2,26 @@
 ghost use mathlib.Core.Path.{_≡_};
 ghost use Prim.Native.Nat.{_≤_};
 ghost use lib.ListN.{length};
-ghost use Rattle.policy.specs.Numbers.{mostNodes};
-ghost use Rattle.policy.specs.Read.{behind, extraFault, readAs, readOf};
+ghost use Rattle.section.specs.Numbers.{mostNodes};
+ghost use Rattle.section.specs.Sections.{behind};
+ghost use Rattle.policy.specs.Read.{extraFault, readAs, readOf};
 ghost use Rattle.policy.specs.Steps.{Reaches, withWhole, withNodes, withAtoms, withOperators};
-use crate::places::HEADER_WORDS;
-use crate::places::behind;
-use crate::places::header_words;
-use action::Action;
-use action::CELLS;
-use action::Law;
-use row::ROW_WORDS;
+use refusal::Refusal;
+use section::EXTRA_WORDS;
+use section::Edition;
+use section::LATEST;
+use section::Section;
+use section::Test;
+use section::behind;
+use section::header_fault;
+use section::header_words;
+use section::section_fault;
+use section::unless;
+use section::wide;
 use words::word;
 
-mod atoms;
 mod laws;
-mod operators;
-mod places;
-mod sections;
 mod shape;
-
-// How many words a record has.
-pub const OPERATOR_WORDS: usize = CELLS;
-
-pub const ATOM_WORDS: usize = ROW_WORDS;
-
-pub const NODE_WORDS: usize = 5;
-
-// Where the first operator stands, behind the count of the operators.
-pub const FIRST_OPERATOR: usize = HEADER_WORDS + 1;
-
-// How many operators a file has at most.
-pub const MOST_OPERATORS: usize = sections::MOST_OPERATORS as usize;
-
-// How many words the longest file has: three counts, and three full sections.
-pub const LONGEST_FILE: usize = HEADER_WORDS
-    + 3
-    + OPERATOR_WORDS * MOST_OPERATORS
-    + ATOM_WORDS * (sections::MOST_ATOMS as usize)
-    + NODE_WORDS * (sections::MOST_NODES as usize);
-
-// Where the words of a node stand: operator indexes, own-atom count, child count.
-pub const INNER: usize = 0;
-
-pub const PARENT: usize = 1;
-
-pub const SIBLING: usize = 2;
-
-pub const OWN: usize = 3;
-
-pub const CHILDREN: usize = 4;
-
-// The numbers of the refusals.
-pub const SHORT: u32 = 1;
-
-pub const WRONG_COUNT: u32 = 2;
-
-pub const WRONG_CELL: u32 = 3;
-
-pub const WRONG_MATCH: u32 = 4;
-
-pub const WRONG_ACTION: u32 = 5;
-
-pub const WRONG_NODE: u32 = 6;
-
-pub const EXTRA_WORDS: u32 = 7;
-
-pub const NO_TREE: u32 = 8;
-
-pub const WRONG_SUM: u32 = 9;
-
-pub const LAW_BROKEN: u32 = 10;
-
-// A refusal: its number and place, and for a broken law the law and the actions that show it.
-pub struct Refusal {
-    pub number: u32,
-    pub place: usize,
-    pub law: Law,
-    pub first: Action,
-    pub second: Action,
-    pub third: Action,
-}
 
 // How many records each section of an accepted file has.
 pub struct Layout {
@@ -93,27 +33,6 @@ pub struct Layout {
 pub enum Reading {
     Accepted(Layout),
     Refused(Refusal),
-}
-
-// What a stage of the reading finds.
-pub enum Test {
-    Passed,
-    Failed(Refusal),
-}
-
-// The editions of the file format.
-pub enum Edition {
-    First,
-}
-
-// The newest edition.
-pub const LATEST: Edition = Edition::First;
-
-// A section of the file. Nodes are held against the number of operators.
-pub enum Section {
-    Operators(Edition),
-    Atoms(Edition),
-    Nodes(usize),
 }
 
 // Reads a policy file of the newest edition.
@@ -128,7 +47,7 @@ pub fn read(file: &[u32]) -> Reading
 pub fn read_as(file: &[u32], edition: Edition) -> Reading
     ensures { λ r. ⌜ r ≡ readAs edition (now (file .entry)) ⌝ }
 {
-    let found = sections::header_fault(file, edition);
+    let found = header_fault(file, edition);
     if let Test::Failed(r) = found {
         return Reading::Refused(r);
     }
@@ -141,11 +60,11 @@ fn read_operators(file: &[u32], edition: Edition, at: usize) -> Reading
     ensures { λ r. ⌜ r ≡ withOperators edition (now (file .entry)) at ⌝ }
 {
     let section = Section::Operators(edition);
-    let found = sections::section_fault(file, at, section);
+    let found = section_fault(file, at, section);
     if let Test::Failed(r) = found {
         return Reading::Refused(r);
     }
-    let a = sections::wide(word(file, at));
+    let a = wide(word(file, at));
     read_atoms(file, edition, at, a, behind(at, section, a))
 }
 
@@ -155,11 +74,11 @@ fn read_atoms(file: &[u32], edition: Edition, h: usize, a: usize, at: usize) -> 
     ensures { λ r. ⌜ r ≡ withAtoms edition (now (file .entry)) h a at ⌝ }
 {
     let section = Section::Atoms(edition);
-    let found = sections::section_fault(file, at, section);
+    let found = section_fault(file, at, section);
     if let Test::Failed(r) = found {
         return Reading::Refused(r);
     }
-    let b = sections::wide(word(file, at));
+    let b = wide(word(file, at));
     read_nodes(file, edition, h, a, b, behind(at, section, b))
 }
 
@@ -168,11 +87,11 @@ fn read_nodes(file: &[u32], edition: Edition, h: usize, a: usize, b: usize, at: 
     requires { ⌜ Reaches edition (now file) h a at ⌝ }
     ensures { λ r. ⌜ r ≡ withNodes edition (now (file .entry)) h a b at ⌝ }
 {
-    let found = sections::section_fault(file, at, Section::Nodes(a));
+    let found = section_fault(file, at, Section::Nodes(a));
     if let Test::Failed(r) = found {
         return Reading::Refused(r);
     }
-    read_whole(file, edition, h, a, b, sections::wide(word(file, at)), at)
+    read_whole(file, edition, h, a, b, wide(word(file, at)), at)
 }
 
 // What is tested once all three sections are good.
@@ -218,5 +137,5 @@ fn extra_fault(file: &[u32], at: usize, a: usize, c: usize) -> Test
     ensures { λ r. ⌜ r ≡ extraFault (now (file .entry)) (behind at (Section.Nodes a) c) ⌝ }
 {
     let end = behind(at, Section::Nodes(a), c);
-    sections::unless(file.len() <= end, EXTRA_WORDS, end)
+    unless(file.len() <= end, EXTRA_WORDS, end)
 }

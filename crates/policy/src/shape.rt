@@ -3,17 +3,17 @@ ghost use mathlib.Core.Path.{_≡_};
 ghost use Prim.Native.Nat.{_+_, _-_, _*_, _≤_, _<_};
 ghost use lib.ListN.{length, getD, drop, set};
 ghost use Rattle.words.specs.Records.{records};
-ghost use Rattle.policy.specs.Numbers.{nodeLength, mostNodes, deepest};
+ghost use Rattle.section.specs.Numbers.{nodeLength, mostNodes, deepest};
 ghost use Rattle.policy.specs.Read.{waitingNodes, shapeFault, ownAtoms, sumFault};
 ghost use Rattle.policy.specs.Steps.{stacked};
-use crate::CHILDREN;
-use crate::NO_TREE;
-use crate::NODE_WORDS;
-use crate::OWN;
-use crate::Test;
-use crate::WRONG_SUM;
-use crate::sections::unless;
-use crate::sections::wide;
+use section::CHILDREN;
+use section::NO_TREE;
+use section::NODE_WORDS;
+use section::OWN;
+use section::Test;
+use section::WRONG_SUM;
+use section::unless;
+use section::wide;
 
 // The root has depth 1.
 const DEEPEST: usize = 16;

@@ -19,12 +19,13 @@ use Rattle.row.specs.Row.{rowLength, rightRow, wordsOf}
 use Rattle.action.specs.Laws.{lawSearch}
 use Rattle.action.specs.declared.Lawful.{Lawful}
 use Rattle.action.specs.declared.Lawful.the-variants.{Yes, Broken}
-use Rattle.policy.specs.Numbers.{lawBroken}
-use Rattle.policy.specs.Read.{plain, readOf}
+use Rattle.section.specs.Numbers.{lawBroken}
+use Rattle.refusal.specs.Plain.{plain}
+use Rattle.policy.specs.Read.{readOf}
 use Rattle.policy.specs.declared.Layout.{Layout}
 use Rattle.policy.specs.declared.Reading.{Reading}
 use Rattle.policy.specs.declared.Reading.the-variants as reading
-use Rattle.policy.specs.declared.Refusal.{Refusal}
+use Rattle.refusal.specs.declared.Refusal.{Refusal}
 use Rattle.policy.proofs.Refused.{refused-plain}
 use Rattle.policy.proofs.Order.{file-order}
 use Rattle.tree.proofs.Eval.{action-eval, action-refused, action-packet}

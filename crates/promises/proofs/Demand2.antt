@@ -15,14 +15,15 @@ use Rattle.action.specs.declared.Action.{Action}
 use Rattle.action.specs.declared.Law.{Law}
 use Rattle.action.specs.declared.Law.the-variants.{Unnamed, Commutativity, Associativity}
 use Rattle.action.proofs.Exact.{shown-in-range}
-use Rattle.policy.specs.Numbers.{nodeLength, lawBroken}
-use Rattle.policy.specs.Read.{readOf, innerOf, siblingOf, named, atomsAt, nodesAt, operatorRecords, nodeRecords}
+use Rattle.section.specs.Numbers.{nodeLength, lawBroken}
+use Rattle.policy.specs.Read.{readOf, named, atomsAt, nodesAt, operatorRecords, nodeRecords}
+use Rattle.section.specs.Sections.{innerOf, siblingOf}
 use Rattle.policy.specs.File.{operatorAt, allAtoms}
 use Rattle.policy.specs.WellFormed.{Otherwise, KeepsLaws, LawsKept}
 use Rattle.policy.specs.Theorems.{BrokenLaw}
 use Rattle.policy.specs.declared.Reading.the-variants.{Refused}
-use Rattle.policy.specs.declared.Refusal.{Refusal}
-use Rattle.policy.proofs.Passed.{named-by}
+use Rattle.refusal.specs.declared.Refusal.{Refusal}
+use Rattle.policy.proofs.Named.{named-by}
 use Rattle.policy.proofs.Accepted.{accepted-exactly, accepted-tree, accepted-atoms}
 use Rattle.policy.proofs.Refused.{refused-law, broken-refused}
 use Rattle.tree.proofs.Eval.{action-eval}

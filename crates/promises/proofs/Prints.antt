@@ -11,7 +11,7 @@ use borrow.Author.Tests.{le-ltb}
 use Rattle.logic.proofs.Tests.{by-test}
 use Rattle.words.specs.Bytes.{wordsIn}
 use Rattle.row.specs.Row.{rowLength}
-use Rattle.policy.specs.declared.Refusal.{Refusal}
+use Rattle.refusal.specs.declared.Refusal.{Refusal}
 use Rattle.compile.specs.Compile.{noRoom, room, compiledRows, answerOf}
 use Rattle.compile.specs.declared.Compiled.{Compiled}
 use Rattle.compile.specs.declared.Compiled.the-variants.{Rows, Refused}

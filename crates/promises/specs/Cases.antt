@@ -13,8 +13,9 @@ use Rattle.action.specs.Operator.{join, sibling, parent}
 use Rattle.action.specs.declared.Action.the-variants.{DontCare, Allow, Deny, Gmb}
 use Rattle.action.specs.declared.Law.the-variants.{Commutativity, Associativity}
 use Rattle.row.specs.Row.{rowLength}
-use Rattle.policy.specs.Numbers.{short, lawBroken}
-use Rattle.policy.specs.Read.{plain, readOf}
+use Rattle.section.specs.Numbers.{short, lawBroken}
+use Rattle.refusal.specs.Plain.{plain}
+use Rattle.policy.specs.Read.{readOf}
 use Rattle.policy.specs.Examples.{tenant, tenantWith, lone, lopsided}
 use Rattle.policy.specs.declared.Reading.the-variants as reading
 use Rattle.tree.specs.Action.{actionOf}

@@ -24,14 +24,16 @@ use Rattle.action.specs.Laws.{lawSearch, Shows}
 use Rattle.action.specs.declared.Action.{Action}
 use Rattle.action.specs.declared.Action.the-variants.{DontCare}
 use Rattle.row.specs.Row.{rowLength, rightRow, wordsOf, rowsIn}
-use Rattle.policy.specs.Numbers.{lawBroken}
-use Rattle.policy.specs.Read.{plain, readOf, innerOf, siblingOf, operatorRecords, nodeRecords}
+use Rattle.section.specs.Numbers.{lawBroken}
+use Rattle.refusal.specs.Plain.{plain}
+use Rattle.policy.specs.Read.{readOf, operatorRecords, nodeRecords}
+use Rattle.section.specs.Sections.{innerOf, siblingOf}
 use Rattle.policy.specs.File.{operatorAt, atomsOf, treeOf, allAtoms}
 use Rattle.policy.specs.WellFormed.{Otherwise, WellFormed}
 use Rattle.policy.specs.Order.{FileOrder}
 use Rattle.policy.specs.declared.Layout.{Layout}
 use Rattle.policy.specs.declared.Reading.the-variants as reading
-use Rattle.policy.specs.declared.Refusal.{Refusal}
+use Rattle.refusal.specs.declared.Refusal.{Refusal}
 use Rattle.tree.specs.Action.{evalTree, actionOf}
 use Rattle.tree.specs.declared.Evaluated.the-variants as evaluated
 use Rattle.table.specs.Table.{wrongTable, wrongRow, rowCount, past, rightLength, checkOf, rowAt, RightTable}

@@ -18,11 +18,11 @@ use Rattle.action.specs.declared.Action.{Action}
 use Rattle.action.specs.declared.Action.the-variants.{DontCare}
 use Rattle.action.specs.declared.Lawful.{Lawful}
 use Rattle.action.specs.declared.Lawful.the-variants.{Yes, Broken}
-use Rattle.policy.specs.Numbers.{lawBroken}
+use Rattle.section.specs.Numbers.{lawBroken}
 use Rattle.policy.specs.Read as policy
-use Rattle.policy.specs.Read.{plain}
+use Rattle.refusal.specs.Plain.{plain}
 use Rattle.policy.specs.declared.Reading.{Reading}
-use Rattle.policy.specs.declared.Refusal.{Refusal}
+use Rattle.refusal.specs.declared.Refusal.{Refusal}
 use Rattle.tree.specs.Action as tree
 use Rattle.tree.specs.declared.Evaluated.{Evaluated}
 use Rattle.table.specs.Scan.{scanNumber, scanPlace, scanAction, scanTried}

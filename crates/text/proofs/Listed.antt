@@ -15,8 +15,8 @@ use Rattle.words.proofs.Bytes.{length-words}
 use Rattle.row.specs.Row.{rowLength, mostRows, rowsIn}
 use Rattle.table.specs.Table.{rowCount}
 use Rattle.table.proofs.Tables.{check-exactly}
-use Rattle.policy.specs.Numbers.{longestFile}
-use Rattle.policy.specs.declared.Refusal.{Refusal}
+use Rattle.section.specs.Numbers.{longestFile}
+use Rattle.refusal.specs.declared.Refusal.{Refusal}
 use Rattle.compile.specs.Compile.{answerOf, tableAfter, Compiles, tableRows}
 use Rattle.compile.specs.declared.Compiled.{Compiled}
 use Rattle.compile.specs.declared.Compiled.the-variants.{Rows}

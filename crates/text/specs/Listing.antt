@@ -24,7 +24,7 @@ use Rattle.action.specs.declared.Action.{Action}
 use Rattle.words.specs.Bytes.{wordBytes, wordsIn}
 use Rattle.row.specs.Row.{rowLength, rowsIn}
 use Rattle.table.specs.Table.{rowCount}
-use Rattle.policy.specs.Numbers.{longestFile}
+use Rattle.section.specs.Numbers.{longestFile}
 use Rattle.compile.specs.Compile.{answerOf, tableAfter, tableRows}
 use Rattle.compile.specs.declared.Compiled.{Compiled}
 use Rattle.compile.specs.declared.Compiled.the-variants as compiled

@@ -21,7 +21,7 @@ use Rattle.table.specs.Table.{checkOf}
 use Rattle.table.specs.declared.Checked.the-variants as checked
 use Rattle.action.specs.Operator.{sibling}
 use Rattle.policy.specs.Examples.{tenant, tenantWith, lone}
-use Rattle.policy.specs.declared.Refusal.{Refusal}
+use Rattle.refusal.specs.declared.Refusal.{Refusal}
 use Rattle.compile.specs.Compile.{answerOf, tableAfter, tableRows}
 use Rattle.compile.specs.declared.Compiled.the-variants.{Rows, Refused}
 use Rattle.priority.specs.Numbering.{levelsOf, prioritiesOf}

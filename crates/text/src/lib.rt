@@ -11,10 +11,10 @@ use compile::compile;
 use line::put_head;
 use line::put_line;
 use line::put_refusal;
-use policy::LONGEST_FILE;
 use priority::Numbered;
 use priority::number;
 use row::ROW_WORDS;
+use section::LONGEST_FILE;
 use words::WORD_BYTES;
 use words::from_bytes;
 

@@ -6,12 +6,13 @@ use mathlib.Core.List.{List}
 use Rattle.flow.specs.Packet.{packetOf, rightPacketWords, wrongPacket}
 use Rattle.flow.specs.declared.Packet.{Packet}
 use Rattle.action.specs.declared.Action.{Action}
-use Rattle.policy.specs.Read.{plain, readOf}
+use Rattle.refusal.specs.Plain.{plain}
+use Rattle.policy.specs.Read.{readOf}
 use Rattle.policy.specs.File.{treeOf}
 use Rattle.policy.specs.declared.Layout.{Layout}
 use Rattle.policy.specs.declared.Reading.{Reading}
 use Rattle.policy.specs.declared.Reading.the-variants.{Accepted, Refused}
-use Rattle.policy.specs.declared.Refusal.{Refusal}
+use Rattle.refusal.specs.declared.Refusal.{Refusal}
 use Rattle.nodes.specs.Nodes.{rootSpot}
 use Rattle.nodes.specs.declared.Spot.{Spot}
 use Rattle.nodes.proofs.Walk.{root-tree}

@@ -8,7 +8,7 @@ use Rattle.flow.specs.declared.Packet.{Packet}
 use Rattle.action.specs.Operator.{join}
 use Rattle.action.specs.declared.Action.{Action}
 use Rattle.action.specs.declared.Action.the-variants.{DontCare}
-use Rattle.policy.specs.Numbers.{atomLength}
+use Rattle.section.specs.Numbers.{atomLength}
 use Rattle.policy.specs.File.{PolicyTree}
 use Rattle.nodes.specs.Nodes.{nodeAt, cellsAt, atomsAt}
 use Rattle.nodes.specs.Walk.{Reached}

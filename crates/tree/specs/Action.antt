@@ -10,12 +10,13 @@ use Rattle.flow.specs.declared.Packet.{Packet}
 use Rattle.action.specs.Operator.{join}
 use Rattle.action.specs.declared.Action.{Action}
 use Rattle.action.specs.declared.Action.the-variants.{DontCare}
-use Rattle.policy.specs.Read.{plain, readOf}
+use Rattle.refusal.specs.Plain.{plain}
+use Rattle.policy.specs.Read.{readOf}
 use Rattle.policy.specs.File.{PolicyTree, treeOf}
 use Rattle.policy.specs.declared.Layout.{Layout}
 use Rattle.policy.specs.declared.Reading.{Reading}
 use Rattle.policy.specs.declared.Reading.the-variants.{Accepted, Refused}
-use Rattle.policy.specs.declared.Refusal.{Refusal}
+use Rattle.refusal.specs.declared.Refusal.{Refusal}
 use Rattle.tree.specs.declared.Evaluated.{Evaluated}
 use Rattle.tree.specs.declared.Evaluated.the-variants as evaluated
 

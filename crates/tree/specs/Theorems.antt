@@ -4,10 +4,11 @@ use mathlib.Core.Path.{_≡_}
 use mathlib.Core.Bool.{true, false}
 use mathlib.Core.List.{List}
 use Rattle.flow.specs.Packet.{packetOf, rightPacketWords, wrongPacket}
-use Rattle.policy.specs.Read.{plain, readOf}
+use Rattle.refusal.specs.Plain.{plain}
+use Rattle.policy.specs.Read.{readOf}
 use Rattle.policy.specs.File.{treeOf}
 use Rattle.policy.specs.declared.Layout.{Layout}
-use Rattle.policy.specs.declared.Refusal.{Refusal}
+use Rattle.refusal.specs.declared.Refusal.{Refusal}
 use Rattle.policy.specs.declared.Reading.the-variants.{Accepted, Refused}
 use Rattle.tree.specs.Action.{evalTree, actionOf}
 use Rattle.tree.specs.declared.Evaluated.the-variants as evaluated

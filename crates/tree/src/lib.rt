@@ -10,7 +10,6 @@ ghost use Rattle.row.specs.Row.{rowLength};
 ghost use Rattle.tree.specs.Action.{actionOf, acceptedAction};
 ghost use Rattle.tree.specs.Steps.{ownAction, withAtom, TreeGave, ChildrenGave};
 use action::Action;
-use action::Law;
 use flow::Packet;
 use flow::WRONG_PACKET;
 use flow::meets;
@@ -22,13 +21,14 @@ use nodes::atoms_at;
 use nodes::join_at;
 use nodes::node_at;
 use nodes::root;
-use policy::ATOM_WORDS;
 use policy::Layout;
 use policy::Reading;
-use policy::Refusal;
 use policy::read;
+use refusal::Refusal;
+use refusal::plain;
 use row::ROW_WORDS;
 use row::row_action;
+use section::ATOM_WORDS;
 
 pub enum Evaluated {
     Gives(Action),
@@ -62,14 +62,7 @@ fn accepted_action(file: &[u32], layout: Layout, packet: &[u32]) -> Evaluated
         let action = gave.action;
         Evaluated::Gives(action)
     } else {
-        Evaluated::Refused(Refusal {
-            number: WRONG_PACKET,
-            place: 0,
-            law: Law::Unnamed,
-            first: Action::DONT_CARE,
-            second: Action::DONT_CARE,
-            third: Action::DONT_CARE,
-        })
+        Evaluated::Refused(plain(WRONG_PACKET, 0))
     }
 }
 

@@ -7,7 +7,7 @@ use denote.Ref.{now}
 use Rattle.policy.specs.Read.{stages, readAs}
 use Rattle.policy.specs.Steps.{fromOperators, withOperators, fromHeader}
 use Rattle.policy.proofs.Chain.{stop, go, carry-place}
-use Rattle.policy.proofs.Passed.{header-long}
+use Rattle.section.proofs.Passed.{header-long}
 use Rattle.policy.proofs.read_as.Statement.{statement}
 use Rattle.policy.proofs.read_as.Tie as tie
 

@@ -5,7 +5,7 @@ use native.Mathlib.Omega.{arith}
 use denote.Ref.{now}
 use Rattle.policy.specs.Steps.{withWhole, fromNodes, withNodes}
 use Rattle.policy.proofs.Chain.{stop, go, carry}
-use Rattle.policy.proofs.Records.{section-bounds}
+use Rattle.section.proofs.Records.{section-bounds}
 use Rattle.policy.proofs.read_nodes.Statement.{statement}
 use Rattle.policy.proofs.read_nodes.Tie as tie
 

@@ -18,9 +18,9 @@ returns c =
     (root-gave _ _ (start .pre) _ (c .before .before .root .ensures) _ (c .before .read-packet .ensures) (c .subtree .ensures))
 
 returns-2 : tie.Need-returns-2
-returns-2 c = accepted-refuses _ _ _ _ (c .before .right-packet-words .ensures) (c .if1 .left)
+returns-2 c = rw (c .plain .ensures) (accepted-refuses _ _ _ _ (c .before .before .right-packet-words .ensures) (c .before .if1 .left))
 
 pub accepted-action-spec : {M : Type 1} → statement M
 accepted-action-spec =
     tie.close
-    (tie.spec (search needs) (search needs) (search needs) subtree-requires returns returns-2)
+    (tie.spec (search needs) (search needs) (search needs) subtree-requires (search needs) returns returns-2)

@@ -7,7 +7,7 @@ use mathlib.Core.Path.{_≡_, refl}
 use denote.Ref.{now}
 use lib.ListN.{length, drop}
 use Rattle.words.specs.Records.{records}
-use Rattle.policy.specs.Numbers.{nodeLength}
+use Rattle.section.specs.Numbers.{nodeLength}
 use Rattle.policy.specs.Read.{named}
 use Rattle.policy.proofs.Nodes.{named-here, named-later, not-named}
 use Rattle.policy.proofs.laws.is_named.Statement.{statement}

@@ -7,11 +7,11 @@ use mathlib.Core.Path.{_≡_, refl, ap, _∙_}
 use denote.Ref.{now}
 use lib.ListN.{length, drop}
 use Rattle.words.specs.Records.{records}
-use Rattle.policy.specs.Numbers.{nodeLength, mostOperators}
-use Rattle.policy.specs.Cells.{operatorRows}
+use Rattle.section.specs.Numbers.{nodeLength, mostOperators}
+use Rattle.section.specs.Cells.{operatorRows}
 use Rattle.policy.specs.Read.{lawsFrom, lawsFault}
 use Rattle.policy.proofs.Nodes.{law-broken, law-kept, laws-kept}
-use Rattle.policy.proofs.Records.{fits}
+use Rattle.section.proofs.Records.{fits}
 use Rattle.policy.proofs.laws.laws_fault.Statement.{statement}
 use Rattle.policy.proofs.laws.laws_fault.Tie as tie
 

@@ -7,7 +7,7 @@ use mathlib.Core.Path.{_≡_}
 use denote.Ref.{now}
 use lib.ListN.{length, drop}
 use Rattle.words.specs.Records.{records}
-use Rattle.policy.specs.Numbers.{nodeLength, mostNodes}
+use Rattle.section.specs.Numbers.{nodeLength, mostNodes}
 use Rattle.policy.specs.Read.{ownAtoms}
 use Rattle.policy.proofs.Nodes.{more-atoms, all-atoms}
 use Rattle.policy.proofs.shape.own_atoms.Statement.{statement}

@@ -4,7 +4,7 @@ use borrow.Author.Needs.{needs}
 use native.Mathlib.Omega.{arith}
 use Prim.Native.Nat.{suc, _≤_}
 use mathlib.Core.Path.{_≡_, refl, sym, _∙_}
-use Rattle.policy.specs.Numbers.{deepest}
+use Rattle.section.specs.Numbers.{deepest}
 use Rattle.policy.specs.Read.{waitingNodes}
 use Rattle.policy.specs.Steps.{stacked}
 use Rattle.policy.proofs.Stack.{settle-on, settle-here, settle-none, positive}

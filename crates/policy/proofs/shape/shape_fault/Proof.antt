@@ -8,8 +8,9 @@ use denote.Ref.{now}
 use lib.ListN.{length, drop, length-set}
 use mathlib.Core.List.{map}
 use Rattle.words.specs.Records.{records}
-use Rattle.policy.specs.Numbers.{nodeLength, deepest}
-use Rattle.policy.specs.Read.{childrenOf, shape, shapeFault}
+use Rattle.section.specs.Numbers.{nodeLength, deepest}
+use Rattle.section.specs.Sections.{childrenOf}
+use Rattle.policy.specs.Read.{shape, shapeFault}
 use Rattle.policy.specs.Steps.{stacked}
 use Rattle.policy.proofs.Turns.{ended, too-deep, on, finished}
 use Rattle.policy.proofs.shape.shape_fault.Statement.{statement}

@@ -1,0 +1,5 @@
+pub mod Editions
+pub mod Lengths
+pub mod Records
+pub mod Passed
+pub mod Due
