@@ -25,7 +25,8 @@ use Rattle.refusal.specs.Plain.{plain}
 use Rattle.policy.specs.Read.{readOf, nodesAt, operatorRecords, atomRecords, nodeRecords}
 use Rattle.section.specs.Sections.{ownOf}
 use Rattle.policy.specs.Read as read
-use Rattle.policy.specs.File.{operatorAt, held, treeOf, atomsOf}
+use Rattle.whole.specs.Meaning.{operatorAt}
+use Rattle.policy.specs.File.{held, treeOf, atomsOf}
 use Rattle.section.specs.Due.{RightNode}
 use Rattle.policy.specs.declared.Layout.{Layout}
 use Rattle.refusal.specs.declared.Refusal.{Refusal}

@@ -17,9 +17,11 @@ use Rattle.action.specs.declared.Action.{Action}
 use Rattle.action.proofs.Cells.{cells-equal}
 use Rattle.section.specs.Numbers.{firstOperator, operatorLength, atomLength, nodeLength}
 use Rattle.section.specs.Sections.{innerOf, parentOf, siblingOf, ownOf, childrenOf}
-use Rattle.policy.specs.Read.{ownAtoms, nodesAt, endOf, operatorRecords}
+use Rattle.whole.specs.Whole.{ownAtoms}
+use Rattle.policy.specs.Read.{nodesAt, endOf, operatorRecords}
 use Rattle.policy.specs.Read as read
-use Rattle.policy.specs.File.{PolicyNode, operatorAt, nodeOf, held, atomsOf}
+use Rattle.policy.specs.File.{PolicyNode, nodeOf, held, atomsOf}
+use Rattle.whole.specs.Meaning.{operatorAt}
 use Rattle.section.specs.Due.{RightNode}
 use Rattle.policy.specs.WellFormed.{Otherwise}
 use Rattle.policy.proofs.Accepted.{accepted-exactly}

@@ -18,7 +18,8 @@ use lib.ListN.{getD, take, drop}
 use Rattle.theory.specs.Tree.{Forest}
 use Rattle.theory.specs.Nodes.{Listed, takeTrees, dropTrees, plant}
 use Rattle.section.specs.Numbers.{headerLength, atomLength}
-use Rattle.policy.specs.Read.{ownAtoms, nodesAt, nodeRecords, layout, readOf}
+use Rattle.whole.specs.Whole.{ownAtoms}
+use Rattle.policy.specs.Read.{nodesAt, nodeRecords, layout, readOf}
 use Rattle.policy.specs.Read as read
 use Rattle.policy.specs.File.{PolicyNode, PolicyTree, fileNodes, firstTree}
 use Rattle.policy.specs.declared.Layout.{Layout}

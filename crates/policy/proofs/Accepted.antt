@@ -17,12 +17,13 @@ use Rattle.flow.specs.declared.Match.{Match}
 use Rattle.action.specs.declared.Action.{Action}
 use Rattle.section.specs.Numbers.{latest, headerLengthIn, operatorLengthIn, atomLength, extraWords, wrongSum}
 use Rattle.section.specs.Sections.{headerFault, sectionFault, childrenOf, ownOf}
-use Rattle.policy.specs.Read.{shape, shapeFault, ownAtoms, sumFault, lawsFault, extraFault}
-use Rattle.policy.specs.Read.{atomsAtIn, nodesAtIn, endIn, operatorsIn, nodesIn, atomsAt, operatorRecords, atomRecords, nodeRecords}
+use Rattle.whole.specs.Whole.{shape, shapeFault, ownAtoms, sumFault, lawsFault}
+use Rattle.policy.specs.Read.{extraFault, atomsAtIn, nodesAtIn, endIn, operatorsIn, nodesIn, atomsAt, operatorRecords, atomRecords, nodeRecords}
 use Rattle.policy.specs.Read.{wholeStages, stages, layout, answer, readAs}
 use Rattle.section.specs.Cells.{operatorRows}
 use Rattle.policy.specs.File.{held, atomsOfIn, fileNodesIn, atomsOf, fileNodes, firstTree, treeOf, allAtoms}
-use Rattle.policy.specs.WellFormed.{OneTree, OtherwiseIn, WellFormedIn}
+use Rattle.whole.specs.Meaning.{OneTree}
+use Rattle.policy.specs.WellFormed.{OtherwiseIn, WellFormedIn}
 use Rattle.policy.specs.Order.{GoodSections}
 use Rattle.policy.specs.Theorems.{AcceptedAs, AcceptedExactly, AcceptedTree, AcceptedAtoms}
 use Rattle.section.specs.declared.Edition.{Edition}
@@ -32,9 +33,9 @@ use Rattle.section.specs.declared.Section.the-variants.{Operators, Atoms, Nodes
 use Rattle.section.specs.declared.Test.{Test}
 use Rattle.section.specs.declared.Test.the-variants.{Passed, Failed}
 use Rattle.section.proofs.Records.{unless-true}
-use Rattle.policy.proofs.Trees.{shape-one-tree, one-tree-shape, one-tree-planted}
+use Rattle.whole.proofs.Trees.{shape-one-tree, one-tree-shape, one-tree-planted}
 use Rattle.section.proofs.Passed.{header-passed, passed-header, good-passed, passed-good}
-use Rattle.policy.proofs.Named.{operators-many, right-operators, laws-kept, kept-laws}
+use Rattle.whole.proofs.Named.{operators-many, right-operators, laws-kept, kept-laws}
 
 -- the stages that are passed, each by its name
 pub record Stages (e : Edition) (f : List ℕ) (a b c : ℕ) : Type 0 where

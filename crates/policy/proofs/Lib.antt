@@ -1,11 +1,5 @@
-pub mod Nodes
-pub mod Stack
-pub mod Turns
 pub mod Chain
-pub mod Trees
-pub mod Named
 pub mod Accepted
 pub mod Refused
 pub mod Parts
-pub mod Depths
 pub mod Order

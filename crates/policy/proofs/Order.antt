@@ -10,29 +10,28 @@ use lib.ListN.{getD, length, drop, length-map}
 use borrow.Author.Tests.{le-leb, lt-leb, eqb-true, eqb-false, ne-eqb}
 use Rattle.words.proofs.Records.{length-records}
 use Rattle.action.specs.Operator.{RightCodes}
-use Rattle.section.specs.Numbers.{headerLengthIn, operatorLengthIn, nodeLength, extraWords}
-use Rattle.section.specs.Numbers.{noTree, wrongSum, lawBroken}
+use Rattle.section.specs.Numbers.{headerLengthIn, operatorLengthIn, nodeLength, extraWords, noTree, wrongSum, lawBroken}
 use Rattle.section.specs.Cells.{operatorRows}
 use Rattle.refusal.specs.Plain.{plain}
 use Rattle.section.specs.Sections.{childrenOf}
-use Rattle.policy.specs.Read.{shape, shapeFault, ownAtoms, sumFault, lawsFrom}
+use Rattle.whole.specs.Whole.{shape, shapeFault, ownAtoms, sumFault, lawsFrom}
 use Rattle.policy.specs.Read.{atomsAtIn, nodesAtIn, endIn, operatorsIn, nodesIn, wholeStages, stages, layout, answer, readAs, numbered}
 use Rattle.policy.specs.Steps.{withWhole}
-use Rattle.policy.specs.File.{operatorAt, fileNodesIn}
+use Rattle.whole.specs.Meaning.{operatorAt, OneTree, ended, HasPlace}
+use Rattle.policy.specs.File.{fileNodesIn}
 use Rattle.section.specs.Due.{RightNode}
-use Rattle.policy.specs.WellFormed.{OneTree, OtherwiseIn, WellFormedIn}
-use Rattle.policy.specs.Order.{ended, HasPlace, childCountsIn, GoodSections, Due, in-header, in-operators, in-atoms, in-nodes, extra, no-place}
-use Rattle.policy.specs.Order.{missing, sum, FileOrder}
+use Rattle.policy.specs.WellFormed.{OtherwiseIn, WellFormedIn}
+use Rattle.policy.specs.Order.{childCountsIn, GoodSections, Due, in-header, in-operators, in-atoms, in-nodes, extra, no-place, missing, sum, FileOrder}
 use Rattle.section.specs.declared.Edition.{Edition}
 use Rattle.policy.specs.declared.Reading.the-variants.{Accepted, Refused}
 use Rattle.section.specs.declared.Section.the-variants.{Operators, Atoms, Nodes}
 use Rattle.section.specs.declared.Test.the-variants.{Passed, Failed}
 use Rattle.section.proofs.Passed.{passed-header, good-passed}
-use Rattle.policy.proofs.Named.{operators-many, right-operators, laws-kept, kept-laws}
-use Rattle.policy.proofs.Trees.{shape-one-tree, one-tree-shape}
+use Rattle.whole.proofs.Named.{operators-many, right-operators, laws-kept, kept-laws}
+use Rattle.whole.proofs.Trees.{shape-one-tree, one-tree-shape}
 use Rattle.policy.proofs.Accepted.{children-shape, good-otherwise, accepted-as}
 use Rattle.policy.proofs.Refused.{refused-law-as, broken-refused-as}
-use Rattle.policy.proofs.Depths.{shape-first, shape-places, has-place}
+use Rattle.whole.proofs.Depths.{shape-first, shape-places, has-place}
 use Rattle.logic.proofs.Tests.{by-test, by-le}
 use Rattle.section.proofs.Due.{first-wrong, passed-or-not, section-due, section-cases, header-due, header-cases}
 

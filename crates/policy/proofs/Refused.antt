@@ -19,12 +19,11 @@ use Rattle.section.specs.Numbers.{wrongAction, wrongNode, extraWords, noTree, w
 use Rattle.refusal.specs.Plain.{plain}
 use Rattle.section.specs.Sections.{unless, _else_, each, recordLength, least, most, headerFault, countFault, cellsFrom, cellsFault, atomFault}
 use Rattle.section.specs.Sections.{nodeFault, recordFault, behind, sectionFault, innerOf, parentOf, siblingOf, ownOf, childrenOf}
-use Rattle.policy.specs.Read.{waitingNodes, oneLess, shape}
-use Rattle.policy.specs.Read.{shapeFault, ownAtoms, sumFault, named, broken, operatorFault, lawsFrom, lawsFault, atomsAtIn, nodesAtIn, endIn}
-use Rattle.policy.specs.Read.{operatorsIn, nodesIn, extraFault, wholeStages, stages, layout, answer, readAs}
+use Rattle.whole.specs.Whole.{waitingNodes, oneLess, shape, shapeFault, ownAtoms, sumFault, named, broken, operatorFault, lawsFrom, lawsFault}
+use Rattle.policy.specs.Read.{atomsAtIn, nodesAtIn, endIn, operatorsIn, nodesIn, extraFault, wholeStages, stages, layout, answer, readAs}
 use Rattle.section.specs.Atom.{rightAtomMatch, rightAtomAction}
 use Rattle.section.specs.Cells.{rightCellIn, operatorRows}
-use Rattle.policy.specs.File.{operatorAt}
+use Rattle.whole.specs.Meaning.{operatorAt}
 use Rattle.policy.specs.WellFormed.{OtherwiseIn}
 use Rattle.policy.specs.Theorems.{RefusedLawAs, RefusedLaw, BrokenRefusedAs, BrokenRefused, RefusedPlainAs, RefusedPlain}
 use Rattle.section.specs.declared.Edition.{Edition}
@@ -36,7 +35,7 @@ use Rattle.section.specs.declared.Section.{Section}
 use Rattle.section.specs.declared.Section.the-variants.{Operators, Atoms, Nodes}
 use Rattle.section.specs.declared.Test.{Test}
 use Rattle.section.specs.declared.Test.the-variants.{Passed, Failed}
-use Rattle.policy.proofs.Named.{operators-many, right-operators, laws-kept, unbroken}
+use Rattle.whole.proofs.Named.{operators-many, right-operators, laws-kept, unbroken}
 use Rattle.policy.proofs.Accepted.{AllPassed, Stages, otherwise-of, of-otherwise}
 use Rattle.logic.proofs.Tests.{by-test}
 use Rattle.action.specs.Operator.{cellsOf}

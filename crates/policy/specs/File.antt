@@ -9,13 +9,12 @@
 --   allAtoms                 the atoms of some nodes, one node's behind the other's
 use Prim.Native.Nat.{ℕ}
 use mathlib.Core.List.{List, [], _∷_, _++_, map}
-use lib.ListN.{getD, take, drop}
+use lib.ListN.{take, drop}
 use Rattle.theory.specs.Rows.{Row}
 use Rattle.theory.specs.Tree.{Tree, Forest, node, bare, _▸_, Node}
 use Rattle.theory.specs.Nodes.{Listed, plant}
 use Rattle.row.specs.Row.{rowOf}
 use Rattle.flow.specs.declared.Match.{Match}
-use Rattle.action.specs.Operator.{cellsOf}
 use Rattle.action.specs.declared.Action.{Action}
 use Rattle.section.specs.Numbers.{latest}
 use Rattle.section.specs.Atom.{atomRow}
@@ -24,6 +23,7 @@ use Rattle.section.specs.Sections.{innerOf, parentOf, siblingOf, ownOf, childre
 use Rattle.policy.specs.Read.{operatorsIn, atomsIn, nodesIn}
 use Rattle.section.specs.declared.Edition.{Edition}
 use Rattle.policy.specs.declared.Layout.{Layout}
+use Rattle.whole.specs.Meaning.{operatorAt}
 
 -- a node: its operators, each by its cells, and its atoms
 abbrev pub PolicyNode : Type 0
@@ -32,10 +32,6 @@ PolicyNode = Node (List ℕ) Match Action
 -- a tree of such nodes
 abbrev pub PolicyTree : Type 0
 PolicyTree = Tree PolicyNode
-
--- the cells of the operator at an index
-abbrev pub operatorAt : List (List ℕ) → ℕ → List ℕ
-operatorAt os i = cellsOf (getD os i [])
 
 -- a node, with its atoms off the front of those that are left
 abbrev pub nodeOf : List (List ℕ) → List (Row Match Action) → List ℕ → PolicyNode

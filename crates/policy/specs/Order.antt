@@ -1,53 +1,30 @@
 -- Which of the refusals 1 to 9 a file gets where several could be given, and at which place, in the words of the format
 -- and not by the stages of `readAs`: "Reading goes section by section: count, then the whole section present, then
 -- records in order (4 before 5); then 7, 8, 9, 10. In 8, nodes go in order: first whether the tree had already ended,
--- then depth." What is due to a section stands in the crate section, specs/Due.antt. See docs/FORMAT.md, "The policy file" and "Numbers a caller can get back".
+-- then depth." What is due to a section stands in the crate section, specs/Due.antt, and what place a tree has for a node in the crate whole. See docs/FORMAT.md, "The policy file" and "Numbers a caller can get back".
 --
---   lacking, ended           how many nodes are lacking behind some nodes; the tree has ended
---   nodesAbove, HasPlace     how many nodes are above the next one; the tree has a place for a node
 --   childCountsIn            the child counts of the nodes of a file of an edition
 --   GoodSections             the header and all three sections are good
 --   Due e f n at             the refusal n at a place is due to the file f of the edition e
 --   FileOrder                a file of any edition gets the refusal that is due
-use Prim.Native.Nat.{ℕ, zero, suc, _+_, _≤_, _<_}
+use Prim.Native.Nat.{ℕ, _<_}
 use mathlib.Core.Path.{_≡_}
-use mathlib.Core.Bool.{Bool, false, cond}
-use mathlib.Core.List.{List, [], _∷_, map}
+use mathlib.Core.Bool.{false}
+use mathlib.Core.List.{List, map}
 use mathlib.Core.Logic.{_↔_}
-use lib.Dec.{eqb}
-use lib.ListN.{length, take}
-use Rattle.section.specs.Numbers.{headerLengthIn, deepest}
-use Rattle.section.specs.Numbers.{extraWords, noTree, wrongSum}
+use lib.ListN.{length}
+use Rattle.section.specs.Numbers.{headerLengthIn, extraWords, noTree, wrongSum}
 use Rattle.refusal.specs.Plain.{plain}
 use Rattle.section.specs.Sections.{childrenOf}
-use Rattle.policy.specs.Read.{ownAtoms, readAs, atomsAtIn, nodesAtIn, endIn, nodesIn}
+use Rattle.whole.specs.Whole.{ownAtoms}
+use Rattle.policy.specs.Read.{readAs, atomsAtIn, nodesAtIn, endIn, nodesIn}
 use Rattle.policy.specs.File.{fileNodesIn}
 use Rattle.section.specs.Due.{RightHeader, FirstWrong, Good, SectionDue, HeaderDue}
-use Rattle.policy.specs.WellFormed.{OneTree, OtherwiseIn}
+use Rattle.whole.specs.Meaning.{OneTree, ended, HasPlace}
+use Rattle.policy.specs.WellFormed.{OtherwiseIn}
 use Rattle.section.specs.declared.Edition.{Edition}
 use Rattle.policy.specs.declared.Reading.the-variants.{Refused}
 use Rattle.section.specs.declared.Section.the-variants.{Operators, Atoms, Nodes}
-
--- how many nodes are lacking behind some nodes, given by their child counts, where n were lacking before them: each is
--- one that was lacking, and then its children are; once none is lacking the tree has ended, and none is from there on
-abbrev pub lacking : ℕ → List ℕ → ℕ
-lacking n [] = n
-lacking zero (k ∷ ks) = 0
-lacking (suc n) (k ∷ ks) = lacking (n + k) ks
-
--- the tree that begins with the first of some nodes has ended behind them
-abbrev pub ended : List ℕ → Bool
-ended ks = eqb (lacking 1 ks) 0
-
--- how many nodes are above the one behind some nodes: those of them whose tree has not ended before it
-abbrev pub nodesAbove : List ℕ → ℕ
-nodesAbove [] = 0
-nodesAbove (k ∷ ks) = cond (ended (k ∷ ks)) 0 1 + nodesAbove ks
-
--- the tree has a place for node i: it had not ended before it, and its depth, the nodes above it and itself, is allowed
-pub record HasPlace (ks : List ℕ) (i : ℕ) : Type 0 where
-  pub awaited : ended (take i ks) ≡ false
-  pub shallow : suc (nodesAbove (take i ks)) ≤ deepest
 
 -- the child counts of the nodes of a file of an edition
 abbrev pub childCountsIn : Edition → List ℕ → ℕ → ℕ → ℕ → List ℕ

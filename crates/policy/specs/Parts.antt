@@ -20,9 +20,10 @@ use Rattle.section.specs.Numbers.{headerOf, operatorLengthIn, atomLengthIn, nod
 use Rattle.section.specs.Numbers.{mostOperators, mostAtoms, mostNodes}
 use Rattle.section.specs.Atom.{atomRow, rightAtomMatch, rightAtomAction}
 use Rattle.section.specs.Cells.{rightCellIn, operatorRows}
-use Rattle.policy.specs.Read.{ownAtoms, operatorsIn, atomsIn, nodesIn, layout}
+use Rattle.whole.specs.Whole.{ownAtoms}
+use Rattle.policy.specs.Read.{operatorsIn, atomsIn, nodesIn, layout}
 use Rattle.policy.specs.File.{held}
-use Rattle.policy.specs.WellFormed.{OneTree, LawsKept}
+use Rattle.whole.specs.Meaning.{OneTree, LawsKept}
 use Rattle.section.specs.Due.{RightNode}
 use Rattle.section.specs.declared.Edition.{Edition}
 use Rattle.policy.specs.declared.Layout.{Layout}

@@ -2,26 +2,18 @@
 -- stages, or the layout.
 -- See docs/FORMAT.md, "The policy file" and "Numbers a caller can get back".
 --
---   shapeFault             the nodes are one tree, no deeper than allowed (8)
---   sumFault               the own-atom counts add up to the atoms (9)
---   lawsFault              the operators that some node names as inner or sibling keep the laws (10)
 --   extraFault             no words stand behind the last node (7)
 --   wholeStages            once the sections are good: the end, the tree, the sum and the laws
 --   stages, answer         all stages in order
 --   readAs, readOf         the answer, for an edition and for the newest
 --   numbered               the answer's number, place, law and actions
-use Prim.Native.Nat.{ℕ, zero, suc, _+_, pred}
-use mathlib.Core.Bool.{Bool, false, cond, _&&_, _||_}
-use mathlib.Core.List.{List, [], _∷_, map}
-use lib.Dec.{eqb, leb}
+use Prim.Native.Nat.{ℕ, _+_}
+use mathlib.Core.List.{List, [], _∷_}
+use lib.Dec.{leb}
 use lib.ListN.{getD, length, drop}
 use Rattle.words.specs.Records.{records}
-use Rattle.action.specs.Laws.{lawSearch}
-use Rattle.action.specs.declared.Lawful.{Lawful}
-use Rattle.action.specs.declared.Lawful.the-variants.{Yes, Broken}
 use Rattle.section.specs.Numbers.{latest, headerLengthIn, operatorLengthIn, atomLengthIn, nodeLength}
-use Rattle.section.specs.Numbers.{deepest}
-use Rattle.section.specs.Numbers.{extraWords, noTree, wrongSum, lawBroken}
+use Rattle.section.specs.Numbers.{extraWords}
 use Rattle.section.specs.Cells.{operatorRows}
 use Rattle.section.specs.declared.Edition.{Edition}
 use Rattle.policy.specs.declared.Layout.{Layout}
@@ -31,69 +23,9 @@ use Rattle.refusal.specs.declared.Refusal.{Refusal}
 use Rattle.section.specs.declared.Section.the-variants.{Operators, Atoms, Nodes}
 use Rattle.section.specs.declared.Test.{Test}
 use Rattle.section.specs.declared.Test.the-variants.{Passed, Failed}
-use Rattle.action.specs.Operator.{cellsOf}
-use Rattle.section.specs.Sections.{unless, _else_, headerFault, sectionFault, behind, innerOf, siblingOf, ownOf, childrenOf}
+use Rattle.section.specs.Sections.{unless, headerFault, sectionFault, behind}
 use Rattle.refusal.specs.Plain.{plain}
-
--- of the children still to come of each open node, the innermost first: those that wait for one
-abbrev pub waitingNodes : List ℕ → List ℕ
-waitingNodes [] = []
-waitingNodes (zero ∷ st) = waitingNodes st
-waitingNodes (suc n ∷ st) = suc n ∷ st
-
--- the innermost waits for one child less
-abbrev pub oneLess : List ℕ → List ℕ
-oneLess [] = []
-oneLess (n ∷ st) = pred n ∷ st
-
--- nodes in order, by their child counts: first whether the tree had already ended, then depth; at the end, whether
--- children are missing
-abbrev pub shape : List ℕ → List ℕ → ℕ → Test
-shape [] st i = unless (eqb (length (waitingNodes st)) 0) noTree i
-shape (k ∷ ks) st i =
-    cond (leb 1 (length (waitingNodes st)) && leb (length (waitingNodes st)) deepest)
-    (shape ks (k ∷ oneLess (waitingNodes st)) (suc i))
-    (Failed (plain noTree i))
-
--- the nodes are one tree, no deeper than allowed: one node is awaited, the root
-unfoldable pub shapeFault : List (List ℕ) → Test
-shapeFault ns = shape (map childrenOf ns) (1 ∷ []) 0
-
--- the sum of the own-atom counts
-abbrev pub ownAtoms : List (List ℕ) → ℕ
-ownAtoms [] = 0
-ownAtoms (r ∷ rs) = ownOf r + ownAtoms rs
-
--- it is the number of atoms
-unfoldable pub sumFault : List (List ℕ) → ℕ → Test
-sumFault ns b = unless (eqb (ownAtoms ns) b) wrongSum 0
-
--- a node names the operator i as inner or sibling
-abbrev pub names : ℕ → List ℕ → Bool
-names i r = eqb (innerOf r) i || eqb (siblingOf r) i
-
--- some node does
-abbrev pub named : ℕ → List (List ℕ) → Bool
-named i [] = false
-named i (r ∷ rs) = names i r || named i rs
-
--- the refusal for the operator i where the search found a broken law
-abbrev pub broken : ℕ → Lawful → Test
-broken i Yes = Passed
-broken i (Broken l a b c) = Failed (record { number = lawBroken; place = i; law = l; first = a; second = b; third = c })
-
--- the operator i keeps the laws, if some node names it
-unfoldable pub operatorFault : List (List ℕ) → ℕ → List ℕ → Test
-operatorFault ns i o = cond (named i ns) (broken i (lawSearch (cellsOf o))) Passed
-
--- operators by index, from the i-th on
-abbrev pub lawsFrom : List (List ℕ) → ℕ → List (List ℕ) → Test
-lawsFrom ns i [] = Passed
-lawsFrom ns i (o ∷ os) = _else_ (operatorFault ns i o) (lawsFrom ns (suc i) os)
-
--- all operators
-unfoldable pub lawsFault : List (List ℕ) → List (List ℕ) → Test
-lawsFault ns os = lawsFrom ns 0 os
+use Rattle.whole.specs.Whole.{shapeFault, sumFault, lawsFault}
 
 -- where the count of the atoms stands in a file of a operators
 abbrev pub atomsAtIn : Edition → ℕ → ℕ

@@ -1,18 +1,13 @@
 -- What the parts of `read` answer, for their own contracts: the stages that are left, the next count standing at a
--- place; and the stack that an array is.
-use Prim.Native.Nat.{ℕ, zero, suc, _≤_}
-use mathlib.Core.List.{List, [], _∷_}
-use lib.ListN.{getD, length}
-use Rattle.section.specs.Numbers.{mostOperators}
+-- place.
+use Prim.Native.Nat.{ℕ}
+use mathlib.Core.List.{List, _∷_}
+use lib.ListN.{getD}
 use Rattle.section.specs.Sections.{headerFault, behind, sectionFault}
 use Rattle.policy.specs.Read.{wholeStages, layout, answer}
 use Rattle.section.specs.declared.Edition.{Edition}
 use Rattle.policy.specs.declared.Reading.{Reading}
 use Rattle.section.specs.declared.Section.the-variants.{Operators, Atoms, Nodes}
-
--- a file reaches to a place, and its operators are there, whose count stands at h
-abbrev pub Reaches : Edition → List ℕ → ℕ → ℕ → ℕ → Type 0
-Reaches e f h a at = (a ≤ mostOperators) × (behind h (Operators e) a ≤ length f) × (at ≤ length f)
 
 -- all three sections are good: the count of the operators stands at h, that of the nodes at q
 unfoldable pub withWhole : Edition → List ℕ → ℕ → ℕ → ℕ → ℕ → ℕ → Reading
@@ -68,8 +63,3 @@ fromHeader e f h =
     ∷ sectionFault f q (Nodes a)
     ∷ wholeStages e f h a b c q)
     (layout a b c)
-
--- the stack that the first d entries of an array are, the last of them on top
-abbrev pub stacked : List ℕ → ℕ → List ℕ
-stacked w zero = []
-stacked w (suc d) = getD w d 0 ∷ stacked w d

@@ -9,11 +9,13 @@ use Rattle.theory.specs.Tree.{bare, _▸_}
 use Rattle.theory.specs.Nodes.{plant, listTree}
 use Rattle.action.specs.Laws.{Shows}
 use Rattle.section.specs.Numbers.{latest, deepest, lawBroken}
-use Rattle.policy.specs.Read.{operatorsIn, nodesIn, operatorRecords, nodeRecords, named, layout, readAs, readOf}
+use Rattle.policy.specs.Read.{operatorsIn, nodesIn, operatorRecords, nodeRecords, layout, readAs, readOf}
+use Rattle.whole.specs.Whole.{named}
 use Rattle.refusal.specs.Plain.{plain}
 use Rattle.section.specs.Cells.{operatorRows}
-use Rattle.policy.specs.File.{operatorAt, atomsOf, fileNodes, treeOf, allAtoms}
-use Rattle.policy.specs.WellFormed.{depth, OtherwiseIn, Otherwise, LawsKept, KeepsLaws, WellFormedIn, WellFormed}
+use Rattle.whole.specs.Meaning.{operatorAt, depth, LawsKept, KeepsLaws}
+use Rattle.policy.specs.File.{atomsOf, fileNodes, treeOf, allAtoms}
+use Rattle.policy.specs.WellFormed.{OtherwiseIn, Otherwise, WellFormedIn, WellFormed}
 use Rattle.policy.specs.Parts.{Parts, fileWordsIn, partsIn, layoutOfParts, RightPartsIn, LawfulPartsIn}
 use Rattle.section.specs.declared.Edition.{Edition}
 use Rattle.policy.specs.declared.Layout.{Layout}

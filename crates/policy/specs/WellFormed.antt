@@ -1,49 +1,23 @@
 -- When a policy file is well formed, in the words of the scope, without the order in which it is read. See
 -- docs/FORMAT.md, "The policy file".
 --
---   depth, depths        how deep a tree is; the deepest of some trees
---   OneTree              some nodes in file order are those of one tree, no deeper than allowed
---   KeepsLaws            an operator is commutative and associative over all actions with allowed rates
 --   WellFormedIn e f l   the file f of the edition e is well formed, with the layout l; WellFormed of the newest
-use Prim.Native.Nat.{ℕ, suc, _≤_, _<_, max}
+use Prim.Native.Nat.{ℕ, _<_}
 use mathlib.Core.Path.{_≡_}
 use mathlib.Core.Bool.{true}
 use mathlib.Core.List.{List, []}
 use lib.ListN.{getD, length}
-use Rattle.theory.specs.Tree.{Tree, Forest, node, bare, _▸_}
-use Rattle.theory.specs.Nodes.{Listed, listTree}
-use Rattle.action.specs.Laws.{Commutative, Associative}
 use Rattle.section.specs.Numbers.{latest, headerLengthIn, operatorLengthIn, atomLengthIn, nodeLength}
-use Rattle.section.specs.Numbers.{mostOperators, mostAtoms, mostNodes, deepest}
-use Rattle.section.specs.Sections.{innerOf, siblingOf}
-use Rattle.policy.specs.Read.{ownAtoms, atomsAtIn, nodesAtIn, endIn, operatorsIn, atomsIn, nodesIn}
-use Rattle.policy.specs.File.{operatorAt, fileNodesIn}
+use Rattle.section.specs.Numbers.{mostOperators, mostAtoms, mostNodes}
+use Rattle.whole.specs.Whole.{ownAtoms}
+use Rattle.policy.specs.Read.{atomsAtIn, nodesAtIn, endIn, operatorsIn, atomsIn, nodesIn}
+use Rattle.whole.specs.Meaning.{OneTree, LawsKept}
+use Rattle.policy.specs.File.{fileNodesIn}
 use Rattle.section.specs.Atom.{rightAtomMatch, rightAtomAction}
 use Rattle.section.specs.Cells.{rightCellIn, operatorRows}
 use Rattle.section.specs.declared.Edition.{Edition}
 use Rattle.policy.specs.declared.Layout.{Layout}
 use Rattle.section.specs.Due.{Present, RightHeader, RightNode}
-
-module _ {X : Type 0} where
-  abbrev mutual
-    -- how deep a tree is: a node without children is 1 deep
-    pub depth : Tree X → ℕ
-    depth (node x ts) = suc (depths ts)
-
-    -- the deepest of some trees
-    pub depths : Forest X → ℕ
-    depths bare = 0
-    depths (t ▸ ts) = max (depth t) (depths ts)
-
--- the nodes, parent first and then each child's whole subtree, are those of one tree
-pub record OneTree {X : Type 0} (ns : List (Listed X)) : Type 0 where
-  pub tree : Tree X
-  pub lists : listTree tree ≡ ns
-  pub shallow : depth tree ≤ deepest
-
--- an operator keeps both laws over all actions with allowed rates
-abbrev pub KeepsLaws : List ℕ → Type 0
-KeepsLaws o = Commutative o × Associative o
 
 -- a well-formed file of an edition, of a operators, b atoms and c nodes, but for the laws
 pub record OtherwiseIn (e : Edition) (f : List ℕ) (a b c : ℕ) : Type 0 where
@@ -59,11 +33,6 @@ pub record OtherwiseIn (e : Edition) (f : List ℕ) (a b c : ℕ) : Type 0 where
   pub ends : length f ≡ endIn e a b c
   pub one-tree : OneTree (fileNodesIn e f (record { operators = a; atoms = b; nodes = c }))
   pub all-taken : ownAtoms (nodesIn e f a b c) ≡ b
-
--- the operators that nodes name as inner or sibling keep the laws
-abbrev pub LawsKept : List (List ℕ) → List (List ℕ) → Type 0
-LawsKept os ns = (i : ℕ) → i < length ns
-    → KeepsLaws (operatorAt os (innerOf (getD ns i []))) × KeepsLaws (operatorAt os (siblingOf (getD ns i [])))
 
 -- a well-formed file of an edition
 pub record WellFormedIn (e : Edition) (f : List ℕ) (l : Layout) : Type 0 where

@@ -5,7 +5,8 @@ ghost use lib.ListN.{length};
 ghost use Rattle.section.specs.Numbers.{mostNodes};
 ghost use Rattle.section.specs.Sections.{behind};
 ghost use Rattle.policy.specs.Read.{extraFault, readAs, readOf};
-ghost use Rattle.policy.specs.Steps.{Reaches, withWhole, withNodes, withAtoms, withOperators};
+ghost use Rattle.section.specs.Sections.{Reaches};
+ghost use Rattle.policy.specs.Steps.{withWhole, withNodes, withAtoms, withOperators};
 use refusal::Refusal;
 use section::EXTRA_WORDS;
 use section::Edition;
@@ -18,10 +19,10 @@ use section::header_words;
 use section::section_fault;
 use section::unless;
 use section::wide;
+use whole::laws_fault;
+use whole::shape_fault;
+use whole::sum_fault;
 use words::word;
-
-mod laws;
-mod shape;
 
 // How many records each section of an accepted file has.
 pub struct Layout {
@@ -112,15 +113,15 @@ fn read_whole(
     if let Test::Failed(r) = extra {
         return Reading::Refused(r);
     }
-    let tree = shape::shape_fault(file, first, c);
+    let tree = shape_fault(file, first, c);
     if let Test::Failed(r) = tree {
         return Reading::Refused(r);
     }
-    let sum = shape::sum_fault(file, first, c, b);
+    let sum = sum_fault(file, first, c, b);
     if let Test::Failed(r) = sum {
         return Reading::Refused(r);
     }
-    let law = laws::laws_fault(file, edition, h, a, first, c);
+    let law = laws_fault(file, edition, h, a, first, c);
     if let Test::Failed(r) = law {
         return Reading::Refused(r);
     }

@@ -16,14 +16,16 @@ use Rattle.action.specs.declared.Law.{Law}
 use Rattle.action.specs.declared.Law.the-variants.{Unnamed, Commutativity, Associativity}
 use Rattle.action.proofs.Exact.{shown-in-range}
 use Rattle.section.specs.Numbers.{nodeLength, lawBroken}
-use Rattle.policy.specs.Read.{readOf, named, atomsAt, nodesAt, operatorRecords, nodeRecords}
+use Rattle.policy.specs.Read.{readOf, atomsAt, nodesAt, operatorRecords, nodeRecords}
+use Rattle.whole.specs.Whole.{named}
 use Rattle.section.specs.Sections.{innerOf, siblingOf}
-use Rattle.policy.specs.File.{operatorAt, allAtoms}
-use Rattle.policy.specs.WellFormed.{Otherwise, KeepsLaws, LawsKept}
+use Rattle.whole.specs.Meaning.{operatorAt, KeepsLaws, LawsKept}
+use Rattle.policy.specs.File.{allAtoms}
+use Rattle.policy.specs.WellFormed.{Otherwise}
 use Rattle.policy.specs.Theorems.{BrokenLaw}
 use Rattle.policy.specs.declared.Reading.the-variants.{Refused}
 use Rattle.refusal.specs.declared.Refusal.{Refusal}
-use Rattle.policy.proofs.Named.{named-by}
+use Rattle.whole.proofs.Named.{named-by}
 use Rattle.policy.proofs.Accepted.{accepted-exactly, accepted-tree, accepted-atoms}
 use Rattle.policy.proofs.Refused.{refused-law, broken-refused}
 use Rattle.tree.proofs.Eval.{action-eval}

@@ -22,7 +22,7 @@ use Rattle.policy.specs.File.{treeOf}
 use Rattle.policy.specs.WellFormed.{WellFormed}
 use Rattle.policy.specs.declared.Layout.{Layout}
 use Rattle.policy.specs.declared.Reading.the-variants.{Accepted}
-use Rattle.policy.proofs.Named.{right-codes}
+use Rattle.whole.proofs.Named.{right-codes}
 use Rattle.policy.proofs.Accepted.{accepted-exactly}
 use Rattle.compile.specs.Compile.{compiledRows, fine}
 use Rattle.compile.proofs.Answered.{every-fine, accepted-good}

@@ -28,7 +28,8 @@ use Rattle.section.specs.Numbers.{lawBroken}
 use Rattle.refusal.specs.Plain.{plain}
 use Rattle.policy.specs.Read.{readOf, operatorRecords, nodeRecords}
 use Rattle.section.specs.Sections.{innerOf, siblingOf}
-use Rattle.policy.specs.File.{operatorAt, atomsOf, treeOf, allAtoms}
+use Rattle.whole.specs.Meaning.{operatorAt}
+use Rattle.policy.specs.File.{atomsOf, treeOf, allAtoms}
 use Rattle.policy.specs.WellFormed.{Otherwise, WellFormed}
 use Rattle.policy.specs.Order.{FileOrder}
 use Rattle.policy.specs.declared.Layout.{Layout}

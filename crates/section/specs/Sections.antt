@@ -9,7 +9,8 @@
 --   recordFault            an operator's cells (3), an atom's match (4) and then its action (5), a node's words (6)
 --   behind                 where a section ends: the next one's count stands there
 --   sectionFault           the count, then the whole section (1), then its records in order
-use Prim.Native.Nat.{ℕ, suc, _+_, _*_}
+--   Reaches                a file reaches to a place, and its operators are there
+use Prim.Native.Nat.{ℕ, suc, _+_, _*_, _≤_}
 use mathlib.Core.Bool.{Bool, cond, _&&_}
 use mathlib.Core.List.{List, [], _∷_}
 use lib.Dec.{leb, ltb}
@@ -129,3 +130,7 @@ sectionFault f at s =
     _else_ (countFault f at s)
     (_else_ (unless (leb (behind at s n) (length f)) short (length f))
     (each (recordFault s) (at + 1) k (records n k (drop (at + 1) f))))
+
+-- a file reaches to a place, and its operators are there, whose count stands at h
+abbrev pub Reaches : Edition → List ℕ → ℕ → ℕ → ℕ → Type 0
+Reaches e f h a at = (a ≤ mostOperators) × (behind h (Operators e) a ≤ length f) × (at ≤ length f)

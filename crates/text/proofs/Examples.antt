@@ -10,7 +10,8 @@ use Rattle.action.specs.Operator.{coded, join, rightCell}
 use Rattle.action.specs.Laws.{commutes, associates, shown, pairs, triples, firstPair, firstTriple, lawSearch}
 use Rattle.row.specs.Row.{rowAction, rightRowMatch, rightRowAction, rightRow}
 use Rattle.section.specs.Sections.{countFault, cellsFault, atomFault, nodeFault, sectionFault}
-use Rattle.policy.specs.Read.{shapeFault, sumFault, operatorFault, lawsFault, wholeStages, stages, answer, readAs}
+use Rattle.whole.specs.Whole.{shapeFault, sumFault, operatorFault, lawsFault}
+use Rattle.policy.specs.Read.{wholeStages, stages, answer, readAs}
 use Rattle.table.specs.Table.{rightLength, checkRows, checkOf}
 use Rattle.priority.specs.Numbering.{over, levelsOf, numberOf}
 use Rattle.compile.specs.Compile.{compiledRows, answerOf, tableAfter}

@@ -1,0 +1,92 @@
+-- One turn of each walk over the nodes, and of that over the operators. Assumes nothing.
+use Prim.Native.Nat.{ℕ, zero, suc, _+_, _-_, _≤_, _<_}
+use native.Mathlib.Omega.{arith}
+use native.Mathlib.Numerals.{add-one}
+use mathlib.Core.Path.{_≡_, refl, sym, _∙_}
+use mathlib.Core.Bool.{Bool, true, false, _||_}
+use mathlib.Core.List.{List, [], _∷_}
+use lib.ListN.{getD, take, drop}
+use Rattle.action.specs.Operator.{cellsOf}
+use Rattle.action.specs.Laws.{lawSearch}
+use Rattle.action.specs.declared.Lawful.{Lawful}
+use Rattle.words.specs.Records.{records}
+use Rattle.words.proofs.Records.{records-next, record-word}
+use Rattle.section.specs.Sections.{_else_}
+use Rattle.whole.specs.Whole.{ownAtoms, names, named, broken, operatorFault, lawsFrom}
+use Rattle.section.specs.Cells.{operatorRow, operatorRows}
+use Rattle.section.specs.declared.Edition.{Edition}
+use Rattle.section.specs.declared.Edition.the-variants.{First}
+use Rattle.refusal.specs.declared.Refusal.{Refusal}
+use Rattle.section.specs.declared.Test.{Test}
+use Rattle.section.specs.declared.Test.the-variants.{Passed, Failed}
+
+-- sums
+module _ (from left sum v : ℕ) (f : List ℕ) (inv : sum + ownAtoms (records left 5 (drop from f)) ≡ v) where
+  pub more-atoms : (x : ℕ) → 0 < left → x ≡ getD f (from + 3) 0 → sum + x + ownAtoms (records (left - 1) 5 (drop (from + 5) f)) ≡ v
+  more-atoms x m e =
+      let s : ownAtoms (records left 5 (drop from f)) ≡ getD f (from + 3) 0 + ownAtoms (records (left - 1) 5 (drop (from + 5) f)) =
+      rw (records-next 5 from left f m, record-word 5 from 3 f (omega arith)) in
+      omega arith
+
+  pub all-atoms : left ≤ 0 → sum ≡ v
+  all-atoms m = none-left left m inv
+    where
+      none-left : (n : ℕ) → n ≤ 0 → sum + ownAtoms (records n 5 (drop from f)) ≡ v → sum ≡ v
+      none-left zero g e = omega arith
+      none-left (suc n) g e = absurd (omega arith)
+
+-- names
+module _ (i from left : ℕ) (f : List ℕ) (v : Bool) (inv : named i (records left 5 (drop from f)) ≡ v) where
+  module _ (m : 0 < left) (x : Bool) (e : x ≡ names i (take (from + 5 - from) (drop from f))) where
+    next-name : v ≡ (x || named i (records (left - 1) 5 (drop (from + 5) f)))
+    next-name = sym inv ∙ rw (records-next 5 from left f m, e)
+
+    pub named-here : x ≡ true → true ≡ v
+    named-here g = sym (next-name ∙ rw g)
+
+    pub named-later : x ≡ false → named i (records (left - 1) 5 (drop (from + 5) f)) ≡ v
+    named-later g = sym (next-name ∙ rw g)
+
+  pub not-named : left ≤ 0 → false ≡ v
+  not-named m = none-left left m inv
+    where
+      none-left : (n : ℕ) → n ≤ 0 → named i (records n 5 (drop from f)) ≡ v → false ≡ v
+      none-left zero g e = e
+      none-left (suc n) g e = absurd (omega arith)
+
+-- the first operator in its newest form, and the others
+operators-next : (ed : Edition) (r : List ℕ) (rs : List (List ℕ)) → operatorRows ed (r ∷ rs) ≡ operatorRow ed r ∷ operatorRows ed rs
+operators-next First r rs = refl
+
+operators-none : (ed : Edition) → operatorRows ed [] ≡ []
+operators-none First = refl
+
+-- laws
+module _ (ed : Edition) (ns : List (List ℕ)) (k i from left : ℕ) (f : List ℕ) (v : Test)
+    (inv : lawsFrom ns i (operatorRows ed (records left k (drop from f))) ≡ v) where
+  module _ (m : 0 < left) (x : Test) (e : x ≡ operatorFault ns i (operatorRow ed (take (from + k - from) (drop from f)))) where
+    next-law : v ≡ _else_ x (lawsFrom ns (i + 1) (operatorRows ed (records (left - 1) k (drop (from + k) f))))
+    next-law = sym inv ∙ rw
+        (records-next k from left f m, operators-next ed (take (from + k - from) (drop from f)) (records (left - 1) k (drop (from + k) f)), e, add-one i)
+
+    pub law-broken : (r : Refusal) → x ≡ Failed r → x ≡ v
+    law-broken r g = cc next-law
+
+    pub law-kept : x ≡ Passed → lawsFrom ns (i + 1) (operatorRows ed (records (left - 1) k (drop (from + k) f))) ≡ v
+    law-kept g = cc next-law
+
+  pub laws-kept : left ≤ 0 → Passed ≡ v
+  laws-kept m = none-left left m inv
+    where
+      none-left : (n : ℕ) → n ≤ 0 → lawsFrom ns i (operatorRows ed (records n k (drop from f))) ≡ v → Passed ≡ v
+      none-left zero g e = rw operators-none at e
+      none-left (suc n) g e = absurd (omega arith)
+
+module _ (ns : List (List ℕ)) (i : ℕ) (o : List ℕ) (t : Bool) (e : t ≡ named i ns) where
+  pub tested : (l : Lawful) (cells : List ℕ) (x : Test) → t ≡ true → cells ≡ cellsOf o → l ≡ lawSearch cells → x ≡ broken i l → x ≡ operatorFault ns i o
+  unfolding operatorFault
+  tested l cells x p q r s = s ∙ rw (r, q, ← e, p)
+
+  pub untested : t ≡ false → Passed ≡ operatorFault ns i o
+  unfolding operatorFault
+  untested p = rw (← e, p)
