@@ -50,6 +50,13 @@ use Rattle.row.proofs.words_of_row.Reads as words-of-row
 use Rattle.row.proofs.right_row.Reads as right-row
 use Rattle.row.proofs.right_row_match.Reads as right-row-match
 use Rattle.row.proofs.right_row_action.Reads as right-row-action
+use Rattle.refusal.proofs.plain.Reads as plain
+use Rattle.section.proofs.header_words.Reads as header-words
+use Rattle.section.proofs.operator_words.Reads as operator-words
+use Rattle.section.proofs.operator_in.Reads as operator-in
+use Rattle.section.proofs.header_fault.Reads as header-fault
+use Rattle.section.proofs.unless.Reads as unless
+use Rattle.section.proofs.wide.Reads as wide
 use Rattle.policy.proofs.read.Reads as read
 use Rattle.policy.proofs.read_as.Reads as read-as
 use Rattle.nodes.proofs.root.Reads as root
@@ -229,6 +236,29 @@ right-row-match-one = fixed (λ κ a r s p. p)
 
 right-row-action-one : OneAnswer right-row-action.Pre right-row-action.Post (λ κ r s. r)
 right-row-action-one = fixed (λ κ a r s p. p)
+
+-- refusal
+plain-one : OneAnswer plain.Pre plain.Post (λ κ r s. r)
+plain-one = fixed (λ κ a r s p. p)
+
+-- section
+header-words-one : OneAnswer header-words.Pre header-words.Post (λ κ r s. r)
+header-words-one = fixed (λ κ a r s p. p)
+
+operator-words-one : OneAnswer operator-words.Pre operator-words.Post (λ κ r s. r)
+operator-words-one = fixed (λ κ a r s p. p)
+
+operator-in-one : OneAnswer operator-in.Pre operator-in.Post (λ κ r s. r)
+operator-in-one = fixed (λ κ a r s p. ap (λ c. record { cells = c }) p)
+
+header-fault-one : OneAnswer header-fault.Pre header-fault.Post (λ κ r s. r)
+header-fault-one = fixed (λ κ a r s p. p)
+
+unless-one : OneAnswer unless.Pre unless.Post (λ κ r s. r)
+unless-one = fixed (λ κ a r s p. p)
+
+wide-one : OneAnswer wide.Pre wide.Post (λ κ r s. r)
+wide-one = fixed (λ κ a r s p. p)
 
 -- policy
 read-one : OneAnswer read.Pre read.Post (λ κ r s. r)
