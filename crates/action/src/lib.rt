@@ -6,6 +6,7 @@ ghost use Rattle.action.specs.Action.{kindOf, rateOf, actionOf, rightAct
 ghost use Rattle.action.specs.Operator.{kinds, cellsOf, coded, join, sibling, parent};
 ghost use Rattle.action.specs.Operator.{rateCells, largestIn, rightCell};
 ghost use Rattle.action.specs.Laws.{same, shown, firstPair, firstTriple, withThird, lawSearch};
+use words::larger;
 use words::word;
 
 // The largest rate, in kbit/s.
@@ -216,12 +217,6 @@ fn coded(code: u32, left: Action, right: Action) -> Action
         6 => Action::Gmb(smaller(m, n)),
         _ => Action::DONT_CARE,
     }
-}
-
-fn larger(m: u32, n: u32) -> u32
-    ensures { λ r. ⌜ r ≡ max m n ⌝ }
-{
-    if m < n { n } else { m }
 }
 
 fn smaller(m: u32, n: u32) -> u32

@@ -42,6 +42,7 @@ fn main() {
 // uses up.
 fn answer_all(a: &mut Words, b: &mut Words, c: &mut Words) {
     let mut turns = u64::MAX;
+    // Each turn answers a call, and leaves one turn less.
     while turns > 0 && answer(a, b, c) {
         turns -= 1;
     }

@@ -9,7 +9,7 @@ use Rattle.theory.specs.Tree.{Forest, _▸_, table}
 use Rattle.flow.specs.Match.{isEmpty, common}
 use Rattle.action.specs.Operator as operator
 use Rattle.policy.specs.File.{PolicyNode, PolicyTree}
-use Rattle.nodes.specs.Nodes.{nodeAt, cellsAt, atomsAt}
+use Rattle.nodes.specs.Nodes.{nodeAt, cellsAt, atomWordsAt}
 use Rattle.nodes.specs.Walk.{nextSpot, Reached, treeAt, childrenAt, AfterTree}
 use Rattle.nodes.specs.declared.NodeWords.{NodeWords}
 use Rattle.nodes.specs.declared.Spot.{Spot}
@@ -103,7 +103,7 @@ tree-words f s r h =
     let n : NodeWords = nodeAt f (s .left) in
     ap (λ (t : PolicyTree). wordsOf (compileTree t)) (tree-here f s r h)
     ∙ sym (join-flat (cellsAt f (n .parent))
-    (table common isEmpty operator.join (cellsAt f (n .inner)) (rowsIn (atomsAt f (s .atom) (n .own))))
+    (table common isEmpty operator.join (cellsAt f (n .inner)) (rowsIn (atomWordsAt f (s .atom) (n .own))))
     (compileTrees (childrenAt f (nextSpot f s) (n .children)) (cellsAt f (n .sibling))))
 
 -- the words of some children: the first's, joined with the others'
@@ -115,11 +115,11 @@ children-words f s k o ts e =
 
 -- THE ANSWERS OF THE WALK: a node's own rows
 module _ (f : List ℕ) (s : Spot) {a : ℕ} {old new : List ℕ} (n : NodeWords) {o atoms : List ℕ} {m : Made}
-    (e : n ≡ nodeAt f (s .left)) (u : o ≡ cellsAt f (n .inner)) (v : atoms ≡ atomsAt f (s .atom) (n .own)) (l : Lays a (ownWords o atoms) old new m) where
+    (e : n ≡ nodeAt f (s .left)) (u : o ≡ cellsAt f (n .inner)) (v : atoms ≡ atomWordsAt f (s .atom) (n .own)) (l : Lays a (ownWords o atoms) old new m) where
   own-lays : Lays a (ownAt f s) old new m
   own-lays =
       let words : ownWords o atoms ≡ ownAt f s =
-      ap₂ ownWords (u ∙ ap (λ (z : NodeWords). cellsAt f (z .inner)) e) (v ∙ ap (λ (z : NodeWords). atomsAt f (s .atom) (z .own)) e) in
+      ap₂ ownWords (u ∙ ap (λ (z : NodeWords). cellsAt f (z .inner)) e) (v ∙ ap (λ (z : NodeWords). atomWordsAt f (s .atom) (z .own)) e) in
       subst (λ x. Lays a x old new m) words l
 
   pub node-full : m ≡ Full → NodeBuilt f s a old new built.Full

@@ -17,7 +17,7 @@ use Rattle.flow.specs.declared.Match.{Match}
 use Rattle.action.specs.Operator as operator
 use Rattle.action.specs.declared.Action.{Action}
 use Rattle.policy.specs.File.{PolicyNode, PolicyTree}
-use Rattle.nodes.specs.Nodes.{nodeAt, cellsAt, atomsAt}
+use Rattle.nodes.specs.Nodes.{nodeAt, cellsAt, atomWordsAt}
 use Rattle.nodes.specs.Walk.{nextSpot, Reached, treeAt, childrenAt, AfterTree, AfterChildren}
 use Rattle.nodes.specs.declared.NodeWords.{NodeWords}
 use Rattle.nodes.specs.declared.Spot.{Spot}
@@ -39,7 +39,7 @@ compileTrees ts o = compiles common isEmpty operator.join ts o
 
 -- the table of a node's own atoms, in words
 abbrev pub ownAt : List ℕ → Spot → List ℕ
-ownAt f s = ownWords (cellsAt f (nodeAt f (s .left) .inner)) (atomsAt f (s .atom) (nodeAt f (s .left) .own))
+ownAt f s = ownWords (cellsAt f (nodeAt f (s .left) .inner)) (atomWordsAt f (s .atom) (nodeAt f (s .left) .own))
 
 -- the table of the subtree at a place, in words
 unfoldable pub treeWords : List ℕ → Spot → List ℕ

@@ -1,5 +1,10 @@
 -- What is proved of prefixes, over every width w, and of values. Each statement is proved in proofs/ under the name
 -- given behind it.
+--
+--   InBoth                       an address lies in both prefixes exactly when they meet and it lies in the longer
+--   SharedAddress, MeetExactly   an address in both prefixes; two meet exactly when there is one
+--   Contains, CoversExactly      all addresses of one lie in the other; a prefix covers exactly those that it contains
+--   ValueBoth                    a number meets both values exactly when they meet and it meets both together
 use Prim.Native.Nat.{ℕ, _^_, _≤_, _<_}
 use mathlib.Core.Path.{_≡_}
 use mathlib.Core.Bool.{Bool, true, _&&_, _||_}

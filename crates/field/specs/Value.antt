@@ -1,5 +1,10 @@
 -- A value that may be constrained: `on` says whether it is, v is the value then. An unconstrained value is met by every
 -- number. See docs/FORMAT.md, "Matches".
+--
+--   meetsValue on v x   x meets the value
+--   valuesMeet          some number meets both values
+--   commonValue         the value that two are together
+--   rightValue          a right value: below its limit, and 0 where it is unconstrained
 use Prim.Native.Nat.{ℕ}
 use mathlib.Core.Bool.{Bool, cond, not, _&&_, _||_}
 use lib.Dec.{eqb, ltb}

@@ -1,4 +1,11 @@
 -- What is proved of matches and packets. Each statement is proved in proofs/ under the name given behind it.
+--
+--   MeetsCommon, MeetsEmpty                               who meets the common match, and the empty one
+--   OverlapExactly, MeetsOverlap                          when matches overlap, right ones and all
+--   MetExactly                                            when some packet meets a right match
+--   CommonRight, CommonEmpty                              when the common match is right, and when it is empty
+--   MatchWordsRead, MatchReadWords, MatchWrittenRead      the words of a match, read and written
+--   PacketWordsRead, PacketReadWords, PacketWrittenRead   the words of a packet
 use Prim.Native.Nat.{ℕ, _≤_}
 use mathlib.Core.Path.{_≡_}
 use mathlib.Core.Bool.{true, false, not, _&&_}

@@ -26,7 +26,7 @@ use Rattle.section.specs.Due.{RightNode}
 use Rattle.policy.specs.WellFormed.{Otherwise}
 use Rattle.policy.proofs.Accepted.{accepted-exactly}
 use Rattle.logic.proofs.Tests.{by-le}
-use Rattle.nodes.specs.Nodes.{nodePlace, nodeAt, fromOperator, cellsAt, atomsAt}
+use Rattle.nodes.specs.Nodes.{nodePlace, nodeAt, fromOperator, cellsAt, atomWordsAt}
 use Rattle.nodes.specs.Walk.{layoutOf, listOf, recordsOf, nodeIndex, Reached, nextSpot}
 use Rattle.nodes.specs.declared.NodeWords.{NodeWords}
 use Rattle.nodes.specs.declared.Spot.{Spot}
@@ -44,22 +44,22 @@ unfolding fromOperator
 operator-missing f i h = sym (drop-of-length-le f {i = firstOperator + operatorLength * i} (omega arith))
 
 -- atoms that are all there, and others
-pub atoms-there : (f : List ℕ) (from n : ℕ) → from + atomLength * n ≤ length f → take (from + atomLength * n - from) (drop from f) ≡ atomsAt f from n
-unfolding atomsAt
+pub atoms-there : (f : List ℕ) (from n : ℕ) → from + atomLength * n ≤ length f → take (from + atomLength * n - from) (drop from f) ≡ atomWordsAt f from n
+unfolding atomWordsAt
 atoms-there f from n h = let e : from + atomLength * n - from ≡ atomLength * n = omega arith in rw (e, le-leb (from + atomLength * n) (length f) h)
 
-pub atoms-missing : (f : List ℕ) (from n : ℕ) → length f < from + atomLength * n → [] ≡ atomsAt f from n
-unfolding atomsAt
+pub atoms-missing : (f : List ℕ) (from n : ℕ) → length f < from + atomLength * n → [] ≡ atomWordsAt f from n
+unfolding atomWordsAt
 atoms-missing f from n h = rw (lt-leb (from + atomLength * n) (length f) h)
 
 -- atoms are whole rows
-pub atoms-rows : (f : List ℕ) (from n : ℕ) → length (atomsAt f from n) % rowLength ≡ 0
+pub atoms-rows : (f : List ℕ) (from n : ℕ) → length (atomWordsAt f from n) % rowLength ≡ 0
 atoms-rows f from n =
     by-le (from + atomLength * n) (length f)
     (λ h.
     let l : length (take (from + atomLength * n - from) (drop from f)) ≡ from + atomLength * n - from = length-take-le _ (drop from f)
     (rw length-drop (omega arith)) in
-    let e : length (atomsAt f from n) ≡ from + atomLength * n - from = ap length (sym (atoms-there f from n h)) ∙ l in
+    let e : length (atomWordsAt f from n) ≡ from + atomLength * n - from = ap length (sym (atoms-there f from n h)) ∙ l in
     omega arith)
     (λ h. rw (← atoms-missing f from n h) (omega arith))
 
@@ -140,7 +140,7 @@ nodeHere f s =
       inner = cellsAt f (n .inner);
       parent = cellsAt f (n .parent);
       sibling = cellsAt f (n .sibling);
-      atoms = rowsOf rowLength rowOf (atomsAt f (s .atom) (n .own));
+      atoms = rowsOf rowLength rowOf (atomWordsAt f (s .atom) (n .own));
     }
 
 -- stands for a node past the last: it holds nothing
@@ -182,8 +182,8 @@ module _ (f : List ℕ) (w : Otherwise f (layoutOf f .operators) (layoutOf f .at
 
   -- the rows of n atoms behind s others
   atoms-here : (s n : ℕ) → s + n ≤ layoutOf f .atoms
-      → rowsOf rowLength rowOf (atomsAt f (read.atomsAt (layoutOf f .operators) + 1 + atomLength * s) n) ≡ take n (drop s (atomsOf f (layoutOf f)))
-  unfolding atomsAt
+      → rowsOf rowLength rowOf (atomWordsAt f (read.atomsAt (layoutOf f .operators) + 1 + atomLength * s) n) ≡ take n (drop s (atomsOf f (layoutOf f)))
+  unfolding atomWordsAt
   atoms-here s n h =
       let a : ℕ = layoutOf f .operators in
       let b : ℕ = layoutOf f .atoms in
@@ -226,7 +226,7 @@ here f s reached h =
     (ap (cellsAt f) inner ∙ cells-here f w (innerOf r) (right .inner))
     (ap (cellsAt f) parent ∙ cells-here f w (parentOf r) (right .parent))
     (ap (cellsAt f) sibling ∙ cells-here f w (siblingOf r) (right .sibling))
-    (ap₂ (λ p m. rowsOf rowLength rowOf (atomsAt f p m)) start own ∙ atoms-here f w taken (ownOf r) (omega arith)) children in
+    (ap₂ (λ p m. rowsOf rowLength rowOf (atomWordsAt f p m)) start own ∙ atoms-here f w taken (ownOf r) (omega arith)) children in
     record {
       stands = drop-cons (listOf f) i nothing (rw (length-held os xs rs) (omega arith))
           ∙ ap₂ (λ x j. x ∷ drop j (listOf f)) (held-at os xs rs i nothing (omega arith) ∙ sym same) (sym next);

@@ -4,7 +4,7 @@
 --   firstAtom a, rootSpot l              where the first atom stands, and the place of the root
 --   nodePlace n left, nodeAt f left      where the node stands that has so many left, and its words
 --   fromOperator f i, cellsAt f i        the words from the operator of an index on, and its cells
---   atomsAt f from n                     the words of n atoms
+--   atomWordsAt f from n                     the words of n atoms
 use Prim.Native.Nat.{ℕ, _+_, _-_, _*_, _/_}
 use mathlib.Core.Bool.{cond}
 use mathlib.Core.List.{List, []}
@@ -50,5 +50,5 @@ unfoldable pub cellsAt : List ℕ → ℕ → List ℕ
 cellsAt f i = cellsOf (fromOperator f i)
 
 -- the words of n atoms from a word of the file on; none if they are not all there
-unfoldable pub atomsAt : List ℕ → ℕ → ℕ → List ℕ
-atomsAt f from n = cond (leb (from + atomLength * n) (length f)) (take (atomLength * n) (drop from f)) []
+unfoldable pub atomWordsAt : List ℕ → ℕ → ℕ → List ℕ
+atomWordsAt f from n = cond (leb (from + atomLength * n) (length f)) (take (atomLength * n) (drop from f)) []

@@ -3,7 +3,7 @@
 ghost use mathlib.Core.Path.{_≡_};
 ghost use Prim.Native.Nat.{_≤_};
 ghost use Rattle.action.specs.Operator.{join};
-ghost use Rattle.nodes.specs.Nodes.{nodePlace, nodeAt, fromOperator, cellsAt, atomsAt, firstAtom, rootSpot};
+ghost use Rattle.nodes.specs.Nodes.{nodePlace, nodeAt, fromOperator, cellsAt, atomWordsAt, firstAtom, rootSpot};
 use action::Action;
 use action::Operator;
 use action::operator_of;
@@ -81,7 +81,7 @@ pub fn join_at(file: &[u32], index: u32, left: Action, right: Action) -> Action
 
 // The words of so many atoms, from a word of the file on.
 pub fn atoms_at(file: &[u32], from: usize, count: u32) -> &[u32]
-    ensures { λ r. ⌜ now r ≡ atomsAt (now (file .entry)) from count ⌝ }
+    ensures { λ r. ⌜ now r ≡ atomWordsAt (now (file .entry)) from count ⌝ }
 {
     let words = ATOM_WORDS * (count as usize);
     if file.len() < words {

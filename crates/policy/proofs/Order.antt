@@ -15,7 +15,7 @@ use Rattle.section.specs.Cells.{operatorRows}
 use Rattle.refusal.specs.Plain.{plain}
 use Rattle.section.specs.Sections.{childrenOf}
 use Rattle.whole.specs.Whole.{shape, shapeFault, ownAtoms, sumFault, lawsFrom}
-use Rattle.policy.specs.Read.{atomsAtIn, nodesAtIn, endIn, operatorsIn, nodesIn, wholeStages, stages, layout, answer, readAs, numbered}
+use Rattle.policy.specs.Read.{atomsAtIn, nodesAtIn, endIn, operatorsIn, nodesIn, wholeStages, stages, layout, answer, readAs, readRefusal}
 use Rattle.policy.specs.Steps.{withWhole}
 use Rattle.whole.specs.Meaning.{operatorAt, OneTree, ended, HasPlace}
 use Rattle.policy.specs.File.{fileNodesIn}
@@ -153,7 +153,7 @@ lawless e f a b c n at o r =
     omega arith)
     (λ h.
     let w = broken-refused-as e f a b c o (λ k. h (kept-laws a os ns many codes nodes k)) in
-    let q : n ≡ lawBroken = ap (λ x. numbered x .number) (sym r ∙ w .1) ∙ w .2 in
+    let q : n ≡ lawBroken = ap (λ x. readRefusal x .number) (sym r ∙ w .1) ∙ w .2 in
     refused-law-as e f (plain n at) r q .shows)
     (passed-or-not (lawsFrom ns 0 os))
 
@@ -163,8 +163,8 @@ given-due e f n at r = ⊎-elim
     (λ o. absurd (lawless e f (o .0) (o .1) (o .2) n at (o .3) r))
     (λ d.
     let q : Refused (plain (d .0) (d .1)) ≡ Refused (plain n at) = sym (due-read e f (d .2)) ∙ r in
-    let p : d .0 ≡ n = ap (λ x. numbered x .number) q in
-    let w : d .1 ≡ at = ap (λ x. numbered x .place) q in
+    let p : d .0 ≡ n = ap (λ x. readRefusal x .number) q in
+    let w : d .1 ≡ at = ap (λ x. readRefusal x .place) q in
     rw (p, w) at (d .2))
     (cases e f)
 

@@ -1,4 +1,9 @@
 -- Files of the worked examples. See docs/FORMAT.md, "A file, word by word".
+--
+--   tenantAtoms, tenant   the tenant of the worked example, by its atoms and as a file
+--   tenantWith i          the same with the operator i inside its root
+--   lone o                one operator, no atoms, one node
+--   lopsided              an operator that is commutative and not associative
 use Prim.Native.Nat.{ℕ}
 use mathlib.Core.List.{List, [], _∷_, _++_}
 use Rattle.action.specs.Operator.{sibling, parent}

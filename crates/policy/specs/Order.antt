@@ -1,7 +1,8 @@
 -- Which of the refusals 1 to 9 a file gets where several could be given, and at which place, in the words of the format
 -- and not by the stages of `readAs`: "Reading goes section by section: count, then the whole section present, then
 -- records in order (4 before 5); then 7, 8, 9, 10. In 8, nodes go in order: first whether the tree had already ended,
--- then depth." What is due to a section stands in the crate section, specs/Due.antt, and what place a tree has for a node in the crate whole. See docs/FORMAT.md, "The policy file" and "Numbers a caller can get back".
+-- then depth." What is due to a section stands in the crate section, specs/Due.antt, and what place a tree has for a
+-- node in the crate whole. See docs/FORMAT.md, "The policy file" and "Numbers a caller can get back".
 --
 --   childCountsIn            the child counts of the nodes of a file of an edition
 --   GoodSections             the header and all three sections are good

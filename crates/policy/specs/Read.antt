@@ -6,7 +6,7 @@
 --   wholeStages            once the sections are good: the end, the tree, the sum and the laws
 --   stages, answer         all stages in order
 --   readAs, readOf         the answer, for an edition and for the newest
---   numbered               the answer's number, place, law and actions
+--   readRefusal               the answer's number, place, law and actions
 use Prim.Native.Nat.{ℕ, _+_}
 use mathlib.Core.List.{List, [], _∷_}
 use lib.Dec.{leb}
@@ -116,6 +116,6 @@ abbrev pub readOf : List ℕ → Reading
 readOf f = readAs latest f
 
 -- the number, place, law and actions of an answer: 0, 0, no law and three don't cares where the file is accepted
-abbrev pub numbered : Reading → Refusal
-numbered (Accepted l) = plain 0 0
-numbered (Refused r) = r
+abbrev pub readRefusal : Reading → Refusal
+readRefusal (Accepted l) = plain 0 0
+readRefusal (Refused r) = r

@@ -1,5 +1,11 @@
 -- What the parts of `read` answer, for their own contracts: the stages that are left, the next count standing at a
 -- place.
+--
+--   withWhole                      the sections are good
+--   fromNodes, withNodes           the nodes are still to be read: c of them, or as many as the file says
+--   fromAtoms, withAtoms           the atoms too
+--   fromOperators, withOperators   all sections
+--   fromHeader                     and the header
 use Prim.Native.Nat.{ℕ}
 use mathlib.Core.List.{List, _∷_}
 use lib.ListN.{getD}

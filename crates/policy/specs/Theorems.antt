@@ -1,5 +1,13 @@
 -- What is proved of reading, but for the order of its refusals, which stands in Order.antt. Each statement is proved in
 -- proofs/ under the name given behind it; one of all editions (As) is said once more of the newest.
+--
+--   AcceptedAs, AcceptedExactly            a file is accepted exactly when it is well formed
+--   FileTree, AcceptedTree                 the nodes of an accepted file are one tree
+--   AcceptedAtoms                          every atom belongs to one node
+--   BrokenLaw, RefusedLaw, BrokenRefused   what 10 says of a file, and that it is given wherever a law is broken
+--   RefusedPlain                           every other refusal names no law
+--   PartsAccepted, AcceptedParts           a file is accepted exactly when its parts are right and lawful
+--   PartsWhole, PartsRead                  a file is what its parts make, and has the parts that it is made of
 use Prim.Native.Nat.{ℕ, _≤_, _<_}
 use mathlib.Core.Path.{_≡_}
 use mathlib.Core.Bool.{true}

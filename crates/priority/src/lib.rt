@@ -17,6 +17,7 @@ use flow::read_match;
 use row::ROW_WORDS;
 use table::Checked;
 use table::check;
+use words::larger;
 
 // The number of the refusal: a buffer is shorter than the row count.
 pub const SHORT_BUFFER: u32 = 17;
@@ -230,10 +231,4 @@ fn row_match(table: &[u32], i: usize) -> Match
     let from = i * ROW_WORDS;
     let end = from + ROW_WORDS;
     read_match(&table[from..end])
-}
-
-fn larger(m: u32, n: u32) -> u32
-    ensures { λ r. ⌜ r ≡ max m n ⌝ }
-{
-    if m < n { n } else { m }
 }

@@ -16,6 +16,7 @@ use Rattle.field.proofs.values_meet.Reads as values-meet
 use Rattle.field.proofs.common_value.Reads as common-value
 use Rattle.field.proofs.right_value.Reads as right-value
 use Rattle.words.proofs.word.Reads as word
+use Rattle.words.proofs.larger.Reads as larger
 use Rattle.words.proofs.copy.Reads as copy
 use Rattle.words.proofs.clear_from.Reads as clear-from
 use Rattle.words.proofs.from_bytes.Reads as from-bytes
@@ -131,6 +132,9 @@ right-value-one = fixed (λ κ a r s p. p)
 -- words
 word-one : OneAnswer word.Pre word.Post (λ κ r s. r)
 word-one = fixed (λ κ a r s p. p)
+
+larger-one : OneAnswer larger.Pre larger.Post (λ κ r s. r)
+larger-one = fixed (λ κ a r s p. p)
 
 copy-one : OneAnswer copy.Pre copy.Post (λ κ r s. now (s .0))
 copy-one = fixed (λ κ a r s p. p)

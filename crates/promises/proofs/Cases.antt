@@ -24,7 +24,8 @@ pub worked-cases : WorkedCases
 unfolding inPrefix rightPrefix zeroBeyond prefixesMeet meetsValue valuesMeet rightValue laid rowsOf rightPacket rightPacketWords isEmpty isNone isPlain
     rightMatch meets overlap common both actionOf rightAction inRange coded join rightCell commutes associates shown pairs triples firstPair firstTriple
     lawSearch rowAction rightRowMatch rightRowAction rightRow countFault cellsFault atomFault nodeFault sectionFault shapeFault sumFault operatorFault lawsFault
-    wholeStages stages answer readAs tree.acceptedAction tree.actionOf rightLength checkRows checkOf scanOf over levelsOf numberOf prioritiesAfter chainAfter
+    wholeStages stages answer readAs tree.acceptedAction tree.treeActionOf rightLength checkRows checkOf scanOf over levelsOf numberOf prioritiesAfter
+    chainAfter
     compiledRows answerOf tableAfter scratchAfter
 worked-cases = (
   refl,

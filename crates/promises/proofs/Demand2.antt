@@ -17,7 +17,7 @@ use Rattle.action.specs.declared.Law.the-variants.{Unnamed, Commutativity, Asso
 use Rattle.action.proofs.Exact.{shown-in-range}
 use Rattle.section.specs.Numbers.{nodeLength, lawBroken}
 use Rattle.policy.specs.Read.{readOf, atomsAt, nodesAt, operatorRecords, nodeRecords}
-use Rattle.whole.specs.Whole.{named}
+use Rattle.whole.specs.Whole.{named, names}
 use Rattle.section.specs.Sections.{innerOf, siblingOf}
 use Rattle.whole.specs.Meaning.{operatorAt, KeepsLaws, LawsKept}
 use Rattle.policy.specs.File.{allAtoms}
@@ -25,7 +25,7 @@ use Rattle.policy.specs.WellFormed.{Otherwise}
 use Rattle.policy.specs.Theorems.{BrokenLaw}
 use Rattle.policy.specs.declared.Reading.the-variants.{Refused}
 use Rattle.refusal.specs.declared.Refusal.{Refusal}
-use Rattle.whole.proofs.Named.{named-by}
+use Rattle.whole.proofs.Named.{named-by, Naming, naming}
 use Rattle.policy.proofs.Accepted.{accepted-exactly, accepted-tree, accepted-atoms}
 use Rattle.policy.proofs.Refused.{refused-law, broken-refused}
 use Rattle.tree.proofs.Eval.{action-eval}
@@ -54,23 +54,10 @@ not-kept : (o : List ℕ) → BreaksCommutativity o ⊎ BreaksAssociativity o �
 not-kept o (inl b) k = b .differ (k .0 (b .left) (b .right) (b .left-allowed) (b .right-allowed))
 not-kept o (inr b) k = b .differ (k .1 (b .left) (b .middle) (b .right) (b .left-allowed) (b .middle-allowed) (b .right-allowed))
 
--- an operator that is named is named by some node
-record Naming (i : ℕ) (ns : List (List ℕ)) : Type 0 where
-  pub node : ℕ
-  pub within : node < length ns
-  pub names : (i ≡ innerOf (getD ns node [])) ⊎ (i ≡ siblingOf (getD ns node []))
-
-naming : (i : ℕ) (ns : List (List ℕ)) → named i ns ≡ true → Naming i ns
-naming i [] e = let z : _≡_ {A = ℕ} 0 1 = cc in absurd (omega arith)
-naming i (r ∷ rs) e = ⊎-elim
-    (λ h. record {
-      node = 0;
-      within = omega arith;
-      names = ⊎-elim (λ g. inl (sym (eqb-true _ _ g))) (λ g. inr (sym (eqb-true _ _ g)))
-          (or-split (eqb (innerOf r) i) (eqb (siblingOf r) i) h);
-    })
-    (λ h. let n : Naming i rs = naming i rs h in record { node = suc (n .node); within = omega (arith, n .within); names = n .names })
-    (or-split (eqb (innerOf r) i || eqb (siblingOf r) i) (named i rs) e)
+-- a node that names an operator has it as inner or as sibling one
+names-either : (i : ℕ) (r : List ℕ) → names i r ≡ true → (i ≡ innerOf r) ⊎ (i ≡ siblingOf r)
+names-either i r e =
+    ⊎-elim (λ g. inl (sym (eqb-true _ _ g))) (λ g. inr (sym (eqb-true _ _ g))) (or-split (eqb (innerOf r) i) (eqb (siblingOf r) i) e)
 
 -- the counts of a file are its own
 same-counts : (f : List ℕ) (a b c a′ b′ c′ : ℕ) → Otherwise f a b c → Otherwise f a′ b′ c′ → (a′ ≡ a) × (b′ ≡ b) × (c′ ≡ c)
@@ -101,7 +88,7 @@ shown f a b c r o e n =
         node = g .node;
         within = omega (arith, g .within);
         operator = r .place;
-        named = g .names;
+        named = names-either (r .place) (getD ns (g .node) []) (g .names-it);
         breaks = breaks (operatorAt os (r .place)) (r .law) (r .first) (r .second) (r .third) shows;
       };
       named = refl;

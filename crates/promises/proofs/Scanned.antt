@@ -18,7 +18,7 @@ use Rattle.policy.specs.declared.Layout.{Layout}
 use Rattle.table.specs.Scan.{scanOf, scanNumber, scanAction, found}
 use Rattle.table.proofs.Tables.{check-exactly, rows-read}
 use Rattle.table.proofs.Scans.{scan-found}
-use Rattle.tree.specs.Action.{evalTree, actionOf}
+use Rattle.tree.specs.Action.{evalTree, treeActionOf}
 use Rattle.tree.specs.declared.Evaluated.the-variants.{Gives}
 use Rattle.tree.proofs.Eval.{action-eval}
 use Rattle.compile.specs.Compile.{compiledRows, answerOf, tableAfter, tableRows}
@@ -39,7 +39,7 @@ rows-scan f l p =
 
 -- of the rows that were answered, the scan is no refusal, and its action is the tree's
 pub table-scans : (f t s p : List ℕ) (n : ℕ) → answerOf f t s ≡ Rows n → rightPacketWords p ≡ true
-    → (scanNumber (scanOf (tableRows n (tableAfter f t s)) p) ≡ 0) × (actionOf f p ≡ Gives (scanAction (scanOf (tableRows n (tableAfter f t s)) p)))
+    → (scanNumber (scanOf (tableRows n (tableAfter f t s)) p) ≡ 0) × (treeActionOf f p ≡ Gives (scanAction (scanOf (tableRows n (tableAfter f t s)) p)))
 table-scans f t s p n q right =
     let k : AnswerTells f t s n = answers-rows f t s n q in
     let l : Layout = k .layout in

@@ -1,4 +1,7 @@
 -- What it means that every input has one answer.
+--
+--   OneAnswer               a contract asks nothing, and no second answer fits it
+--   answerWith, answerAnd   a result with the words of one lent buffer, and of two
 use Prim.Native.Nat.{ℕ}
 use mathlib.Core.Path.{_≡_}
 use mathlib.Core.List.{List}

@@ -18,7 +18,7 @@ use Rattle.refusal.specs.Plain.{plain}
 use Rattle.policy.specs.Read.{readOf}
 use Rattle.policy.specs.Examples.{tenant, tenantWith, lone, lopsided}
 use Rattle.policy.specs.declared.Reading.the-variants as reading
-use Rattle.tree.specs.Action.{actionOf}
+use Rattle.tree.specs.Action.{treeActionOf}
 use Rattle.tree.specs.declared.Evaluated.the-variants.{Gives}
 use Rattle.table.specs.Scan.{scanOf}
 use Rattle.table.specs.declared.Scanned.the-variants.{Found}
@@ -71,13 +71,13 @@ cases =
     ∷ k 4 (join parent (Gmb 5) (join parent Deny Allow)) (Gmb 5)
     ∷ k 5 (answerOf (lone sibling) lent lent) (Rows 0)
     ∷ k 5 (numberOf (rowsOf (lone sibling)) 0 0) (Priorities 0)
-    ∷ k 5 (actionOf (lone sibling) (to (address 10 7 3 9))) (Gives DontCare)
+    ∷ k 5 (treeActionOf (lone sibling) (to (address 10 7 3 9))) (Gives DontCare)
     ∷ k 5 (scanOf (rowsOf (lone sibling)) (to (address 10 7 3 9))) (Found DontCare 0)
-    ∷ k 6 (actionOf tenant (to (address 10 7 3 9))) (Gives (Gmb 40000))
+    ∷ k 6 (treeActionOf tenant (to (address 10 7 3 9))) (Gives (Gmb 40000))
     ∷ k 6 (scanOf (rowsOf tenant) (to (address 10 7 3 9))) (Found (Gmb 40000) 1)
-    ∷ k 7 (actionOf tenant (to (address 10 7 3 10))) (Gives Deny)
+    ∷ k 7 (treeActionOf tenant (to (address 10 7 3 10))) (Gives Deny)
     ∷ k 7 (scanOf (rowsOf tenant) (to (address 10 7 3 10))) (Found Deny 2)
-    ∷ k 8 (actionOf tenant (to (address 10 8 0 1))) (Gives DontCare)
+    ∷ k 8 (treeActionOf tenant (to (address 10 8 0 1))) (Gives DontCare)
     ∷ k 8 (scanOf (rowsOf tenant) (to (address 10 8 0 1))) (Found DontCare 3)
     ∷ k 9 (answerOf tenant lent lent) (Rows 3)
     ∷ k 9 (tableAfter tenant lent lent) (row (address 10 7 3 9) 32 3 40000 ++ row (address 10 7 0 0) 16 2 0 ++ row

@@ -3,7 +3,7 @@
 -- contracts is proved in proofs/Answers.antt.
 --
 --   readOf                                     policy::read        of a file
---   actionOf                                   tree::tree_action   of a file and a packet
+--   treeActionOf                                   tree::tree_action   of a file and a packet
 --   answerOf, tableAfter, scratchAfter         compile::compile    of a file, a table buffer and a scratch buffer
 --   scanOf                                     table::scan         of a table and a packet
 --   numberOf, prioritiesAfter, chainAfter      priority::number    of a table, a priority buffer and a chain buffer
@@ -35,7 +35,7 @@ use Rattle.policy.specs.Order.{FileOrder}
 use Rattle.policy.specs.declared.Layout.{Layout}
 use Rattle.policy.specs.declared.Reading.the-variants as reading
 use Rattle.refusal.specs.declared.Refusal.{Refusal}
-use Rattle.tree.specs.Action.{evalTree, actionOf}
+use Rattle.tree.specs.Action.{evalTree, treeActionOf}
 use Rattle.tree.specs.declared.Evaluated.the-variants as evaluated
 use Rattle.table.specs.Table.{wrongTable, wrongRow, rowCount, past, rightLength, checkOf, rowAt, RightTable}
 use Rattle.table.specs.Scan.{scanOf, scanNumber, scanAction}
@@ -57,7 +57,7 @@ use Rattle.promises.specs.Told.{between, Fixed}
 pub record EveryInput : Type 0 where
   pub search : (o : List ℕ) (i : ℕ) → Fixed (between 10 10) (searchTold i (lawSearch o))
   pub read : (f : List ℕ) → Fixed (between 1 10) (readTold (readOf f))
-  pub action : (f p : List ℕ) → Fixed (between 1 11) (actionTold (actionOf f p))
+  pub action : (f p : List ℕ) → Fixed (between 1 11) (actionTold (treeActionOf f p))
   pub compile : (f t s : List ℕ) → Fixed (λ n. between 1 10 n ⊎ between 12 14 n) (compileTold (answerOf f t s))
   pub check : (ws : List ℕ) → Fixed (between 15 16) (checkTold (checkOf ws))
   pub scan : (ws p : List ℕ) → Fixed (λ n. (n ≡ 11) ⊎ between 15 16 n) (scanTold (scanOf ws p))
@@ -68,9 +68,9 @@ pub record Order : Type 0 where
   -- a file: section by section, then 7, 8, 9 and last 10, each with its place, as crates/policy/specs/Order.antt says
   pub file : FileOrder
   -- the tree's action: 1..10, 11
-  pub action-file : (f p : List ℕ) (r : Refusal) → readOf f ≡ reading.Refused r → actionOf f p ≡ evaluated.Refused r
+  pub action-file : (f p : List ℕ) (r : Refusal) → readOf f ≡ reading.Refused r → treeActionOf f p ≡ evaluated.Refused r
   pub action-packet : (f p : List ℕ) (l : Layout) → readOf f ≡ reading.Accepted l → rightPacketWords p ≡ false
-      → actionOf f p ≡ evaluated.Refused (plain wrongPacket 0)
+      → treeActionOf f p ≡ evaluated.Refused (plain wrongPacket 0)
   -- the compile: 1..10, 13, then 12 as demand 2 has it; 14 is never given
   pub compile-file : (f t s : List ℕ) (r : Refusal) → readOf f ≡ reading.Refused r → answerOf f t s ≡ compiled.Refused r
   pub compile-scratch : (f t s : List ℕ) (l : Layout) → readOf f ≡ reading.Accepted l
@@ -169,14 +169,14 @@ pub record Demand2 : Type 0 where
   pub accepted : (f : List ℕ) (l : Layout) → (readOf f ≡ reading.Accepted l) ↔ WellFormed f l
   -- "For every accepted policy and every packet, the tree's action is the one given by eval in the paper,"
   pub eval : (f p : List ℕ) (l : Layout) → readOf f ≡ reading.Accepted l → rightPacketWords p ≡ true
-      → actionOf f p ≡ evaluated.Gives (evalTree (treeOf f l) (packetOf p))
+      → treeActionOf f p ≡ evaluated.Gives (evalTree (treeOf f l) (packetOf p))
   -- "each matching atom counted": the atoms of the tree are those of the file, in order and each once
   pub atoms : (f : List ℕ) (l : Layout) → readOf f ≡ reading.Accepted l → allAtoms (listTree (treeOf f l)) ≡ atomsOf f l
   -- "and scanning the compiled table gives the same": of the rows that were answered, the scan is no refusal, and its
   -- action is the tree's
   pub scan : (f t s p : List ℕ) (n : ℕ) → answerOf f t s ≡ compiled.Rows n → rightPacketWords p ≡ true
       → (scanNumber (scanOf (tableRows n (tableAfter f t s)) p) ≡ 0)
-      × (actionOf f p ≡ evaluated.Gives (scanAction (scanOf (tableRows n (tableAfter f t s)) p)))
+      × (treeActionOf f p ≡ evaluated.Gives (scanAction (scanOf (tableRows n (tableAfter f t s)) p)))
   -- there is such a table wherever scratch and room suffice: the rates of the rows lie in their range, so 14 is never
   -- given
   pub compiles : (f t s : List ℕ) (l : Layout) → readOf f ≡ reading.Accepted l → rowLength * room (length t) ≤ length s
@@ -244,4 +244,4 @@ SwitchObeysTree =
     → rightPacketWords p ≡ true
     → let ws : List ℕ = tableRows n (tableAfter f t s) in
     Obeyed meets past (rowsIn ws) (priority ws ps cs) (packetOf p) i
-    → actionOf f p ≡ evaluated.Gives (getD (rowsIn ws) i past .action)
+    → treeActionOf f p ≡ evaluated.Gives (getD (rowsIn ws) i past .action)

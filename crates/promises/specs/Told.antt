@@ -53,11 +53,11 @@ searchTold i (Broken l a b c) =
 
 -- a file that is accepted, or its refusal
 abbrev pub readTold : Reading → Told
-readTold x = record { refusal = policy.numbered x; action = DontCare; count = 0 }
+readTold x = record { refusal = policy.readRefusal x; action = DontCare; count = 0 }
 
 -- the tree's action
 abbrev pub actionTold : Evaluated → Told
-actionTold x = record { refusal = tree.numbered x; action = tree.given x; count = 0 }
+actionTold x = record { refusal = tree.treeRefusal x; action = tree.given x; count = 0 }
 
 -- the row count
 abbrev pub compileTold : Compiled → Told

@@ -1,4 +1,5 @@
--- A refusal that names no law: its number and place, and three don't cares. See docs/FORMAT.md, "Numbers a caller can get back".
+-- A refusal that names no law: its number and place, and three don't cares. See docs/FORMAT.md, "Numbers a caller can
+-- get back".
 use Prim.Native.Nat.{ℕ}
 use Rattle.action.specs.declared.Action.the-variants.{DontCare}
 use Rattle.action.specs.declared.Law.the-variants.{Unnamed}

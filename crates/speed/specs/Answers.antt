@@ -15,11 +15,11 @@ use Rattle.tree.specs.declared.Evaluated.{Evaluated}
 
 -- the number of a file's refusal, 0 where it is accepted
 abbrev pub readNumber : Reading → ℕ
-readNumber r = read.numbered r .number
+readNumber r = read.readRefusal r .number
 
 -- the number of the refusal of the tree's action, 0 where there is none
 abbrev pub treeNumber : Evaluated → ℕ
-treeNumber r = tree.numbered r .number
+treeNumber r = tree.treeRefusal r .number
 
 -- the tree's action, don't care where it is refused
 abbrev pub treeAction : Evaluated → Action

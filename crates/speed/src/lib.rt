@@ -2,7 +2,7 @@
 ghost use mathlib.Core.Path.{_≡_};
 ghost use lib.ListN.{length};
 ghost use Rattle.policy.specs.Read.{readOf};
-ghost use Rattle.tree.specs.Action.{actionOf};
+ghost use Rattle.tree.specs.Action.{treeActionOf};
 ghost use Rattle.compile.specs.Compile.{answerOf, tableAfter, scratchAfter, compileCount};
 ghost use Rattle.table.specs.Scan.{scanOf, scanAction, scanTried};
 ghost use Rattle.priority.specs.Numbering.{numberOf, answerCount, prioritiesAfter, chainAfter};
@@ -33,9 +33,9 @@ pub extern "C" fn speed_read(file: &[u32]) -> u32
 // The action's two words; the answer is the number of the refusal, 0 where there is none.
 #[no_mangle]
 pub extern "C" fn speed_tree(file: &[u32], packet: &[u32], given: &mut [u32]) -> u32
-    ensures { λ r. ⌜ (r ≡ treeNumber (actionOf (now (file .entry)) (now (packet .entry))))
+    ensures { λ r. ⌜ (r ≡ treeNumber (treeActionOf (now (file .entry)) (now (packet .entry))))
         × (now (given .exit) ≡ withAction (now (given .entry))
-        (treeAction (actionOf (now (file .entry)) (now (packet .entry))))) ⌝ }
+        (treeAction (treeActionOf (now (file .entry)) (now (packet .entry))))) ⌝ }
 {
     let answer = tree_action(file, packet);
     put_action(given, tree_given(answer));

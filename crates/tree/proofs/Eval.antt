@@ -16,7 +16,7 @@ use Rattle.refusal.specs.declared.Refusal.{Refusal}
 use Rattle.nodes.specs.Nodes.{rootSpot}
 use Rattle.nodes.specs.declared.Spot.{Spot}
 use Rattle.nodes.proofs.Walk.{root-tree}
-use Rattle.tree.specs.Action.{evalTree, acceptedAction, actionOf}
+use Rattle.tree.specs.Action.{evalTree, acceptedAction, treeActionOf}
 use Rattle.tree.specs.Steps.{TreeGave}
 use Rattle.tree.specs.Theorems.{ActionEval, ActionRefused, ActionPacket}
 use Rattle.tree.specs.declared.Evaluated.{Evaluated}
@@ -39,22 +39,22 @@ module _ (f : List ℕ) (l : Layout) (p : List ℕ) (t : Bool) (q : t ≡ rightP
   accepted-refuses h = rw (← q, h)
 
 -- what reading answered picks the case
-pub read-accepted : (f p : List ℕ) {r : Reading} (l : Layout) {x : Evaluated} → r ≡ readOf f → r ≡ Accepted l → x ≡ acceptedAction f l p → x ≡ actionOf f p
-unfolding actionOf
+pub read-accepted : (f p : List ℕ) {r : Reading} (l : Layout) {x : Evaluated} → r ≡ readOf f → r ≡ Accepted l → x ≡ acceptedAction f l p → x ≡ treeActionOf f p
+unfolding treeActionOf
 read-accepted f p l e g h = rw (← e, g) h
 
-pub read-refused : (f p : List ℕ) {r : Reading} (x : Refusal) → r ≡ readOf f → r ≡ Refused x → evaluated.Refused x ≡ actionOf f p
-unfolding actionOf
+pub read-refused : (f p : List ℕ) {r : Reading} (x : Refusal) → r ≡ readOf f → r ≡ Refused x → evaluated.Refused x ≡ treeActionOf f p
+unfolding treeActionOf
 read-refused f p x e g = rw (← e, g)
 
 pub action-eval : ActionEval
-unfolding actionOf acceptedAction
+unfolding treeActionOf acceptedAction
 action-eval f p l e right = rw (e, right)
 
 pub action-refused : ActionRefused
-unfolding actionOf
+unfolding treeActionOf
 action-refused f p r e = rw e
 
 pub action-packet : ActionPacket
-unfolding actionOf acceptedAction
+unfolding treeActionOf acceptedAction
 action-packet f p l e wrong = rw (e, wrong)

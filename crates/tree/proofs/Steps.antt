@@ -10,7 +10,7 @@ use Rattle.action.specs.declared.Action.{Action}
 use Rattle.action.specs.declared.Action.the-variants.{DontCare}
 use Rattle.section.specs.Numbers.{atomLength}
 use Rattle.policy.specs.File.{PolicyTree}
-use Rattle.nodes.specs.Nodes.{nodeAt, cellsAt, atomsAt}
+use Rattle.nodes.specs.Nodes.{nodeAt, cellsAt, atomWordsAt}
 use Rattle.nodes.specs.Walk.{Reached}
 use Rattle.nodes.specs.declared.NodeWords.{NodeWords}
 use Rattle.nodes.specs.declared.Spot.{Spot}
@@ -36,7 +36,7 @@ module _ {f : List ℕ} {s : Spot} {p : Packet} where
 
   -- a node's own action, and its children's
   pub tree-gave : {n : NodeWords} {atoms : List ℕ} {x r : Action} {rest : Gave} → Reached f s → 0 < s .left → n ≡ nodeAt f (s .left)
-      → atoms ≡ atomsAt f (s .atom) (n .own) → x ≡ ownAction (cellsAt f (n .inner)) atoms p
+      → atoms ≡ atomWordsAt f (s .atom) (n .own) → x ≡ ownAction (cellsAt f (n .inner)) atoms p
       → ChildrenGave f (record { left = s .left - 1; atom = s .atom + atomLength * n .own }) (n .sibling) (n .children) p rest
       → r ≡ join (cellsAt f (n .parent)) x (rest .action) → TreeGave f s p (record { action = r; next = rest .next })
   unfolding ownAction

@@ -1,5 +1,11 @@
 -- The tree's action, for every list of words and every packet: the file's refusals come first, then the packet's. See
 -- docs/FORMAT.md, "The tree's action".
+--
+--   evalTree             eval of Figure 1 on a policy tree
+--   acceptedAction       of an accepted file: the packet is tested, then eval
+--   afterReading         what reading answered, carried on
+--   treeActionOf         the tree's action
+--   treeRefusal, given   the refusal and the action of an answer
 use Prim.Native.Nat.{ℕ}
 use mathlib.Core.Bool.{cond}
 use mathlib.Core.List.{List}
@@ -36,13 +42,13 @@ afterReading f p (Accepted l) = acceptedAction f l p
 afterReading f p (Refused r) = evaluated.Refused r
 
 -- THE TREE'S ACTION
-unfoldable pub actionOf : List ℕ → List ℕ → Evaluated
-actionOf f p = afterReading f p (readOf f)
+unfoldable pub treeActionOf : List ℕ → List ℕ → Evaluated
+treeActionOf f p = afterReading f p (readOf f)
 
 -- the number, place, law and actions of an answer: 0, 0, no law and three don't cares where an action is given
-abbrev pub numbered : Evaluated → Refusal
-numbered (evaluated.Gives a) = plain 0 0
-numbered (evaluated.Refused r) = r
+abbrev pub treeRefusal : Evaluated → Refusal
+treeRefusal (evaluated.Gives a) = plain 0 0
+treeRefusal (evaluated.Refused r) = r
 
 -- the action of an answer: don't care where it is a refusal
 abbrev pub given : Evaluated → Action

@@ -1,5 +1,8 @@
 -- What the steps of the walk give, for their own contracts: a node's own action over the words of its atoms, and what
 -- stands behind a subtree or some children.
+--
+--   ownAction, withAtom      a node's own action, and one atom before the others
+--   TreeGave, ChildrenGave   what the walk gives of a subtree, and of some children
 use Prim.Native.Nat.{ℕ}
 use mathlib.Core.Path.{_≡_}
 use mathlib.Core.Bool.{cond}

@@ -7,7 +7,7 @@ ghost use Rattle.policy.specs.declared.Reading.the-variants.{Accepted};
 ghost use Rattle.nodes.specs.Nodes.{cellsAt};
 ghost use Rattle.nodes.specs.Walk.{Reached};
 ghost use Rattle.row.specs.Row.{rowLength};
-ghost use Rattle.tree.specs.Action.{actionOf, acceptedAction};
+ghost use Rattle.tree.specs.Action.{treeActionOf, acceptedAction};
 ghost use Rattle.tree.specs.Steps.{ownAction, withAtom, TreeGave, ChildrenGave};
 use action::Action;
 use flow::Packet;
@@ -43,7 +43,7 @@ pub struct Gave {
 
 // What the policy in a file says of a packet.
 pub fn tree_action(file: &[u32], packet: &[u32]) -> Evaluated
-    ensures { λ r. ⌜ r ≡ actionOf (now (file .entry)) (now (packet .entry)) ⌝ }
+    ensures { λ r. ⌜ r ≡ treeActionOf (now (file .entry)) (now (packet .entry)) ⌝ }
 {
     let reading = read(file);
     match reading {

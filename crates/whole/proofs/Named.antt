@@ -27,17 +27,17 @@ use Rattle.section.proofs.Records.{else-both}
 use Rattle.logic.proofs.Tests.{by-test, or-split}
 
 -- a node that names an operator
-record Naming (i : ℕ) (ns : List (List ℕ)) : Type 0 where
-  at : ℕ
-  within : at < length ns
-  names-it : names i (getD ns at []) ≡ true
+pub record Naming (i : ℕ) (ns : List (List ℕ)) : Type 0 where
+  pub node : ℕ
+  pub within : node < length ns
+  pub names-it : names i (getD ns node []) ≡ true
 
-naming : (i : ℕ) (ns : List (List ℕ)) → named i ns ≡ true → Naming i ns
+pub naming : (i : ℕ) (ns : List (List ℕ)) → named i ns ≡ true → Naming i ns
 naming i [] e = let z : _≡_ {A = ℕ} 0 1 = cc in absurd (omega arith)
 naming i (r ∷ ns) e =
     ⊎-elim
-    (λ h. record { at = 0; within = omega arith; names-it = h })
-    (λ h. let n : Naming i ns = naming i ns h in record { at = suc (n .at); within = omega (arith, n .within); names-it = n .names-it })
+    (λ h. record { node = 0; within = omega arith; names-it = h })
+    (λ h. let n : Naming i ns = naming i ns h in record { node = suc (n .node); within = omega (arith, n .within); names-it = n .names-it })
     (or-split (names i r) (named i ns) e)
 
 pub named-by : (i : ℕ) (ns : List (List ℕ)) (n : ℕ) → n < length ns → names i (getD ns n []) ≡ true → named i ns ≡ true
@@ -123,8 +123,8 @@ module _ (a : ℕ) (os ns : List (List ℕ)) (many : length os ≡ a)
       searched j h t =
           let z : 0 + j ≡ j = omega arith in
           let n : Naming j ns = naming j ns (rw z at t) in
-          let r : List ℕ = getD ns (n .at) [] in
-          let k : KeepsLaws (operatorAt os (innerOf r)) × KeepsLaws (operatorAt os (siblingOf r)) = keeps (n .at) (n .within) in
+          let r : List ℕ = getD ns (n .node) [] in
+          let k : KeepsLaws (operatorAt os (innerOf r)) × KeepsLaws (operatorAt os (siblingOf r)) = keeps (n .node) (n .within) in
           let exact : KeepsLaws (operatorAt os j) → lawSearch (operatorAt os j) ≡ Yes =
           search-exact (operatorAt os j) (codes j (omega arith)) .1 in
           ⊎-elim

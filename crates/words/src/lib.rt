@@ -1,7 +1,7 @@
 // Moves over lent buffers of 32-bit words, and words against bytes. Each is total: a place outside the buffer reads 0
 // and stores nothing.
 ghost use mathlib.Core.Path.{_≡_};
-ghost use Prim.Native.Nat.{_+_, _*_, _/_, _≤_, _<_};
+ghost use Prim.Native.Nat.{_+_, _*_, _/_, _≤_, _<_, max};
 ghost use lib.ListN.{length, getD};
 ghost use Rattle.words.specs.Words.{laid, copied, cleared};
 ghost use Rattle.words.specs.Records.{flat};
@@ -15,6 +15,13 @@ pub fn word(words: &[u32], at: usize) -> u32
     ensures { λ r. ⌜ r ≡ getD (now (words .entry)) at 0 ⌝ }
 {
     if at < words.len() { words[at] } else { 0 }
+}
+
+// The larger of two words.
+pub fn larger(m: u32, n: u32) -> u32
+    ensures { λ r. ⌜ r ≡ max m n ⌝ }
+{
+    if m < n { n } else { m }
 }
 
 // Stores some words from a place on, if all of them fit.
