@@ -1,12 +1,13 @@
 -- The numbers of a policy file, each named once: how many words a record has in each edition, how many records and how
 -- deep, and the refusals. See docs/FORMAT.md, "The policy file" and "Numbers a caller can get back".
 --
---   latest                                                       the newest edition
---   headerLengthIn, headerOf                                     the words before the first count
+--   latest                      the newest edition
+--   headerLengthIn, headerOf    the words before the first count
 --   operatorLengthIn, atomLengthIn   the words of records, by edition; without In those of the newest
---   nodeLength, firstOperator, longestFile   the words of a node, the place of the first operator, the words of the longest file
+--   nodeLength, firstOperator   the words of a node; the place of the first operator
+--   longestFile                 the words of the longest file
 --   mostOperators, mostAtoms, mostNodes, mostChildren, deepest   limits
---   short .. lawBroken                                           the refusals 1 to 10
+--   short .. lawBroken          the refusals 1 to 10
 use Prim.Native.Nat.{ℕ, _+_, _*_}
 use mathlib.Core.List.{List, []}
 use Rattle.action.specs.Operator.{cellCount}
