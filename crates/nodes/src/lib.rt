@@ -11,13 +11,17 @@ use policy::Layout;
 use section::ATOM_WORDS;
 use section::CHILDREN;
 use section::FIRST_OPERATOR;
+use section::HEADER_WORDS;
 use section::INNER;
+use section::LATEST;
 use section::MOST_OPERATORS;
 use section::NODE_WORDS;
 use section::OPERATOR_WORDS;
 use section::OWN;
 use section::PARENT;
 use section::SIBLING;
+use section::Section;
+use section::behind;
 use words::word;
 
 // A place in the list of nodes: how many nodes are left from it on, and the word where the next node's atoms start.
@@ -101,7 +105,7 @@ fn first_atom(operators: usize) -> usize
     if MOST_OPERATORS < operators {
         return 0;
     }
-    FIRST_OPERATOR + OPERATOR_WORDS * operators + 1
+    behind(HEADER_WORDS, Section::Operators(LATEST), operators) + 1
 }
 
 // The word where the node stands, or the end of the file.

@@ -1,7 +1,6 @@
 // The sections of a policy file, by edition: where each stands, its count, that all of it is there, and its records in
 // order. Only the reading of a file calls these: two of them ask that what they look at is within the file.
 pub use crate::operators::operator_in;
-use crate::places::HEADER_WORDS;
 pub use crate::places::behind;
 pub use crate::places::header_words;
 pub use crate::places::operator_words;
@@ -17,6 +16,9 @@ mod atoms;
 mod operators;
 mod places;
 mod sections;
+
+// How many words stand before the first count of a file of the newest edition.
+pub const HEADER_WORDS: usize = 0;
 
 // How many words a record has.
 pub const OPERATOR_WORDS: usize = CELLS;

@@ -5,12 +5,10 @@ ghost use Rattle.section.specs.Numbers.{headerLengthIn, operatorLengthIn
 ghost use Rattle.section.specs.Sections.{recordLength, behind};
 use crate::ATOM_WORDS;
 use crate::Edition;
+use crate::HEADER_WORDS;
 use crate::NODE_WORDS;
 use crate::OPERATOR_WORDS;
 use crate::Section;
-
-// How many words stand before the first count of a file of the newest edition.
-pub(crate) const HEADER_WORDS: usize = 0;
 
 // Where a section of some records ends, whose count stands at a place.
 pub fn behind(at: usize, section: Section, count: usize) -> usize

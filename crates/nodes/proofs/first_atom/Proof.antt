@@ -12,7 +12,7 @@ returns c = rw (lt-ltb _ _ (c .if1 .taken))
 
 returns-2 : tie.Need-returns-2
 unfolding firstAtom
-returns-2 c = rw (le-ltb _ _ (c .if1 .left))
+returns-2 c = rw (c .behind .ensures, le-ltb _ _ (c .before .if1 .left))
 
 pub first-atom-spec : {M : Type 1} → statement M
-first-atom-spec = tie.close (tie.spec returns (search needs) (search needs) (search needs) returns-2)
+first-atom-spec = tie.close (tie.spec returns (search needs) (search needs) returns-2)
