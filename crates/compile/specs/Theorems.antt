@@ -5,14 +5,9 @@
 --   AnswerTells, AnswersRows  a success answers how many rows the file has: they fit, are right, and stand in the table
 use Prim.Native.Nat.{ℕ, _*_, _-_, _≤_, _<_}
 use mathlib.Core.Path.{_≡_}
-use mathlib.Core.Bool.{true}
 use mathlib.Core.List.{List, _++_}
 use mathlib.Core.Logic.{_↔_}
-use lib.ListN.{length, take}
-use Rattle.theory.specs.Rows.{Row}
-use Rattle.flow.specs.declared.Match.{Match}
-use Rattle.action.specs.Action.{inRange}
-use Rattle.action.specs.declared.Action.{Action}
+use lib.ListN.{length}
 use Rattle.row.specs.Row.{rowLength, RightRow, wordsOf, InRange}
 use Rattle.refusal.specs.Plain.{plain}
 use Rattle.policy.specs.Read.{readOf}

@@ -21,9 +21,9 @@ use Rattle.theory.specs.Number.{Chained, distinct, Obeyed}
 use Rattle.flow.specs.Packet.{packetOf, rightPacketWords}
 use Rattle.flow.specs.Match.{meets}
 use Rattle.flow.specs.declared.Packet.{Packet}
-use Rattle.table.specs.Table.{rowCount, past, RightTable}
+use Rattle.table.specs.Table.{rowCount, past}
 use Rattle.table.specs.Scan.{scanOf, scanAction}
-use Rattle.priority.specs.Numbering.{over, levelsOf, numberOf, prioritiesAfter, chainAfter, answerCount, Ready}
+use Rattle.priority.specs.Numbering.{over, levelsOf, numberOf, prioritiesAfter, chainAfter, Ready}
 use Rattle.priority.specs.Numbering.{Shared, count, priority, link}
 use Rattle.priority.specs.declared.Numbered.the-variants.{Priorities, Refused}
 use Rattle.row.specs.Row.{rowsIn}

@@ -8,12 +8,12 @@
 --                              its words
 --   ScanFirst, ScanUnmatched   the scan's answer where row i is the first that matches, and where none does
 --   ScanRefused                the order of the refusals: the packet, then the table
-use Prim.Native.Nat.{ℕ, suc, _*_, _%_, _≤_, _<_}
+use Prim.Native.Nat.{ℕ, suc, _≤_, _<_}
 use mathlib.Core.Path.{_≡_}
 use mathlib.Core.Bool.{true, false, not}
 use mathlib.Core.List.{List}
 use mathlib.Core.Logic.{_↔_}
-use lib.ListN.{length, getD, take, drop}
+use lib.ListN.{length, getD}
 use Rattle.words.specs.Records.{flat}
 use Rattle.theory.specs.Rows.{Row, matchesAt}
 use Rattle.theory.specs.Number.{FirstPlace}
@@ -22,7 +22,7 @@ use Rattle.flow.specs.Match.{meets}
 use Rattle.flow.specs.declared.Match.{Match}
 use Rattle.action.specs.declared.Action.{Action}
 use Rattle.action.specs.declared.Action.the-variants.{DontCare}
-use Rattle.row.specs.Row.{rowLength, mostRows, rowWords, rightRow, RightRow, rowsIn}
+use Rattle.row.specs.Row.{mostRows, rowWords, rightRow, RightRow, rowsIn}
 use Rattle.table.specs.Table.{wrongRow, rowCount, past, rightLength, checkOf, rowAt, RightTable}
 use Rattle.table.specs.Scan.{scanOf}
 use Rattle.table.specs.declared.Checked.the-variants.{Rows, Wrong}

@@ -8,15 +8,14 @@
 --   WrittenWhole                  so a buffer of so many bytes holds the whole text
 --   KnownByFirst                  one byte more than the longest input has tells what is listed
 --   ExamplesListed                the text of each of some examples
-use Prim.Native.Nat.{ℕ, _+_, _*_, _≤_, _<_}
+use Prim.Native.Nat.{ℕ, _*_, _≤_, _<_}
 use Prim.Native.String.{String}
 use mathlib.Core.Path.{_≡_}
 use mathlib.Core.Bool.{false}
-use mathlib.Core.List.{List, [], _∷_, _++_}
+use mathlib.Core.List.{List, [], _∷_}
 use lib.ListN.{length, take}
 use Rattle.words.specs.Records.{flat}
 use Rattle.words.specs.Bytes.{bytesOf}
-use Rattle.theory.specs.Number.{levelCount}
 use Rattle.table.specs.Table.{checkOf}
 use Rattle.table.specs.declared.Checked.the-variants as checked
 use Rattle.action.specs.Operator.{sibling}
@@ -24,12 +23,10 @@ use Rattle.policy.specs.Examples.{tenant, tenantWith, lone}
 use Rattle.refusal.specs.declared.Refusal.{Refusal}
 use Rattle.compile.specs.Compile.{answerOf, tableAfter, tableRows}
 use Rattle.compile.specs.declared.Compiled.the-variants.{Rows, Refused}
-use Rattle.priority.specs.Numbering.{levelsOf, prioritiesOf}
-use Rattle.line.specs.Text.{ascii, head, refusal, longestLine}
+use Rattle.line.specs.Text.{ascii, refusal}
 use Rattle.line.specs.Puts.{Puts}
-use Rattle.text.specs.Listing.{wrongInput, listingRoom, longestInput, rightInput, lines, blank, fileText}
+use Rattle.text.specs.Listing.{wrongInput, longestInput, rightInput, blank, fileText}
 use Rattle.text.specs.Listing.{listingOf, longestListing, ListedRows}
-use Rattle.row.specs.Row.{rowsIn}
 
 -- the rows that the compile leaves pass the table's check, with as many rows
 abbrev pub TableRight : Type 0
