@@ -138,7 +138,7 @@ module _ (e : Edition) (f : List ℕ) (a b c : ℕ) where
 
 -- ACCEPTED EXACTLY WHEN WELL FORMED
 pub accepted-as : AcceptedAs
-unfolding readAs lawsFault
+unfolding readAs
 accepted-as e f l = (well, accepts)
   where
     well : readAs e f ≡ Accepted l → WellFormedIn e f l

@@ -14,7 +14,7 @@ use Rattle.section.specs.Numbers.{headerLengthIn, operatorLengthIn, nodeLength,
 use Rattle.section.specs.Cells.{operatorRows}
 use Rattle.refusal.specs.Plain.{plain}
 use Rattle.section.specs.Sections.{childrenOf}
-use Rattle.whole.specs.Whole.{shape, shapeFault, ownAtoms, sumFault, lawsFrom}
+use Rattle.whole.specs.Whole.{shape, shapeFault, ownAtoms, sumFault, lawsFault}
 use Rattle.policy.specs.Read.{atomsAtIn, nodesAtIn, endIn, operatorsIn, nodesIn, wholeStages, stages, layout, answer, readAs, readRefusal}
 use Rattle.policy.specs.Steps.{withWhole}
 use Rattle.whole.specs.Meaning.{operatorAt, OneTree, ended, HasPlace}
@@ -155,7 +155,7 @@ lawless e f a b c n at o r =
     let w = broken-refused-as e f a b c o (λ k. h (kept-laws a os ns many codes nodes k)) in
     let q : n ≡ lawBroken = ap (λ x. readRefusal x .number) (sym r ∙ w .1) ∙ w .2 in
     refused-law-as e f (plain n at) r q .shows)
-    (passed-or-not (lawsFrom ns 0 os))
+    (passed-or-not (lawsFault ns os))
 
 -- AND NOTHING ELSE IS
 given-due : (e : Edition) (f : List ℕ) (n at : ℕ) → readAs e f ≡ Refused (plain n at) → Due e f n at

@@ -1,5 +1,5 @@
 -- What a refusal says: every stage but the last refuses with a number below 10 and no law, and the last with what the law search found. Assumes nothing.
-use Prim.Native.Nat.{ℕ, zero, suc, _+_, _≤_, _<_}
+use Prim.Native.Nat.{ℕ, suc, _+_, _≤_, _<_}
 use native.Mathlib.Omega.{arith}
 use mathlib.Core.Path.{_≡_, refl, _∙_}
 use mathlib.Core.Bool.{Bool, true, false, cond, _&&_}
@@ -17,9 +17,9 @@ use Rattle.action.proofs.Exact.{search-exact, search-shows}
 use Rattle.section.specs.Numbers.{latest, headerLengthIn, operatorLengthIn, mostAtoms, mostChildren, deepest, short, wrongCount, wrongCell, wrongMatch}
 use Rattle.section.specs.Numbers.{wrongAction, wrongNode, extraWords, noTree, wrongSum, lawBroken}
 use Rattle.refusal.specs.Plain.{plain}
-use Rattle.section.specs.Sections.{unless, _else_, each, recordLength, least, most, headerFault, countFault, cellsFrom, cellsFault, atomFault}
+use Rattle.section.specs.Sections.{unless, _else_, each, recordLength, least, most, headerFault, countFault, cellFault, cellsFault, atomFault}
 use Rattle.section.specs.Sections.{nodeFault, recordFault, behind, sectionFault, innerOf, parentOf, siblingOf, ownOf, childrenOf}
-use Rattle.whole.specs.Whole.{waitingNodes, oneLess, shape, shapeFault, ownAtoms, sumFault, named, broken, operatorFault, lawsFrom, lawsFault}
+use Rattle.whole.specs.Whole.{waitingNodes, oneLess, shape, shapeFault, ownAtoms, sumFault, named, broken, operatorFault, lawsFault}
 use Rattle.policy.specs.Read.{atomsAtIn, nodesAtIn, endIn, operatorsIn, nodesIn, extraFault, wholeStages, stages, layout, answer, readAs}
 use Rattle.section.specs.Atom.{rightAtomMatch, rightAtomAction}
 use Rattle.section.specs.Cells.{rightCellIn, operatorRows}
@@ -35,7 +35,8 @@ use Rattle.section.specs.declared.Section.{Section}
 use Rattle.section.specs.declared.Section.the-variants.{Operators, Atoms, Nodes}
 use Rattle.section.specs.declared.Test.{Test}
 use Rattle.section.specs.declared.Test.the-variants.{Passed, Failed}
-use Rattle.whole.proofs.Named.{operators-many, right-operators, laws-kept, unbroken}
+use Rattle.section.proofs.Each.{FirstFault, each-first}
+use Rattle.whole.proofs.Named.{operators-many, right-operators, laws-kept, passed-search}
 use Rattle.policy.proofs.Accepted.{AllPassed, Stages, otherwise-of, of-otherwise}
 use Rattle.logic.proofs.Tests.{by-test}
 use Rattle.action.specs.Operator.{cellsOf}
@@ -62,20 +63,14 @@ else-plain : (x y : Test) → Plain x → Plain y → Plain (_else_ x y)
 else-plain Passed y p q = q
 else-plain (Failed r) y p q = p
 
-each-plain : (t : ℕ → List ℕ → Test) (at k : ℕ) (rs : List (List ℕ)) → ((p : ℕ) (r : List ℕ) → Plain (t p r)) → Plain (each t at k rs)
+each-plain : {X : Type 0} (t : ℕ → X → Test) (at k : ℕ) (xs : List X) → ((p : ℕ) (x : X) → Plain (t p x)) → Plain (each t at k xs)
 each-plain t at k [] h = passed-plain
-each-plain t at k (r ∷ rs) h = else-plain (t at r) (each t (at + k) k rs) (h at r) (each-plain t (at + k) k rs h)
-
-cells-plain : (ed : Edition) (j at : ℕ) (cs : List ℕ) → Plain (cellsFrom ed j at cs)
-cells-plain ed j at [] = passed-plain
-cells-plain ed j at (c ∷ cs) =
-    else-plain (unless (rightCellIn ed j c) wrongCell at) (cellsFrom ed (suc j) (suc at) cs)
-    (unless-plain (rightCellIn ed j c) wrongCell at (omega arith) (omega arith))
-    (cells-plain ed (suc j) (suc at) cs)
+each-plain t at k (x ∷ xs) h = else-plain (t at x) (each t (at + k) k xs) (h at x) (each-plain t (at + k) k xs h)
 
 record-plain : (s : Section) (at : ℕ) (r : List ℕ) → Plain (recordFault s at r)
 unfolding cellsFault atomFault nodeFault
-record-plain (Operators e) at r = cells-plain e 0 at r
+record-plain (Operators e) at r =
+    each-plain (cellFault e at) 0 1 r (λ j c. unless-plain (rightCellIn e j c) wrongCell (at + j) (omega arith) (omega arith))
 record-plain (Atoms e) at r =
     else-plain (unless (rightAtomMatch e r) wrongMatch at) (unless (rightAtomAction e r) wrongAction at)
     (unless-plain (rightAtomMatch e r) wrongMatch at (omega arith) (omega arith))
@@ -178,74 +173,49 @@ module _ (e : Edition) (f : List ℕ) (a b c : ℕ) where
       ))
       (first-refusal before laws (layout a b c) r before-plain g)
 
--- the first operator that is named and breaks a law
-record FirstBroken (ns : List (List ℕ)) (i : ℕ) (os : List (List ℕ)) (r : Refusal) : Type 0 where
-  at : ℕ
-  within : at < length os
-  used : named (i + at) ns ≡ true
+-- what the refusal of the operator i shows: it is named and breaks a law
+record Found (ns : List (List ℕ)) (i : ℕ) (o : List ℕ) (r : Refusal) : Type 0 where
+  used : named i ns ≡ true
   number : r .number ≡ lawBroken
-  place : r .place ≡ i + at
-  shows : Shows (cellsOf (getD os at [])) (r .law) (r .first) (r .second) (r .third)
-  quiet : (j : ℕ) → j < at → named (i + j) ns ≡ true → lawSearch (cellsOf (getD os j [])) ≡ Yes
+  place : r .place ≡ i
+  shows : Shows (cellsOf o) (r .law) (r .first) (r .second) (r .third)
 
-found : (i : ℕ) (o : List ℕ) (x : Lawful) (r : Refusal) → lawSearch o ≡ x → broken i x ≡ Failed r
-    → (r .number ≡ lawBroken) × (r .place ≡ i) × Shows o (r .law) (r .first) (r .second) (r .third)
-found i o Yes r p e = let z : _≡_ {A = ℕ} 0 1 = cc in absurd (omega arith)
-found i o (Broken l a b c) r p e =
-    let q : r ≡ record { number = lawBroken; place = i; law = l; first = a; second = b; third = c } = cc in
-    rw q (refl, refl, search-shows o l a b c p)
-
--- the first of two tests fails, or it passes and the second fails
-else-cases : (x y : Test) (r : Refusal) → _else_ x y ≡ Failed r → (x ≡ Failed r) ⊎ ((x ≡ Passed) × (y ≡ Failed r))
-else-cases Passed y r e = inr (refl, e)
-else-cases (Failed s) y r e = inl e
-
-first-broken : (ns : List (List ℕ)) (i : ℕ) (os : List (List ℕ)) (r : Refusal) → lawsFrom ns i os ≡ Failed r → FirstBroken ns i os r
+found : (ns : List (List ℕ)) (i : ℕ) (o : List ℕ) (r : Refusal) → operatorFault ns i o ≡ Failed r → Found ns i o r
 unfolding operatorFault
-first-broken ns i [] r e = let z : _≡_ {A = ℕ} 0 1 = cc in absurd (omega arith)
-first-broken ns i (o ∷ os) r e =
-    ⊎-elim
-    (λ h. by-test (named i ns)
-    (λ t.
-    let w = found i (cellsOf o) (lawSearch (cellsOf o)) r refl (rw t at h) in
-    let z : i + 0 ≡ i = omega arith in
-    record { at = 0; within = omega arith; used = rw z t; number = w .0; place = rw z (w .1); shows = w .2; quiet = λ j l. absurd (omega arith) })
-    (λ t. let k : Passed ≡ Failed r = rw t at h in let z : _≡_ {A = ℕ} 0 1 = cc in absurd (omega arith)))
-    (λ h.
-    let n : FirstBroken ns (suc i) os r = first-broken ns (suc i) os r (h .1) in
-    let z : i + suc (n .at) ≡ suc i + n .at = omega arith in
-    record {
-      at = suc (n .at);
-      within = omega (arith, n .within);
-      used = rw z (n .used);
-      number = n .number;
-      place = rw z (n .place);
-      shows = n .shows;
-      quiet = earlier ns i o os (n .at) (λ t. unbroken i (lawSearch (cellsOf o)) (rw t at (h .0))) (n .quiet);
-    })
-    (else-cases (operatorFault ns i o) (lawsFrom ns (suc i) os) r e)
+found ns i o r e =
+    by-test (named i ns)
+    (λ t. searched (lawSearch (cellsOf o)) t refl (rw t at e))
+    (λ t. let k : Passed ≡ Failed r = rw t at e in let z : _≡_ {A = ℕ} 0 1 = cc in absurd (omega arith))
   where
-    earlier : (ns : List (List ℕ)) (i : ℕ) (o : List ℕ) (os : List (List ℕ)) (at : ℕ) → (named i ns ≡ true → lawSearch (cellsOf o) ≡ Yes)
-        → ((j : ℕ) → j < at → named (suc i + j) ns ≡ true → lawSearch (cellsOf (getD os j [])) ≡ Yes)
-        → (j : ℕ) → j < suc at → named (i + j) ns ≡ true → lawSearch (cellsOf (getD (o ∷ os) j [])) ≡ Yes
-    earlier ns i o os at here later zero l t = let z : i + 0 ≡ i = omega arith in here (rw z at t)
-    earlier ns i o os at here later (suc j) l t = let z : i + suc j ≡ suc i + j = omega arith in later j (omega arith) (rw z at t)
+    searched : (x : Lawful) → named i ns ≡ true → lawSearch (cellsOf o) ≡ x → broken i x ≡ Failed r → Found ns i o r
+    searched Yes t p g = let z : _≡_ {A = ℕ} 0 1 = cc in absurd (omega arith)
+    searched (Broken l a b c) t p g =
+        let q : r ≡ record { number = lawBroken; place = i; law = l; first = a; second = b; third = c } = cc in
+        rw q (record { used = t; number = refl; place = refl; shows = search-shows (cellsOf o) l a b c p })
+
+-- the laws are refused with the first operator that is
+first-broken : (ns os : List (List ℕ)) (r : Refusal) → lawsFault ns os ≡ Failed r
+    → (i : ℕ) × FirstFault [] (operatorFault ns) 1 0 os i r × Found ns i (getD os i []) r
+unfolding lawsFault
+first-broken ns os r e =
+    let f = each-first [] (operatorFault ns) 1 0 os r e in
+    (f .0, f .1, found ns (f .0) (getD os (f .0) []) r (f .1 .fails (f .0) (omega arith)))
 
 -- EVERY REFUSAL BUT THE LAST STAGE'S IS PLAIN
 pub refused-plain-as : RefusedPlainAs
-unfolding readAs lawsFault laws
+unfolding readAs laws
 refused-plain-as e f r g n =
     let a : ℕ = getD f (headerLengthIn e) 0 in
     let b : ℕ = getD f (atomsAtIn e a) 0 in
     let c : ℕ = getD f (nodesAtIn e a b) 0 in
     ⊎-elim
     (λ h. h)
-    (λ h. absurd (n (first-broken (nodesIn e f a b c) 0 (operatorRows e (operatorsIn e f a)) r (h .1) .number)))
+    (λ h. absurd (n (first-broken (nodesIn e f a b c) (operatorRows e (operatorsIn e f a)) r (h .1) .2 .number)))
     (split e f a b c r g)
 
 -- THE LAST STAGE'S SHOWS A BROKEN LAW
 pub refused-law-as : RefusedLawAs
-unfolding readAs lawsFault laws
+unfolding readAs laws
 refused-law-as e f r g n =
     let a : ℕ = getD f (headerLengthIn e) 0 in
     let b : ℕ = getD f (atomsAtIn e a) 0 in
@@ -257,23 +227,21 @@ refused-law-as e f r g n =
     ⊎-elim
     (λ h. absurd (omega (arith, h .1)))
     (λ h.
-    let w : FirstBroken ns 0 os r = first-broken ns 0 os r (h .1) in
+    let w = first-broken ns os r (h .1) in
     let o : OtherwiseIn e f a b c = otherwise-of e f a b c refl refl refl (h .0) in
-    let z : r .place ≡ w .at = omega (arith, w .place) in
-    let y : 0 + w .at ≡ w .at = omega arith in
+    let z : r .place ≡ w .0 = w .2 .place in
     let many : length os ≡ a = operators-many e raw ∙ counted in
     record {
       operators = a;
       atoms = b;
       nodes = c;
       otherwise = o;
-      within = omega (arith, w .within);
-      used = rw z (rw y at (w .used));
-      shows = rw z (w .shows);
+      within = omega (arith, w .1 .within);
+      used = rw z (w .2 .used);
+      shows = rw z (w .2 .shows);
       first-such = λ i l t.
-          let v : 0 + i ≡ i = omega arith in
-          search-exact (operatorAt os i) (right-operators e raw a counted (o .cells) i (omega (arith, w .within))) .0
-          (w .quiet i (omega arith) (rw v t));
+          search-exact (operatorAt os i) (right-operators e raw a counted (o .cells) i (omega (arith, w .1 .within))) .0
+          (passed-search ns i (getD os i []) (w .1 .before i (omega arith) i (omega arith)) t);
     })
     (split e f a b c r g)
 
@@ -285,20 +253,20 @@ last-answer (Failed r) l n = (r, refl, refl)
 
 -- A BROKEN LAW IS REFUSED
 pub broken-refused-as : BrokenRefusedAs
-unfolding readAs stages wholeStages answer lawsFault
+unfolding readAs stages wholeStages answer
 broken-refused-as e f a b c o n =
     let raw : List (List ℕ) = operatorsIn e f a in
     let os : List (List ℕ) = operatorRows e raw in
     let counted : length raw ≡ a = length-records a (operatorLengthIn e) (drop (headerLengthIn e + 1) f) in
     let ns : List (List ℕ) = nodesIn e f a b c in
     let s : Stages e f a b c = of-otherwise e f a b c o in
-    let w : (r : Refusal) × (answer (lawsFrom ns 0 os ∷ []) (layout a b c) ≡ Refused r) × (lawsFrom ns 0 os ≡ Failed r) =
-    last-answer (lawsFrom ns 0 os) (layout a b c)
+    let w : (r : Refusal) × (answer (lawsFault ns os ∷ []) (layout a b c) ≡ Refused r) × (lawsFault ns os ≡ Failed r) =
+    last-answer (lawsFault ns os) (layout a b c)
     (λ p. n (laws-kept a os ns (operators-many e raw ∙ counted) (right-operators e raw a counted (o .cells))
     (λ i h. o .right-nodes i (rw length-records at h)) p)) in (
       w .0,
       rw (o .operators .count, o .atoms .count, o .nodes .count, s .header, s .operators, s .atoms, s .nodes, s .extra, s .tree, s .sum) (w .1),
-      first-broken ns 0 os (w .0) (w .2) .number,
+      first-broken ns os (w .0) (w .2) .2 .number,
     )
 
 -- the same for the newest edition

@@ -4,7 +4,7 @@ use Prim.Native.Nat.{ℕ, zero, suc, _+_, _*_, _<_}
 use native.Mathlib.Omega.{arith}
 use mathlib.Core.Path.{_≡_, refl, _∙_}
 use mathlib.Core.Bool.{Bool, true, false, _&&_, and-false}
-use mathlib.Core.List.{List, [], _∷_}
+use mathlib.Core.List.{List, []}
 use mathlib.Core.Logic.{_⊎_, inl, inr, ⊎-elim}
 use lib.Dec.{leb, ltb}
 use lib.ListN.{getD, length, drop}
@@ -15,18 +15,18 @@ use Rattle.section.specs.Numbers.{operatorLengthIn, mostAtoms, mostChild
 use Rattle.section.specs.Atom.{rightAtomMatch, rightAtomAction}
 use Rattle.section.specs.Cells.{rightCellIn}
 use Rattle.refusal.specs.Plain.{plain}
-use Rattle.section.specs.Sections.{unless, each, recordLength, least, most, headerFault}
-use Rattle.section.specs.Sections.{countFault, cellsFrom, cellsFault, atomFault, nodeFault, recordFault, sectionFault}
+use Rattle.section.specs.Sections.{unless, recordLength, least, most, headerFault}
+use Rattle.section.specs.Sections.{countFault, cellFault, cellsFault, atomFault, nodeFault, recordFault, sectionFault}
 use Rattle.section.specs.Sections.{innerOf, parentOf, siblingOf, ownOf, childrenOf}
 use Rattle.section.specs.Due.{Present, RightHeader, FirstWrong, RightRecord, recordAt, Good, RecordDue, SectionDue, HeaderDue}
 use Rattle.section.specs.Due.{cell, match, action, node, no-count, beyond, cut, wrong-record}
 use Rattle.section.specs.declared.Edition.{Edition}
 use Rattle.section.specs.declared.Edition.the-variants.{First}
-use Rattle.refusal.specs.declared.Refusal.{Refusal}
 use Rattle.section.specs.declared.Section.{Section}
 use Rattle.section.specs.declared.Section.the-variants.{Operators, Atoms, Nodes}
 use Rattle.section.specs.declared.Test.{Test}
 use Rattle.section.specs.declared.Test.the-variants.{Passed, Failed}
+use Rattle.section.proofs.Each.{first-each}
 use Rattle.section.proofs.Passed.{node-fault, fault-node, right-record, present-long, present-fault}
 use Rattle.logic.proofs.Tests.{by-test, by-le}
 
@@ -40,35 +40,6 @@ first-wrong Right decide (suc n) = ⊎-elim
     (decide n))
     (λ w. inr (w .0, record { within = omega (arith, w .1 .within); wrong = w .1 .wrong; before = w .1 .before }))
     (first-wrong Right decide n)
-
--- RECORDS. Of records in order the first that is refused is.
-each-first : (t : ℕ → List ℕ → Test) (at k : ℕ) (rs : List (List ℕ)) (i : ℕ) (x : Refusal) → i < length rs
-    → ((j : ℕ) → j < i → (p : ℕ) → t p (getD rs j []) ≡ Passed) → t (at + k * i) (getD rs i []) ≡ Failed x → each t at k rs ≡ Failed x
-each-first t at k [] i x h b e = absurd (omega arith)
-each-first t at k (r ∷ rs) zero x h b e =
-    let z : at + k * 0 ≡ at = omega arith in
-    let e′ : t at r ≡ Failed x = rw z at e in
-    rw e′
-each-first t at k (r ∷ rs) (suc i) x h b e =
-    let g : k * suc i ≡ k + k * i = omega arith in
-    let z : at + k * suc i ≡ at + k + k * i = omega arith in
-    rw (b 0 (omega arith) at) (each-first t (at + k) k rs i x (omega arith) (λ j l p. b (suc j) (omega arith) p) (rw z at e))
-
--- and of cells the first that is wrong
-cells-first : (ed : Edition) (j at : ℕ) (cs : List ℕ) (m : ℕ) → m < length cs → ((i : ℕ) → i < m → rightCellIn ed (j + i) (getD cs i 0) ≡ true)
-    → rightCellIn ed (j + m) (getD cs m 0) ≡ false → cellsFrom ed j at cs ≡ Failed (plain wrongCell (at + m))
-cells-first ed j at [] m h b e = absurd (omega arith)
-cells-first ed j at (c ∷ cs) zero h b e =
-    let z : j + 0 ≡ j = omega arith in
-    let y : at + 0 ≡ at = omega arith in
-    let e′ : rightCellIn ed j c ≡ false = rw z at e in
-    rw (e′, y)
-cells-first ed j at (c ∷ cs) (suc m) h b e =
-    let z : j + 0 ≡ j = omega arith in
-    let y : at + suc m ≡ suc at + m = omega arith in
-    let x : (i : ℕ) → j + suc i ≡ suc j + i = λ i. omega arith in
-    let first : rightCellIn ed j c ≡ true = rw z at (b 0 (omega arith)) in
-    rw (first, y) (cells-first ed (suc j) (suc at) cs m (omega arith) (λ i l. rw (x i) at (b (suc i) (omega arith))) (rw (x m) at e))
 
 -- tests and stages, by their outcome
 not-true : (b : Bool) → ¬ (b ≡ true) → b ≡ false
@@ -91,8 +62,11 @@ passed-or-not (Failed x) = inr (λ e. let z : _≡_ {A = ℕ} 0 1 = cc in omega 
 record-due : (at : ℕ) (r : List ℕ) {s : Section} {n p : ℕ} → RecordDue at r s n p → length r ≡ recordLength s → recordFault s at r ≡ Failed (plain n p)
 unfolding cellsFault atomFault nodeFault
 record-due at r (cell {e} {j} w) long =
-    let z : (i : ℕ) → 0 + i ≡ i = λ i. omega arith in
-    cells-first e 0 at r j (omega (arith, w .within)) (λ i l. rw (z i) (w .before i l)) (rw (z j) (not-true _ (w .wrong)))
+    first-each 0 (cellFault e at) 1 0 r j (plain wrongCell (at + j)) (record {
+      within = omega (arith, w .within);
+      before = λ i l p q. let z : p ≡ i = omega arith in rw (z, w .before i l);
+      fails = λ p q. let z : p ≡ j = omega arith in rw (z, not-true _ (w .wrong));
+    })
 record-due at r (match t) long = rw t
 record-due at r (action t u) long = rw (t, u)
 record-due at r (node {a} h) long =
@@ -133,10 +107,11 @@ module _ (f : List ℕ) (at : ℕ) (s : Section) where
       rw (lt-ltb at (length f) h, le-leb (least s) n l, le-leb n (most s) m, lt-leb (at + 1 + recordLength s * n) (length f) g)
   section-due (wrong-record {n} {i} {number} {place} p w d) =
       present-fault f at s n p
-      ∙ each-first (recordFault s) (at + 1) (recordLength s) (records n (recordLength s) (drop (at + 1) f)) i (plain number place)
-      (rw length-records (w .within))
-      (λ j l q. right-record s q (recordAt f at s n j) (present-long f at s n p j (omega (arith, w .within))) (w .before j l))
-      (record-due (at + 1 + recordLength s * i) (recordAt f at s n i) d (present-long f at s n p i (w .within)))
+      ∙ first-each [] (recordFault s) (recordLength s) (at + 1) (records n (recordLength s) (drop (at + 1) f)) i (plain number place) (record {
+        within = rw length-records (w .within);
+        before = λ j l x q. right-record s x (recordAt f at s n j) (present-long f at s n p j (omega (arith, w .within))) (w .before j l);
+        fails = λ x q. rw q (record-due (at + 1 + recordLength s * i) (recordAt f at s n i) d (present-long f at s n p i (w .within)));
+      })
 
   -- a section is good, or something is due to it
   pub section-cases : Good f at s (getD f at 0) ⊎ ((n : ℕ) × (p : ℕ) × SectionDue f at s n p)

@@ -1,5 +1,6 @@
 pub mod Editions
 pub mod Lengths
+pub mod Each
 pub mod Records
 pub mod Passed
 pub mod Due

@@ -3,7 +3,7 @@ use Prim.Native.Nat.{ℕ, zero, suc, _+_, _*_, _≤_, _<_}
 use native.Mathlib.Omega.{arith}
 use mathlib.Core.Path.{_≡_, refl, _∙_}
 use mathlib.Core.Bool.{Bool, true, _&&_, and-eq-true-iff}
-use mathlib.Core.List.{List, [], _∷_}
+use mathlib.Core.List.{List, []}
 use lib.Dec.{leb, ltb}
 use lib.ListN.{getD, length, drop, length-drop}
 use lib.Seq.{length-take-le}
@@ -11,7 +11,7 @@ use borrow.Author.Tests.{ltb-true, lt-ltb, leb-true, le-leb}
 use Rattle.words.specs.Records.{records}
 use Rattle.words.proofs.Records.{length-records}
 use Rattle.section.specs.Numbers.{headerLengthIn, mostAtoms, mostChildren, wrongMatch, wrongAction, wrongCell, wrongNode}
-use Rattle.section.specs.Sections.{unless, _else_, each, cellsFrom, cellsFault, atomFault, nodeFault, recordLength, least, most, headerFault, countFault}
+use Rattle.section.specs.Sections.{unless, each, cellFault, cellsFault, atomFault, nodeFault, recordLength, least, most, headerFault, countFault}
 use Rattle.section.specs.Sections.{recordFault, sectionFault, innerOf, parentOf, siblingOf, ownOf, childrenOf}
 use Rattle.section.specs.Atom.{rightAtomMatch, rightAtomAction}
 use Rattle.section.specs.Cells.{rightCellIn}
@@ -20,31 +20,9 @@ use Rattle.section.specs.declared.Edition.{Edition}
 use Rattle.section.specs.declared.Edition.the-variants.{First}
 use Rattle.section.specs.declared.Section.{Section}
 use Rattle.section.specs.declared.Section.the-variants.{Operators, Atoms, Nodes}
-use Rattle.section.specs.declared.Test.{Test}
 use Rattle.section.specs.declared.Test.the-variants.{Passed}
-use Rattle.section.proofs.Records.{unless-true, else-both, Section-passed, section-passed}
-
--- both of two tests pass
-both-else : (x y : Test) → x ≡ Passed → y ≡ Passed → _else_ x y ≡ Passed
-both-else x y p q = rw (p, q)
-
--- every record of some passes
-each-passed : (t : ℕ → List ℕ → Test) (at k : ℕ) (rs : List (List ℕ)) → each t at k rs ≡ Passed → (i : ℕ) → i < length rs
-    → t (at + k * i) (getD rs i []) ≡ Passed
-each-passed t at k [] e i h = absurd (omega arith)
-each-passed t at k (r ∷ rs) e zero h =
-    let z : at + k * 0 ≡ at = omega arith in
-    rw z (else-both (t at r) (each t (at + k) k rs) e .0)
-each-passed t at k (r ∷ rs) e (suc i) h =
-    let g : k * suc i ≡ k + k * i = omega arith in
-    let z : at + k * suc i ≡ at + k + k * i = omega arith in
-    rw z (each-passed t (at + k) k rs (else-both (t at r) (each t (at + k) k rs) e .1) i (omega arith))
-
-passed-each : (t : ℕ → List ℕ → Test) (at k : ℕ) (rs : List (List ℕ)) → ((i : ℕ) → i < length rs → (p : ℕ) → t p (getD rs i []) ≡ Passed)
-    → each t at k rs ≡ Passed
-passed-each t at k [] h = refl
-passed-each t at k (r ∷ rs) h =
-    both-else (t at r) (each t (at + k) k rs) (h 0 (omega arith) at) (passed-each t (at + k) k rs (λ i l. h (suc i) (omega arith)))
+use Rattle.section.proofs.Each.{else-both, each-passed, passed-each}
+use Rattle.section.proofs.Records.{unless-true, Section-passed, section-passed}
 
 -- a record of a section that is there has its whole length
 record-long : (n k : ℕ) (ws : List ℕ) (i : ℕ) → k * n ≤ length ws → i < n → length (getD (records n k ws) i []) ≡ k
@@ -57,30 +35,13 @@ record-long (suc n) k ws (suc i) h l =
     record-long n k (drop k ws) i (rw length-drop (omega arith)) (omega arith)
 
 -- the cells of an operator
-cells-right : (ed : Edition) (j at : ℕ) (cs : List ℕ) → cellsFrom ed j at cs ≡ Passed → (i : ℕ) → i < length cs → rightCellIn ed (j + i) (getD cs i 0) ≡ true
-cells-right ed j at [] e i h = absurd (omega arith)
-cells-right ed j at (c ∷ cs) e zero h =
-    let z : j + 0 ≡ j = omega arith in
-    rw z (unless-true (rightCellIn ed j c) wrongCell at (else-both (unless (rightCellIn ed j c) wrongCell at) (cellsFrom ed (suc j) (suc at) cs) e .0))
-cells-right ed j at (c ∷ cs) e (suc i) h =
-    let z : j + suc i ≡ suc j + i = omega arith in
-    rw z (cells-right ed (suc j) (suc at) cs (else-both (unless (rightCellIn ed j c) wrongCell at) (cellsFrom ed (suc j) (suc at) cs) e .1) i (omega arith))
-
-right-cells : (ed : Edition) (j at : ℕ) (cs : List ℕ) → ((i : ℕ) → i < length cs → rightCellIn ed (j + i) (getD cs i 0) ≡ true) → cellsFrom ed j at cs ≡ Passed
-right-cells ed j at [] h = refl
-right-cells ed j at (c ∷ cs) h =
-    let z : j + 0 ≡ j = omega arith in
-    let first : rightCellIn ed j c ≡ true = rw z at (h 0 (omega arith)) in
-    rw first
-    (right-cells ed (suc j) (suc at) cs (λ i l. let y : j + suc i ≡ suc j + i = omega arith in rw y at (h (suc i) (omega arith))))
-
 cells-fault : (ed : Edition) (at : ℕ) (cs : List ℕ) → cellsFault ed at cs ≡ Passed → (j : ℕ) → j < length cs → rightCellIn ed j (getD cs j 0) ≡ true
 unfolding cellsFault
-cells-fault ed at cs e j h = let z : 0 + j ≡ j = omega arith in rw z at (cells-right ed 0 at cs e j h)
+cells-fault ed at cs e j h = unless-true (rightCellIn ed j (getD cs j 0)) wrongCell (at + j) (each-passed 0 (cellFault ed at) 1 0 cs e j h j (omega arith))
 
 fault-cells : (ed : Edition) (at : ℕ) (cs : List ℕ) → ((j : ℕ) → j < length cs → rightCellIn ed j (getD cs j 0) ≡ true) → cellsFault ed at cs ≡ Passed
 unfolding cellsFault
-fault-cells ed at cs h = right-cells ed 0 at cs (λ i l. let z : 0 + i ≡ i = omega arith in rw z (h i l))
+fault-cells ed at cs h = passed-each 0 (cellFault ed at) 1 0 cs (λ j l p q. let z : p ≡ j = omega arith in rw (z, h j l))
 
 -- an atom's match and action
 atom-fault : (e : Edition) (at : ℕ) (r : List ℕ) → atomFault e at r ≡ Passed → (rightAtomMatch e r ≡ true) × (rightAtomAction e r ≡ true)
@@ -157,8 +118,8 @@ module _ (f : List ℕ) (at : ℕ) (s : Section) (n : ℕ) where
   pub good-passed : Good f at s n → sectionFault f at s ≡ Passed
   good-passed g =
       present-fault (g .present)
-      ∙ passed-each (recordFault s) (at + 1) (recordLength s) (records n (recordLength s) (drop (at + 1) f))
-      (λ i l p. let h : i < n = rw length-records at l in right-record s p (recordAt f at s n i) (present-long (g .present) i h) (g .right i h))
+      ∙ passed-each [] (recordFault s) (recordLength s) (at + 1) (records n (recordLength s) (drop (at + 1) f))
+      (λ i l p q. let h : i < n = rw length-records at l in right-record s p (recordAt f at s n i) (present-long (g .present) i h) (g .right i h))
 
   pub passed-good : getD f at 0 ≡ n → sectionFault f at s ≡ Passed → Good f at s n
   passed-good c e =
@@ -169,5 +130,6 @@ module _ (f : List ℕ) (at : ℕ) (s : Section) (n : ℕ) where
       record {
         present = p;
         right = λ i h. record-right s _ (recordAt f at s n i) (present-long p i h)
-            (each-passed (recordFault s) (at + 1) (recordLength s) (records n (recordLength s) (drop (at + 1) f)) (rw c at (w .all)) i (rw length-records h));
+            (each-passed [] (recordFault s) (recordLength s) (at + 1) (records n (recordLength s) (drop (at + 1) f)) (rw c at (w .all)) i
+            (rw length-records h) _ refl);
       }

@@ -1,26 +1,24 @@
--- A section: one turn of the loop over its records, whatever they are, of that over an operator's cells, and what a passed section shows. Assumes nothing.
+-- A section: the records and the cells that a loop has left, and what a passed section shows. Assumes nothing.
 use Prim.Native.Nat.{ℕ, zero, suc, _+_, _*_, _-_, _≤_, _<_}
 use native.Mathlib.Omega.{arith}
 use native.Mathlib.Numerals.{add-one}
 use mathlib.Core.Path.{_≡_, refl, sym, _∙_}
 use mathlib.Core.Bool.{Bool, true, false, _&&_}
-use mathlib.Core.List.{List}
+use mathlib.Core.List.{List, _∷_}
 use lib.Dec.{leb, ltb}
-use lib.ListN.{getD, length, take, drop, drop-of-length-le}
+use lib.ListN.{getD, length, drop}
 use lib.Seq.{drop-cons}
 use borrow.Author.Tests.{leb-true, ltb-true}
 use Rattle.words.specs.Records.{records}
-use Rattle.words.proofs.Records.{records-next, records-none}
-use Rattle.section.specs.Cells.{rightCellIn}
-use Rattle.section.specs.Numbers.{short, wrongCount, wrongCell}
-use Rattle.section.specs.Sections.{unless, _else_, each, recordLength, least, most, countFault, cellsFrom, recordFault, behind, sectionFault}
-use Rattle.section.specs.declared.Edition.{Edition}
+use Rattle.section.specs.Numbers.{short, wrongCount}
+use Rattle.section.specs.Sections.{unless, _else_, each, recordLength, least, most, countFault, recordFault, behind, sectionFault}
 use Rattle.section.specs.declared.Edition.the-variants.{First}
 use Rattle.refusal.specs.declared.Refusal.{Refusal}
 use Rattle.section.specs.declared.Section.{Section}
 use Rattle.section.specs.declared.Section.the-variants.{Operators, Atoms, Nodes}
 use Rattle.section.specs.declared.Test.{Test}
 use Rattle.section.specs.declared.Test.the-variants.{Passed, Failed}
+use Rattle.section.proofs.Each.{else-both}
 use Rattle.logic.proofs.Tests.{and-left, and-right}
 
 -- where one record at least is left, it fits, and so do the others
@@ -35,48 +33,14 @@ fits k from (suc m) n h g =
     let e : k * suc m ≡ k + k * m = omega arith in
     record { one = omega arith; others = rw d (omega arith) }
 
-module _ (t : ℕ → List ℕ → Test) (k from left : ℕ) (f : List ℕ) (w : Test) (inv : each t from k (records left k (drop from f)) ≡ w)
-    (h : 0 < left) (x : Test) (e : x ≡ t from (take (from + k - from) (drop from f))) where
-  next : w ≡ _else_ x (each t (from + k) k (records (left - 1) k (drop (from + k) f)))
-  next = sym inv ∙ rw (records-next k from left f h, e)
-
-  -- a fault that is found is the whole search's answer
-  pub hit : (r : Refusal) → x ≡ Failed r → x ≡ w
-  hit r g = cc next
-
-  -- and where none is, the search goes on
-  pub miss : x ≡ Passed → each t (from + k) k (records (left - 1) k (drop (from + k) f)) ≡ w
-  miss g = cc next
-
--- where no record is left, none was found
-pub done : (t : ℕ → List ℕ → Test) (k from left : ℕ) (f : List ℕ) (w : Test) → left ≤ 0 → each t from k (records left k (drop from f)) ≡ w → Passed ≡ w
-done t k from left f w h e = rw (records-none k left (drop from f) h) at e
-
--- the same for the cells of one operator
-module _ (ed : Edition) (at j : ℕ) (l : List ℕ) (w : Test) (inv : cellsFrom ed j (at + j) (drop j l) ≡ w) (h : j < length l) (b : Bool)
-    (p : b ≡ rightCellIn ed j (getD l j 0)) (x : Test) (e : x ≡ unless b wrongCell (at + j)) where
-  next-cell : w ≡ _else_ x (cellsFrom ed (j + 1) (at + (j + 1)) (drop (j + 1) l))
-  next-cell =
-      let a : at + (j + 1) ≡ suc (at + j) = omega arith in
-      sym inv ∙ rw (a, add-one j, drop-cons l j 0 h, e, p)
-
-  pub hit-cell : (r : Refusal) → x ≡ Failed r → x ≡ w
-  hit-cell r g = cc next-cell
-
-  pub miss-cell : x ≡ Passed → cellsFrom ed (j + 1) (at + (j + 1)) (drop (j + 1) l) ≡ w
-  miss-cell g = cc next-cell
-
-pub done-cell : (ed : Edition) (at j : ℕ) (l : List ℕ) (w : Test) → length l ≤ j → cellsFrom ed j (at + j) (drop j l) ≡ w → Passed ≡ w
-done-cell ed at j l w h e = rw (drop-of-length-le l h) at e
+-- where cells are left, the first of them and the others
+pub cells-next : (j : ℕ) (cs : List ℕ) → j < length cs → drop j cs ≡ getD cs j 0 ∷ drop (j + 1) cs
+cells-next j cs h = rw (add-one j) (drop-cons cs j 0 h)
 
 -- what a passed test shows
 pub unless-true : (b : Bool) (n at : ℕ) → unless b n at ≡ Passed → b ≡ true
 unless-true true n at e = refl
 unless-true false n at e = cc
-
-pub else-both : (x y : Test) → _else_ x y ≡ Passed → (x ≡ Passed) × (y ≡ Passed)
-else-both Passed y e = (refl, e)
-else-both (Failed r) y e = (e, cc)
 
 -- a count that passes is there, and within its limits
 pub record Counted (f : List ℕ) (at : ℕ) (s : Section) : Type 0 where

@@ -2,7 +2,7 @@
 -- its records in order. See docs/FORMAT.md, "The policy file" and "Numbers a caller can get back".
 --
 --   unless, _else_         a refusal where a test is not met; the first of two
---   each                   the first refusal of some records in order
+--   each                   the first refusal of records, cells or operators in order
 --   recordLength, least, most   the words of a section's records; the fewest and the most that it may have
 --   headerFault            the header is the edition's
 --   countFault             a section's count is there (1) and within its limits (2)
@@ -10,7 +10,7 @@
 --   behind                 where a section ends: the next one's count stands there
 --   sectionFault           the count, then the whole section (1), then its records in order
 --   Reaches                a file reaches to a place, and its operators are there
-use Prim.Native.Nat.{ℕ, suc, _+_, _*_, _≤_}
+use Prim.Native.Nat.{ℕ, _+_, _*_, _≤_}
 use mathlib.Core.Bool.{Bool, cond, _&&_}
 use mathlib.Core.List.{List, [], _∷_}
 use lib.Dec.{leb, ltb}
@@ -38,10 +38,10 @@ abbrev pub _else_ : Test → Test → Test
 _else_ Passed y = y
 _else_ (Failed r) y = Failed r
 
--- the first refusal of records that stand k words apart from a place on
-abbrev pub each : (ℕ → List ℕ → Test) → ℕ → ℕ → List (List ℕ) → Test
+-- the first refusal of members, such as records, that stand k apart from a place on
+abbrev pub each : {X : Type 0} → (ℕ → X → Test) → ℕ → ℕ → List X → Test
 each t at k [] = Passed
-each t at k (r ∷ rs) = _else_ (t at r) (each t (at + k) k rs)
+each t at k (x ∷ xs) = _else_ (t at x) (each t (at + k) k xs)
 
 -- the words of a section's records
 abbrev pub recordLength : Section → ℕ
@@ -71,14 +71,13 @@ countFault f at s =
     _else_ (unless (ltb at (length f)) short (length f))
     (unless (leb (least s) (getD f at 0) && leb (getD f at 0) (most s)) wrongCount at)
 
--- the cells from the j-th on are right, the first of them at a place
-abbrev pub cellsFrom : Edition → ℕ → ℕ → List ℕ → Test
-cellsFrom e j at [] = Passed
-cellsFrom e j at (c ∷ cs) = _else_ (unless (rightCellIn e j c) wrongCell at) (cellsFrom e (suc j) (suc at) cs)
+-- the cell j of an operator that stands at a place is right
+abbrev pub cellFault : Edition → ℕ → ℕ → ℕ → Test
+cellFault e at j c = unless (rightCellIn e j c) wrongCell (at + j)
 
 -- the cells of an operator are right
 unfoldable pub cellsFault : Edition → ℕ → List ℕ → Test
-cellsFault e at r = cellsFrom e 0 at r
+cellsFault e at r = each (cellFault e at) 0 1 r
 
 -- the match of an atom is right, then its action
 unfoldable pub atomFault : Edition → ℕ → List ℕ → Test

@@ -1,5 +1,5 @@
 -- The laws are kept exactly when every operator that is named keeps them. Assumes nothing.
-use Prim.Native.Nat.{ℕ, zero, suc, _+_, _<_}
+use Prim.Native.Nat.{ℕ, zero, suc, _<_}
 use native.Mathlib.Omega.{arith}
 use mathlib.Core.Path.{_≡_, refl, sym, subst}
 use mathlib.Core.Bool.{true}
@@ -16,14 +16,14 @@ use Rattle.action.proofs.Cells.{cells-many, cell-word}
 use Rattle.action.proofs.Exact.{search-exact}
 use Rattle.section.specs.Numbers.{operatorLengthIn, operatorLength}
 use Rattle.section.specs.Sections.{innerOf, siblingOf}
-use Rattle.whole.specs.Whole.{names, named, broken, operatorFault, lawsFrom}
+use Rattle.whole.specs.Whole.{names, named, broken, operatorFault, lawsFault}
 use Rattle.section.specs.Cells.{rightCellIn, operatorRow, operatorRows}
 use Rattle.whole.specs.Meaning.{operatorAt, KeepsLaws, LawsKept}
 use Rattle.section.specs.Due.{RightNode}
 use Rattle.section.specs.declared.Edition.{Edition}
 use Rattle.section.specs.declared.Edition.the-variants.{First}
 use Rattle.section.specs.declared.Test.the-variants.{Passed}
-use Rattle.section.proofs.Records.{else-both}
+use Rattle.section.proofs.Each.{each-passed, passed-each}
 use Rattle.logic.proofs.Tests.{by-test, or-split}
 
 -- a node that names an operator
@@ -46,34 +46,18 @@ named-by i (r ∷ ns) zero h e = rw e
 named-by i (r ∷ ns) (suc n) h e =
     by-test (names i r) (λ t. rw t) (λ t. rw t (named-by i ns n (omega arith) e))
 
--- the operators that are named
-pub unbroken : (i : ℕ) (x : Lawful) → broken i x ≡ Passed → x ≡ Yes
+unbroken : (i : ℕ) (x : Lawful) → broken i x ≡ Passed → x ≡ Yes
 unbroken i Yes g = refl
 unbroken i (Broken l a b c) g = let w : _≡_ {A = ℕ} 0 1 = cc in absurd (omega arith)
 
-laws-passed : (ns : List (List ℕ)) (i : ℕ) (os : List (List ℕ)) → lawsFrom ns i os ≡ Passed → (j : ℕ) → j < length os → named (i + j) ns ≡ true
-    → lawSearch (cellsOf (getD os j [])) ≡ Yes
+-- an operator passes exactly when the search of it, if it is named, finds nothing
+pub passed-search : (ns : List (List ℕ)) (i : ℕ) (o : List ℕ) → operatorFault ns i o ≡ Passed → named i ns ≡ true → lawSearch (cellsOf o) ≡ Yes
 unfolding operatorFault
-laws-passed ns i [] e j h n = absurd (omega arith)
-laws-passed ns i (o ∷ os) e zero h n =
-    let z : i + 0 ≡ i = omega arith in
-    let n′ : named i ns ≡ true = rw z at n in
-    unbroken i (lawSearch (cellsOf o)) (rw n′ at (else-both (operatorFault ns i o) (lawsFrom ns (suc i) os) e .0))
-laws-passed ns i (o ∷ os) e (suc j) h n =
-    let z : i + suc j ≡ suc i + j = omega arith in
-    laws-passed ns (suc i) os (else-both (operatorFault ns i o) (lawsFrom ns (suc i) os) e .1) j (omega arith) (rw z at n)
+passed-search ns i o e n = unbroken i (lawSearch (cellsOf o)) (rw n at e)
 
-passed-laws : (ns : List (List ℕ)) (i : ℕ) (os : List (List ℕ)) → ((j : ℕ) → j < length os → named (i + j) ns ≡ true → lawSearch (cellsOf (getD os j [])) ≡ Yes)
-    → lawsFrom ns i os ≡ Passed
+search-passed : (ns : List (List ℕ)) (i : ℕ) (o : List ℕ) → (named i ns ≡ true → lawSearch (cellsOf o) ≡ Yes) → operatorFault ns i o ≡ Passed
 unfolding operatorFault
-passed-laws ns i [] h = refl
-passed-laws ns i (o ∷ os) h =
-    let z : i + 0 ≡ i = omega arith in
-    let rest : lawsFrom ns (suc i) os ≡ Passed =
-    passed-laws ns (suc i) os (λ j l n. let y : i + suc j ≡ suc i + j = omega arith in h (suc j) (omega arith) (rw y n)) in
-    by-test (named i ns)
-    (λ t. rw (t, h 0 (omega arith) (rw z t)) rest)
-    (λ t. rw t rest)
+search-passed ns i o h = by-test (named i ns) (λ t. rw (t, h t)) (λ t. rw t)
 
 -- right cells are right codes
 pub right-codes : (r : List ℕ) → ((j : ℕ) → j < operatorLength → rightCell j (getD r j 0) ≡ true) → RightCodes (cellsOf r)
@@ -101,7 +85,8 @@ right-operators e os a many cells i l =
 module _ (a : ℕ) (os ns : List (List ℕ)) (many : length os ≡ a)
     (codes : (i : ℕ) → i < a → RightCodes (operatorAt os i))
     (nodes : (i : ℕ) → i < length ns → RightNode a (getD ns i [])) where
-  pub laws-kept : lawsFrom ns 0 os ≡ Passed → LawsKept os ns
+  pub laws-kept : lawsFault ns os ≡ Passed → LawsKept os ns
+  unfolding lawsFault
   laws-kept e n h =
       let r : List ℕ = getD ns n [] in
       let inner : innerOf r < a = nodes n h .inner in
@@ -114,15 +99,17 @@ module _ (a : ℕ) (os ns : List (List ℕ)) (many : length os ≡ a)
       kept : (i : ℕ) → i < a → named i ns ≡ true → KeepsLaws (operatorAt os i)
       kept i l t =
           search-exact (operatorAt os i) (codes i l) .0
-          (laws-passed ns 0 os e i (omega arith) (let z : 0 + i ≡ i = omega arith in rw z t))
+          (passed-search ns i (getD os i []) (each-passed [] (operatorFault ns) 1 0 os e i (omega arith) i (omega arith)) t)
 
-  pub kept-laws : LawsKept os ns → lawsFrom ns 0 os ≡ Passed
-  kept-laws keeps = passed-laws ns 0 os searched
+  pub kept-laws : LawsKept os ns → lawsFault ns os ≡ Passed
+  unfolding lawsFault
+  kept-laws keeps =
+      passed-each [] (operatorFault ns) 1 0 os
+      (λ j h p q. let z : p ≡ j = omega arith in rw z (search-passed ns j (getD os j []) (searched j h)))
     where
-      searched : (j : ℕ) → j < length os → named (0 + j) ns ≡ true → lawSearch (cellsOf (getD os j [])) ≡ Yes
+      searched : (j : ℕ) → j < length os → named j ns ≡ true → lawSearch (cellsOf (getD os j [])) ≡ Yes
       searched j h t =
-          let z : 0 + j ≡ j = omega arith in
-          let n : Naming j ns = naming j ns (rw z at t) in
+          let n : Naming j ns = naming j ns t in
           let r : List ℕ = getD ns (n .node) [] in
           let k : KeepsLaws (operatorAt os (innerOf r)) × KeepsLaws (operatorAt os (siblingOf r)) = keeps (n .node) (n .within) in
           let exact : KeepsLaws (operatorAt os j) → lawSearch (operatorAt os j) ≡ Yes =

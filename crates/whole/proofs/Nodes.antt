@@ -1,8 +1,7 @@
 -- One turn of each walk over the nodes, and of that over the operators. Assumes nothing.
 use Prim.Native.Nat.{ℕ, zero, suc, _+_, _-_, _≤_, _<_}
 use native.Mathlib.Omega.{arith}
-use native.Mathlib.Numerals.{add-one}
-use mathlib.Core.Path.{_≡_, refl, sym, _∙_}
+use mathlib.Core.Path.{_≡_, sym, _∙_}
 use mathlib.Core.Bool.{Bool, true, false, _||_}
 use mathlib.Core.List.{List, [], _∷_}
 use lib.ListN.{getD, take, drop}
@@ -10,15 +9,13 @@ use Rattle.action.specs.Operator.{cellsOf}
 use Rattle.action.specs.Laws.{lawSearch}
 use Rattle.action.specs.declared.Lawful.{Lawful}
 use Rattle.words.specs.Records.{records}
-use Rattle.words.proofs.Records.{records-next, record-word}
-use Rattle.section.specs.Sections.{_else_}
-use Rattle.whole.specs.Whole.{ownAtoms, names, named, broken, operatorFault, lawsFrom}
+use Rattle.words.proofs.Records.{records-next, records-none, record-word}
+use Rattle.whole.specs.Whole.{ownAtoms, names, named, broken, operatorFault}
 use Rattle.section.specs.Cells.{operatorRow, operatorRows}
 use Rattle.section.specs.declared.Edition.{Edition}
 use Rattle.section.specs.declared.Edition.the-variants.{First}
-use Rattle.refusal.specs.declared.Refusal.{Refusal}
 use Rattle.section.specs.declared.Test.{Test}
-use Rattle.section.specs.declared.Test.the-variants.{Passed, Failed}
+use Rattle.section.specs.declared.Test.the-variants.{Passed}
 
 -- sums
 module _ (from left sum v : ℕ) (f : List ℕ) (inv : sum + ownAtoms (records left 5 (drop from f)) ≡ v) where
@@ -54,33 +51,14 @@ module _ (i from left : ℕ) (f : List ℕ) (v : Bool) (inv : named i (records l
       none-left zero g e = e
       none-left (suc n) g e = absurd (omega arith)
 
--- the first operator in its newest form, and the others
-operators-next : (ed : Edition) (r : List ℕ) (rs : List (List ℕ)) → operatorRows ed (r ∷ rs) ≡ operatorRow ed r ∷ operatorRows ed rs
-operators-next First r rs = refl
+-- laws: of the operators that are left the first in its newest form, and the others
+pub operators-next : (ed : Edition) (k from left : ℕ) (f : List ℕ) → 0 < left
+    → operatorRows ed (records left k (drop from f)) ≡ operatorRow ed (take (from + k - from) (drop from f))
+    ∷ operatorRows ed (records (left - 1) k (drop (from + k) f))
+operators-next First k from left f h = records-next k from left f h
 
-operators-none : (ed : Edition) → operatorRows ed [] ≡ []
-operators-none First = refl
-
--- laws
-module _ (ed : Edition) (ns : List (List ℕ)) (k i from left : ℕ) (f : List ℕ) (v : Test)
-    (inv : lawsFrom ns i (operatorRows ed (records left k (drop from f))) ≡ v) where
-  module _ (m : 0 < left) (x : Test) (e : x ≡ operatorFault ns i (operatorRow ed (take (from + k - from) (drop from f)))) where
-    next-law : v ≡ _else_ x (lawsFrom ns (i + 1) (operatorRows ed (records (left - 1) k (drop (from + k) f))))
-    next-law = sym inv ∙ rw
-        (records-next k from left f m, operators-next ed (take (from + k - from) (drop from f)) (records (left - 1) k (drop (from + k) f)), e, add-one i)
-
-    pub law-broken : (r : Refusal) → x ≡ Failed r → x ≡ v
-    law-broken r g = cc next-law
-
-    pub law-kept : x ≡ Passed → lawsFrom ns (i + 1) (operatorRows ed (records (left - 1) k (drop (from + k) f))) ≡ v
-    law-kept g = cc next-law
-
-  pub laws-kept : left ≤ 0 → Passed ≡ v
-  laws-kept m = none-left left m inv
-    where
-      none-left : (n : ℕ) → n ≤ 0 → lawsFrom ns i (operatorRows ed (records n k (drop from f))) ≡ v → Passed ≡ v
-      none-left zero g e = rw operators-none at e
-      none-left (suc n) g e = absurd (omega arith)
+pub operators-none : (ed : Edition) (k left : ℕ) (f : List ℕ) → left ≤ 0 → operatorRows ed (records left k f) ≡ []
+operators-none First k left f h = records-none k left f h
 
 module _ (ns : List (List ℕ)) (i : ℕ) (o : List ℕ) (t : Bool) (e : t ≡ named i ns) where
   pub tested : (l : Lawful) (cells : List ℕ) (x : Test) → t ≡ true → cells ≡ cellsOf o → l ≡ lawSearch cells → x ≡ broken i l → x ≡ operatorFault ns i o

@@ -17,7 +17,7 @@ use Rattle.action.specs.declared.Lawful.{Lawful}
 use Rattle.action.specs.declared.Lawful.the-variants.{Yes, Broken}
 use Rattle.refusal.specs.Plain.{plain}
 use Rattle.section.specs.Numbers.{deepest, noTree, wrongSum, lawBroken}
-use Rattle.section.specs.Sections.{unless, _else_, innerOf, siblingOf, ownOf, childrenOf}
+use Rattle.section.specs.Sections.{unless, each, innerOf, siblingOf, ownOf, childrenOf}
 use Rattle.section.specs.declared.Test.{Test}
 use Rattle.section.specs.declared.Test.the-variants.{Passed, Failed}
 
@@ -72,14 +72,9 @@ broken i (Broken l a b c) = Failed (record { number = lawBroken; place = i; law 
 unfoldable pub operatorFault : List (List ℕ) → ℕ → List ℕ → Test
 operatorFault ns i o = cond (named i ns) (broken i (lawSearch (cellsOf o))) Passed
 
--- operators by index, from the i-th on
-abbrev pub lawsFrom : List (List ℕ) → ℕ → List (List ℕ) → Test
-lawsFrom ns i [] = Passed
-lawsFrom ns i (o ∷ os) = _else_ (operatorFault ns i o) (lawsFrom ns (suc i) os)
-
--- all operators
+-- all operators, by index
 unfoldable pub lawsFault : List (List ℕ) → List (List ℕ) → Test
-lawsFault ns os = lawsFrom ns 0 os
+lawsFault ns os = each (operatorFault ns) 0 1 os
 
 -- the stack that the first d entries of an array are, the last of them on top
 abbrev pub stacked : List ℕ → ℕ → List ℕ

@@ -7,8 +7,10 @@ use mathlib.Core.Path.{_≡_, refl}
 use denote.Ref.{now}
 use lib.ListN.{length, drop, length-take, length-drop}
 use Rattle.words.specs.Records.{records}
+use Rattle.words.proofs.Records.{records-next, records-none}
 use Rattle.section.specs.Sections.{each, recordLength, recordFault}
-use Rattle.section.proofs.Records.{fits, hit, miss, done}
+use Rattle.section.proofs.Each.{hit, miss, done}
+use Rattle.section.proofs.Records.{fits}
 use Rattle.section.proofs.sections.records_fault.Statement.{statement}
 use Rattle.section.proofs.sections.records_fault.Tie as tie
 
@@ -49,7 +51,8 @@ returns c =
     let turn = c .before .before .before .before in
     let l = turn .before .loop in
     let g = turn .before .before .before .before .args in
-    hit (recordFault (g .section)) _ (l .from) (l .left) (now (g .file)) _ (l .inv .1) (turn .loop-test .taken) _ (c .before .before .record-fault .ensures) _
+    hit (recordFault (g .section)) (l .from) _ (l .inv .1) (records-next _ (l .from) (l .left) (now (g .file)) (turn .loop-test .taken))
+    (c .before .before .record-fault .ensures)
     (c .enum-told .given .1)
 
 loop-again : tie.Need-loop-again Inv-loop μ-loop
@@ -58,15 +61,15 @@ loop-again c =
     let l = turn .before .loop in
     let g = turn .before .before .before .before .args in (
       fits _ (l .from) (l .left) _ (turn .loop-test .taken) (l .inv .0) .others,
-      miss (recordFault (g .section)) _ (l .from) (l .left) (now (g .file)) _ (l .inv .1) (turn .loop-test .taken) _
-          (c .before .before .record-fault .ensures) (c .enum-told2 .given .1),
+      miss (recordFault (g .section)) (l .from) _ (l .inv .1) (records-next _ (l .from) (l .left) (now (g .file)) (turn .loop-test .taken))
+          (c .before .before .record-fault .ensures)
+          (c .enum-told2 .given .1),
     )
 
 returns-2 : tie.Need-returns-2 Inv-loop μ-loop
 returns-2 c =
     let l = c .before .loop in
-    let g = c .before .before .before .before .args in
-    done (recordFault (g .section)) _ (l .from) (l .left) (now (g .file)) _ (c .loop-test .left) (l .inv .1)
+    done (recordFault (c .before .before .before .before .args .section)) (l .from) _ (l .inv .1) (records-none _ (l .left) _ (c .loop-test .left))
 
 pub records-fault-spec : {M : Type 1} → statement M
 records-fault-spec =

@@ -9,16 +9,18 @@ use lib.ListN.{length, drop}
 use Rattle.words.specs.Records.{records}
 use Rattle.section.specs.Numbers.{nodeLength, mostOperators}
 use Rattle.section.specs.Cells.{operatorRows}
-use Rattle.whole.specs.Whole.{lawsFrom, lawsFault}
-use Rattle.whole.proofs.Nodes.{law-broken, law-kept, laws-kept}
+use Rattle.whole.specs.Whole.{operatorFault, lawsFault}
+use Rattle.section.specs.Sections.{each}
+use Rattle.section.proofs.Each.{hit, miss, done}
 use Rattle.section.proofs.Records.{fits}
+use Rattle.whole.proofs.Nodes.{operators-next, operators-none}
 use Rattle.whole.proofs.laws.laws_fault.Statement.{statement}
 use Rattle.whole.proofs.laws.laws_fault.Tie as tie
 
 abbrev Inv-loop : tie.InvT-loop
 Inv-loop file edition h operators at count step i₀ from₀ left₀ i from left =
     ((from + step * left ≤ length file) × (at + nodeLength * count ≤ length file) × (i + left ≤ operators) × (operators ≤ mostOperators))
-    × (lawsFrom (records count nodeLength (drop at file)) i (operatorRows edition (records left step (drop from file)))
+    × (each (operatorFault (records count nodeLength (drop at file))) i 1 (operatorRows edition (records left step (drop from file)))
     ≡ lawsFault (records count nodeLength (drop at file)) (operatorRows edition (records operators step (drop (h + 1) file))))
 
 abbrev μ-loop : tie.MeasureT-loop
@@ -49,8 +51,8 @@ returns c =
     let l = turn .before .loop in
     let g = turn .before .before .before .before .args in
     let nodes = records (g .count) nodeLength (drop (g .at) (now (g .file))) in
-    law-broken (g .edition) nodes _ (l .i) (l .from) (l .left) (now (g .file)) _ (l .inv .1) (turn .loop-test .taken) _
-    (c .before .before .operator-fault .ensures) _ (c .enum-told .given .1)
+    hit (operatorFault nodes) (l .i) 1 (l .inv .1) (operators-next (g .edition) _ (l .from) (l .left) (now (g .file)) (turn .loop-test .taken))
+    (c .before .before .operator-fault .ensures) (c .enum-told .given .1)
     ∙ ap (λ k. lawsFault nodes (operatorRows (g .edition) (records (g .operators) k (drop (g .h + 1) (now (g .file))))))
     (turn .before .before .operator-words .ensures)
 
@@ -61,8 +63,9 @@ loop-again c =
     let g = turn .before .before .before .before .args in
     let m = fits _ (l .from) (l .left) _ (turn .loop-test .taken) (l .inv .0 .0) in (
       omega (arith, m .others),
-      law-kept (g .edition) (records (g .count) nodeLength (drop (g .at) (now (g .file)))) _ (l .i) (l .from) (l .left) (now (g .file)) _ (l .inv .1)
-          (turn .loop-test .taken) _ (c .before .before .operator-fault .ensures) (c .enum-told2 .given .1),
+      miss (operatorFault (records (g .count) nodeLength (drop (g .at) (now (g .file))))) (l .i) 1 (l .inv .1)
+          (operators-next (g .edition) _ (l .from) (l .left) (now (g .file)) (turn .loop-test .taken)) (c .before .before .operator-fault .ensures)
+          (c .enum-told2 .given .1),
     )
 
 returns-2 : tie.Need-returns-2 Inv-loop μ-loop
@@ -70,7 +73,7 @@ returns-2 c =
     let l = c .before .loop in
     let g = c .before .before .before .before .args in
     let nodes = records (g .count) nodeLength (drop (g .at) (now (g .file))) in
-    laws-kept (g .edition) nodes _ (l .i) (l .from) (l .left) (now (g .file)) _ (l .inv .1) (c .loop-test .left)
+    done (operatorFault nodes) (l .i) 1 (l .inv .1) (operators-none (g .edition) _ (l .left) _ (c .loop-test .left))
     ∙ ap (λ k. lawsFault nodes (operatorRows (g .edition) (records (g .operators) k (drop (g .h + 1) (now (g .file))))))
     (c .before .before .operator-words .ensures)
 
