@@ -16,38 +16,39 @@ use Rattle.section.specs.declared.Edition.{Edition}
 use Rattle.section.specs.declared.Edition.the-variants.{First}
 use Rattle.section.specs.declared.Test.{Test}
 use Rattle.section.specs.declared.Test.the-variants.{Passed}
+use Rattle.section.specs.Numbers.{nodeLength}
 
 -- sums
-module _ (from left sum v : ℕ) (f : List ℕ) (inv : sum + ownAtoms (records left 5 (drop from f)) ≡ v) where
-  pub more-atoms : (x : ℕ) → 0 < left → x ≡ getD f (from + 3) 0 → sum + x + ownAtoms (records (left - 1) 5 (drop (from + 5) f)) ≡ v
+module _ (from left sum v : ℕ) (f : List ℕ) (inv : sum + ownAtoms (records left nodeLength (drop from f)) ≡ v) where
+  pub more-atoms : (x : ℕ) → 0 < left → x ≡ getD f (from + 3) 0 → sum + x + ownAtoms (records (left - 1) nodeLength (drop (from + nodeLength) f)) ≡ v
   more-atoms x m e =
-      let s : ownAtoms (records left 5 (drop from f)) ≡ getD f (from + 3) 0 + ownAtoms (records (left - 1) 5 (drop (from + 5) f)) =
-      rw (records-next 5 from left f m, record-word 5 from 3 f (omega arith)) in
+      let s : ownAtoms (records left nodeLength (drop from f)) ≡ getD f (from + 3) 0 + ownAtoms (records (left - 1) nodeLength (drop (from + nodeLength) f)) =
+      rw (records-next nodeLength from left f m, record-word nodeLength from 3 f (omega arith)) in
       omega arith
 
   pub all-atoms : left ≤ 0 → sum ≡ v
   all-atoms m = none-left left m inv
     where
-      none-left : (n : ℕ) → n ≤ 0 → sum + ownAtoms (records n 5 (drop from f)) ≡ v → sum ≡ v
+      none-left : (n : ℕ) → n ≤ 0 → sum + ownAtoms (records n nodeLength (drop from f)) ≡ v → sum ≡ v
       none-left zero g e = omega arith
       none-left (suc n) g e = absurd (omega arith)
 
 -- names
-module _ (i from left : ℕ) (f : List ℕ) (v : Bool) (inv : named i (records left 5 (drop from f)) ≡ v) where
-  module _ (m : 0 < left) (x : Bool) (e : x ≡ names i (take (from + 5 - from) (drop from f))) where
-    next-name : v ≡ (x || named i (records (left - 1) 5 (drop (from + 5) f)))
-    next-name = sym inv ∙ rw (records-next 5 from left f m, e)
+module _ (i from left : ℕ) (f : List ℕ) (v : Bool) (inv : named i (records left nodeLength (drop from f)) ≡ v) where
+  module _ (m : 0 < left) (x : Bool) (e : x ≡ names i (take (from + nodeLength - from) (drop from f))) where
+    next-name : v ≡ (x || named i (records (left - 1) nodeLength (drop (from + nodeLength) f)))
+    next-name = sym inv ∙ rw (records-next nodeLength from left f m, e)
 
     pub named-here : x ≡ true → true ≡ v
     named-here g = sym (next-name ∙ rw g)
 
-    pub named-later : x ≡ false → named i (records (left - 1) 5 (drop (from + 5) f)) ≡ v
+    pub named-later : x ≡ false → named i (records (left - 1) nodeLength (drop (from + nodeLength) f)) ≡ v
     named-later g = sym (next-name ∙ rw g)
 
   pub not-named : left ≤ 0 → false ≡ v
   not-named m = none-left left m inv
     where
-      none-left : (n : ℕ) → n ≤ 0 → named i (records n 5 (drop from f)) ≡ v → false ≡ v
+      none-left : (n : ℕ) → n ≤ 0 → named i (records n nodeLength (drop from f)) ≡ v → false ≡ v
       none-left zero g e = e
       none-left (suc n) g e = absurd (omega arith)
 
