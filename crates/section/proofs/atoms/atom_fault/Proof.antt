@@ -1,4 +1,4 @@
--- `policy::atoms::atom_fault` meets its contract: a wrong match is the answer, and else the action decides.
+-- `section::atoms::atom_fault` meets its contract: a wrong match is the answer, and else the action decides.
 -- Assumes nothing.
 use borrow.Author.Needs.{needs}
 use borrow.Author.Tests.{not-true, not-false}

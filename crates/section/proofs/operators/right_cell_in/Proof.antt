@@ -1,4 +1,4 @@
--- `policy::operators::right_cell_in` meets its contract: the edition's case is the definition's.
+-- `section::operators::right_cell_in` meets its contract: the edition's case is the definition's.
 -- Assumes nothing.
 use borrow.Author.Needs.{needs}
 use Rattle.section.proofs.Editions.{one-edition}

@@ -1,4 +1,4 @@
--- `policy::places::behind` meets its contract: the record's words are the section's.
+-- `section::places::behind` meets its contract: the record's words are the section's.
 -- Assumes nothing.
 use borrow.Author.Needs.{needs}
 use native.Mathlib.Omega.{arith}

@@ -1,4 +1,4 @@
--- `policy::places::header_words` meets its contract: the edition's case is the definition's.
+-- `section::places::header_words` meets its contract: the edition's case is the definition's.
 -- Assumes nothing.
 use Rattle.section.proofs.Editions.{one-edition}
 use Rattle.section.proofs.places.header_words.Statement.{statement}

@@ -1,4 +1,4 @@
--- `policy::sections::cells_fault` meets its contract: one turn of the loop is one cell.
+-- `section::sections::cells_fault` meets its contract: one turn of the loop is one cell.
 -- Assumes nothing.
 use borrow.Author.Needs.{needs}
 use native.Mathlib.Omega.{arith}

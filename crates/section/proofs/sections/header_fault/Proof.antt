@@ -1,4 +1,4 @@
--- `policy::sections::header_fault` meets its contract: the edition's case is the definition's.
+-- `section::sections::header_fault` meets its contract: the edition's case is the definition's.
 -- Assumes nothing.
 use Rattle.section.proofs.Editions.{one-edition}
 use Rattle.section.proofs.sections.header_fault.Statement.{statement}

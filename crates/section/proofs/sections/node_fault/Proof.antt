@@ -1,4 +1,4 @@
--- `policy::sections::node_fault` meets its contract: the body is the definition, with the callees' results rewritten.
+-- `section::sections::node_fault` meets its contract: the body is the definition, with the callees' results rewritten.
 -- Assumes nothing.
 use borrow.Author.Needs.{needs}
 use Rattle.section.specs.Sections.{nodeFault}

@@ -1,4 +1,4 @@
--- `policy::sections::record_fault` meets its contract: the section's case is the definition's.
+-- `section::sections::record_fault` meets its contract: the section's case is the definition's.
 -- Assumes nothing.
 use borrow.Author.Needs.{needs}
 use Rattle.section.proofs.Lengths.{atom-long}

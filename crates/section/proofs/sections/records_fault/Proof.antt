@@ -1,4 +1,4 @@
--- `policy::sections::records_fault` meets its contract: one turn of the loop is one record, whatever the section.
+-- `section::sections::records_fault` meets its contract: one turn of the loop is one record, whatever the section.
 -- Assumes nothing.
 use borrow.Author.Needs.{needs}
 use native.Mathlib.Omega.{arith}

@@ -1,4 +1,4 @@
--- `policy::sections::section_fault` meets its contract: the ways through it are those of the definition.
+-- `section::sections::section_fault` meets its contract: the ways through it are those of the definition.
 -- Assumes nothing.
 use borrow.Author.Needs.{needs}
 use native.Mathlib.Omega.{arith}

@@ -1,4 +1,4 @@
--- `policy::laws::broken` meets its contract: the enum's case is the definition's.
+-- `whole::laws::broken` meets its contract: the enum's case is the definition's.
 -- Assumes nothing.
 use borrow.Author.Needs.{needs}
 use mathlib.Core.Path.{sym, ap}

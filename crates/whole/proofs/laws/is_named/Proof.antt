@@ -1,4 +1,4 @@
--- `policy::laws::is_named` meets its contract: one turn of the loop is one node.
+-- `whole::laws::is_named` meets its contract: one turn of the loop is one node.
 -- Assumes nothing.
 use borrow.Author.Needs.{needs}
 use native.Mathlib.Omega.{arith}

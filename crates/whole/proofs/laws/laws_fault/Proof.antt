@@ -1,4 +1,4 @@
--- `policy::laws::laws_fault` meets its contract: one turn of the loop is one operator.
+-- `whole::laws::laws_fault` meets its contract: one turn of the loop is one operator.
 -- Assumes nothing.
 use borrow.Author.Needs.{needs}
 use native.Mathlib.Omega.{arith}

@@ -1,4 +1,4 @@
--- `policy::laws::names` meets its contract: the body is the definition, with the callees' results rewritten.
+-- `whole::laws::names` meets its contract: the body is the definition, with the callees' results rewritten.
 -- Assumes nothing.
 use borrow.Author.Needs.{needs}
 use Rattle.whole.proofs.laws.names.Statement.{statement}

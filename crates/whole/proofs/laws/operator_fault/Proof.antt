@@ -1,4 +1,4 @@
--- `policy::laws::operator_fault` meets its contract: an operator that no node names is not searched.
+-- `whole::laws::operator_fault` meets its contract: an operator that no node names is not searched.
 -- Assumes nothing.
 use borrow.Author.Needs.{needs}
 use Rattle.whole.proofs.Nodes.{tested, untested}

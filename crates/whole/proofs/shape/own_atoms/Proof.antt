@@ -1,4 +1,4 @@
--- `policy::shape::own_atoms` meets its contract: one turn of the loop is one node.
+-- `whole::shape::own_atoms` meets its contract: one turn of the loop is one node.
 -- Assumes nothing.
 use borrow.Author.Needs.{needs}
 use native.Mathlib.Omega.{arith}

@@ -1,4 +1,4 @@
--- `policy::shape::settled` meets its contract: a node that has all its children goes, one that waits stays.
+-- `whole::shape::settled` meets its contract: a node that has all its children goes, one that waits stays.
 -- Assumes nothing.
 use borrow.Author.Needs.{needs}
 use native.Mathlib.Omega.{arith}

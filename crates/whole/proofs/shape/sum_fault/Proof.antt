@@ -1,4 +1,4 @@
--- `policy::shape::sum_fault` meets its contract: the body is the definition, with the callees' results rewritten.
+-- `whole::shape::sum_fault` meets its contract: the body is the definition, with the callees' results rewritten.
 -- Assumes nothing.
 use borrow.Author.Needs.{needs}
 use Rattle.whole.specs.Whole.{sumFault}
