@@ -2,9 +2,9 @@
 --
 --   Case, k n call gives   a call's answer and what the scope says of it, under the number n of the case
 --   Hold                   every call of a list gives what is said
---   to                     a packet to an address, with zeros for the rest
+--   to                     a packet to an dotted, with zeros for the rest
 --   lent                   a buffer of zeros with room for four rows
---   rowsOf f               the rows that the compile of a file leaves in such a buffer, as many as it answers
+--   rowsLeft f               the rows that the compile of a file leaves in such a buffer, as many as it answers
 --   cases                  the list
 use Prim.Native.Nat.{ℕ, _+_, _*_}
 use mathlib.Core.Path.{_≡_}
@@ -42,11 +42,11 @@ abbrev pub Hold : List Case → Type 0
 Hold [] = Unit {0}
 Hold (c ∷ cs) = (c .call ≡ c .gives) × Hold cs
 
--- an address by its four bytes
-abbrev pub address : ℕ → ℕ → ℕ → ℕ → ℕ
-address a b c d = ((a * 256 + b) * 256 + c) * 256 + d
+-- an dotted by its four bytes
+abbrev pub dotted : ℕ → ℕ → ℕ → ℕ → ℕ
+dotted a b c d = ((a * 256 + b) * 256 + c) * 256 + d
 
--- a packet to an address
+-- a packet to an dotted
 abbrev pub to : ℕ → List ℕ
 to destination = 0 ∷ 0 ∷ destination ∷ 0 ∷ 0 ∷ 0 ∷ []
 
@@ -55,8 +55,8 @@ abbrev pub lent : List ℕ
 lent = zeros (4 * rowLength)
 
 -- the rows that the compile of a file leaves in such a buffer
-abbrev pub rowsOf : List ℕ → List ℕ
-rowsOf f = tableRows (compileCount (answerOf f lent lent)) (tableAfter f lent lent)
+abbrev pub rowsLeft : List ℕ → List ℕ
+rowsLeft f = tableRows (compileCount (answerOf f lent lent)) (tableAfter f lent lent)
 
 -- a row that only asks for a destination prefix
 abbrev pub row : ℕ → ℕ → ℕ → ℕ → List ℕ
@@ -70,22 +70,22 @@ cases =
     ∷ k 4 (join parent (join parent (Gmb 5) Deny) Allow) Allow
     ∷ k 4 (join parent (Gmb 5) (join parent Deny Allow)) (Gmb 5)
     ∷ k 5 (answerOf (lone sibling) lent lent) (Rows 0)
-    ∷ k 5 (numberOf (rowsOf (lone sibling)) 0 0) (Priorities 0)
-    ∷ k 5 (treeActionOf (lone sibling) (to (address 10 7 3 9))) (Gives DontCare)
-    ∷ k 5 (scanOf (rowsOf (lone sibling)) (to (address 10 7 3 9))) (Found DontCare 0)
-    ∷ k 6 (treeActionOf tenant (to (address 10 7 3 9))) (Gives (Gmb 40000))
-    ∷ k 6 (scanOf (rowsOf tenant) (to (address 10 7 3 9))) (Found (Gmb 40000) 1)
-    ∷ k 7 (treeActionOf tenant (to (address 10 7 3 10))) (Gives Deny)
-    ∷ k 7 (scanOf (rowsOf tenant) (to (address 10 7 3 10))) (Found Deny 2)
-    ∷ k 8 (treeActionOf tenant (to (address 10 8 0 1))) (Gives DontCare)
-    ∷ k 8 (scanOf (rowsOf tenant) (to (address 10 8 0 1))) (Found DontCare 3)
+    ∷ k 5 (numberOf (rowsLeft (lone sibling)) 0 0) (Priorities 0)
+    ∷ k 5 (treeActionOf (lone sibling) (to (dotted 10 7 3 9))) (Gives DontCare)
+    ∷ k 5 (scanOf (rowsLeft (lone sibling)) (to (dotted 10 7 3 9))) (Found DontCare 0)
+    ∷ k 6 (treeActionOf tenant (to (dotted 10 7 3 9))) (Gives (Gmb 40000))
+    ∷ k 6 (scanOf (rowsLeft tenant) (to (dotted 10 7 3 9))) (Found (Gmb 40000) 1)
+    ∷ k 7 (treeActionOf tenant (to (dotted 10 7 3 10))) (Gives Deny)
+    ∷ k 7 (scanOf (rowsLeft tenant) (to (dotted 10 7 3 10))) (Found Deny 2)
+    ∷ k 8 (treeActionOf tenant (to (dotted 10 8 0 1))) (Gives DontCare)
+    ∷ k 8 (scanOf (rowsLeft tenant) (to (dotted 10 8 0 1))) (Found DontCare 3)
     ∷ k 9 (answerOf tenant lent lent) (Rows 3)
-    ∷ k 9 (tableAfter tenant lent lent) (row (address 10 7 3 9) 32 3 40000 ++ row (address 10 7 0 0) 16 2 0 ++ row
-    (address 10 7 3 9) 32 3 40000 ++ zeros rowLength)
+    ∷ k 9 (tableAfter tenant lent lent) (row (dotted 10 7 3 9) 32 3 40000 ++ row (dotted 10 7 0 0) 16 2 0 ++ row
+    (dotted 10 7 3 9) 32 3 40000 ++ zeros rowLength)
     ∷ k 9 (scratchAfter tenant lent lent) lent
-    ∷ k 9 (numberOf (rowsOf tenant) 3 3) (Priorities 3)
-    ∷ k 9 (prioritiesAfter (rowsOf tenant) (zeros 3) (zeros 3)) (3 ∷ 2 ∷ 1 ∷ [])
-    ∷ k 9 (chainAfter (rowsOf tenant) (zeros 3) (zeros 3)) (0 ∷ 1 ∷ 2 ∷ [])
+    ∷ k 9 (numberOf (rowsLeft tenant) 3 3) (Priorities 3)
+    ∷ k 9 (prioritiesAfter (rowsLeft tenant) (zeros 3) (zeros 3)) (3 ∷ 2 ∷ 1 ∷ [])
+    ∷ k 9 (chainAfter (rowsLeft tenant) (zeros 3) (zeros 3)) (0 ∷ 1 ∷ 2 ∷ [])
     ∷ k 10 (readOf (tenantWith 1)) (reading.Refused
     (record { number = lawBroken; place = 1; law = Commutativity; first = Allow; second = Deny; third = DontCare }))
     ∷ k 11 (readOf (lone lopsided)) (reading.Refused

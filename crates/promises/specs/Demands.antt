@@ -199,19 +199,19 @@ pub record Demand2 : Type 0 where
 
 -- a numbering q of the rows that gives the earlier of two rows that some packet in range matches the strictly higher
 -- number
-abbrev pub EarlierHigher : List ℕ → (ℕ → ℕ) → Type 0
-EarlierHigher ws q = (j i : ℕ) → j < i → i < rowCount ws → Shared ws j i → q i < q j
+abbrev pub PutsHigher : List ℕ → (ℕ → ℕ) → Type 0
+PutsHigher ws q = (j i : ℕ) → j < i → i < rowCount ws → Shared ws j i → q i < q j
 
 -- what the numbering leaves: row i's priority is the word priority i, the chain's k-th place the word link k
 pub record RightNumbering (ws ps cs : List ℕ) : Type 0 where
   pub count : ℕ
   pub answer : numberOf ws (length ps) (length cs) ≡ numbered.Priorities count
   -- "where some packet matches two rows, the earlier row gets the strictly higher priority."
-  pub earlier-higher : EarlierHigher ws (priority ws ps cs)
+  pub earlier-higher : PutsHigher ws (priority ws ps cs)
   -- "No numbering that does so uses fewer priorities,": so many are used here, and at least as many by every numbering
   -- qs that does so
   pub used : length (distinct (take (rowCount ws) (prioritiesAfter ws ps cs))) ≡ count
-  pub fewest : (qs : List ℕ) → length qs ≡ rowCount ws → EarlierHigher ws (λ i. getD qs i 0)
+  pub fewest : (qs : List ℕ) → length qs ≡ rowCount ws → PutsHigher ws (λ i. getD qs i 0)
       → count ≤ length (distinct qs)
   -- "and a chain of rows that forces the number is shown.": as many rows as there are priorities, in scan order, of
   -- each two neighbours some packet matches both
@@ -220,7 +220,7 @@ pub record RightNumbering (ws ps cs : List ℕ) : Type 0 where
   pub chain-order : (k : ℕ) → suc k < count → link ws ps cs k < link ws ps cs (suc k)
   pub chain-overlaps : (k : ℕ) → suc k < count → Shared ws (link ws ps cs k) (link ws ps cs (suc k))
   -- so every numbering that does so has a lower number at each step of the chain
-  pub chain-forces : (q : ℕ → ℕ) → EarlierHigher ws q → (k : ℕ) → suc k < count
+  pub chain-forces : (q : ℕ → ℕ) → PutsHigher ws q → (k : ℕ) → suc k < count
       → q (link ws ps cs (suc k)) < q (link ws ps cs k)
   -- "A switch that obeys any matching row of highest priority therefore does what the scan does."
   pub switch : (p : List ℕ) (i : ℕ) → rightPacketWords p ≡ true

@@ -27,6 +27,7 @@ use Rattle.line.specs.Text.{ascii, refusal}
 use Rattle.line.specs.Puts.{Puts}
 use Rattle.text.specs.Listing.{wrongInput, longestInput, rightInput, blank, fileText}
 use Rattle.text.specs.Listing.{listingOf, longestListing, ListedRows}
+use Rattle.logic.specs.Lists.{All}
 
 -- the rows that the compile leaves pass the table's check, with as many rows
 abbrev pub TableRight : Type 0
@@ -60,10 +61,10 @@ WrittenWhole =
 abbrev pub KnownByFirst : Type 0
 KnownByFirst = (b : List ℕ) (n : ℕ) → longestInput < n → listingOf (take n b) ≡ listingOf b
 
--- an input, and what is listed of it
+-- an input, and the lines that are listed of it
 pub record Example : Type 0 where
   pub input : List ℕ
-  pub text : String
+  pub listed : List String
 
 -- the tenant's file, the same with a root whose operator is not commutative, a file without rows, no bytes, and one
 -- byte
@@ -71,19 +72,19 @@ abbrev pub examples : List Example
 examples =
     record {
       input = flat bytesOf tenant;
-      text =
-          "rows 3 priorities 3\n3 * 0.0.0.0/0 10.7.3.9/32 * * * gmb 40000\n2 * 0.0.0.0/0 10.7.0.0/16 * * * deny\n1 * 0.0.0.0/0 10.7.3.9/32 * * * gmb 40000\n";
+      listed =
+          "rows 3 priorities 3\n"
+          ∷ "3 * 0.0.0.0/0 10.7.3.9/32 * * * gmb 40000\n"
+          ∷ "2 * 0.0.0.0/0 10.7.0.0/16 * * * deny\n"
+          ∷ "1 * 0.0.0.0/0 10.7.3.9/32 * * * gmb 40000\n"
+          ∷ [];
     }
-    ∷ record { input = flat bytesOf (tenantWith 1); text = "refused 10 1\n" }
-    ∷ record { input = flat bytesOf (lone sibling); text = "rows 0 priorities 0\n" }
-    ∷ record { input = []; text = "refused 1 0\n" }
-    ∷ record { input = 0 ∷ []; text = "refused 18 0\n" }
+    ∷ record { input = flat bytesOf (tenantWith 1); listed = "refused 10 1\n" ∷ [] }
+    ∷ record { input = flat bytesOf (lone sibling); listed = "rows 0 priorities 0\n" ∷ [] }
+    ∷ record { input = []; listed = "refused 1 0\n" ∷ [] }
+    ∷ record { input = 0 ∷ []; listed = "refused 18 0\n" ∷ [] }
     ∷ []
 
 -- each is listed as it says
-abbrev pub Listed : List Example → Type 0
-Listed [] = Unit {0}
-Listed (x ∷ xs) = (listingOf (x .input) ≡ ascii (x .text)) × Listed xs
-
 abbrev pub ExamplesListed : Type 0
-ExamplesListed = Listed examples
+ExamplesListed = All (λ x. listingOf (x .input) ≡ flat ascii (x .listed)) examples

@@ -3,7 +3,7 @@
 --
 --   evalTree             eval of Figure 1 on a policy tree
 --   acceptedAction       of an accepted file: the packet is tested, then eval
---   afterReading         what reading answered, carried on
+--   actionAfter         what reading answered, carried on
 --   treeActionOf         the tree's action
 --   treeRefusal, given   the refusal and the action of an answer
 use Prim.Native.Nat.{ℕ}
@@ -37,13 +37,13 @@ acceptedAction f l p =
     (evaluated.Refused (plain wrongPacket 0))
 
 -- what reading answered, carried on
-abbrev pub afterReading : List ℕ → List ℕ → Reading → Evaluated
-afterReading f p (Accepted l) = acceptedAction f l p
-afterReading f p (Refused r) = evaluated.Refused r
+abbrev pub actionAfter : List ℕ → List ℕ → Reading → Evaluated
+actionAfter f p (Accepted l) = acceptedAction f l p
+actionAfter f p (Refused r) = evaluated.Refused r
 
 -- THE TREE'S ACTION
 unfoldable pub treeActionOf : List ℕ → List ℕ → Evaluated
-treeActionOf f p = afterReading f p (readOf f)
+treeActionOf f p = actionAfter f p (readOf f)
 
 -- the number, place, law and actions of an answer: 0, 0, no law and three don't cares where an action is given
 abbrev pub treeRefusal : Evaluated → Refusal
