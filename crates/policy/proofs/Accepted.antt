@@ -36,6 +36,7 @@ use Rattle.section.proofs.Records.{unless-true}
 use Rattle.whole.proofs.Trees.{shape-one-tree, one-tree-shape, one-tree-planted}
 use Rattle.section.proofs.Passed.{header-passed, passed-header, good-passed, passed-good}
 use Rattle.whole.proofs.Named.{operators-many, right-operators, laws-kept, kept-laws}
+use Rattle.logic.proofs.Lists.{all-split}
 
 -- the stages that are passed, each by its name
 pub record Stages (e : Edition) (f : List ℕ) (a b c : ℕ) : Type 0 where
@@ -51,6 +52,31 @@ pub record Stages (e : Edition) (f : List ℕ) (a b c : ℕ) : Type 0 where
 abbrev pub AllPassed : List Test → Type 0
 AllPassed ts = All (λ t. t ≡ Passed) ts
 
+module _ (e : Edition) (f : List ℕ) (a b c : ℕ) where
+  -- the stages before the laws
+  abbrev pub before : List Test
+  before =
+      headerFault e f
+      ∷ sectionFault f (headerLengthIn e) (Operators e)
+      ∷ sectionFault f (atomsAtIn e a) (Atoms e)
+      ∷ sectionFault f (nodesAtIn e a b) (Nodes a)
+      ∷ extraFault f (endIn e a b c)
+      ∷ shapeFault (nodesIn e f a b c)
+      ∷ sumFault (nodesIn e f a b c) b
+      ∷ []
+
+  -- where all of them are passed, each by its name
+  pub by-name : AllPassed before → Stages e f a b c
+  by-name p = record {
+    header = p .0;
+    operators = p .1 .0;
+    atoms = p .1 .1 .0;
+    nodes = p .1 .1 .1 .0;
+    extra = p .1 .1 .1 .1 .0;
+    tree = p .1 .1 .1 .1 .1 .0;
+    sum = p .1 .1 .1 .1 .1 .1 .0;
+  }
+
 -- an answer accepts exactly when all stages are passed
 all-passed : (ts : List Test) (l m : Layout) → answer ts l ≡ Accepted m → AllPassed ts × (l ≡ m)
 unfolding answer
@@ -63,19 +89,9 @@ answer-passed : (e : Edition) (f : List ℕ) (a b c : ℕ) (m : Layout) → answ
 unfolding stages wholeStages
 answer-passed e f a b c m g =
     let r : AllPassed (stages e f a b c) × (layout a b c ≡ m) = all-passed (stages e f a b c) (layout a b c) m g in
-    let p : AllPassed (stages e f a b c) = r .0 in (
-      record {
-        header = p .0;
-        operators = p .1 .0;
-        atoms = p .1 .1 .0;
-        nodes = p .1 .1 .1 .0;
-        extra = p .1 .1 .1 .1 .0;
-        tree = p .1 .1 .1 .1 .1 .0;
-        sum = p .1 .1 .1 .1 .1 .1 .0;
-      },
-      p .1 .1 .1 .1 .1 .1 .1 .0,
-      r .1,
-    )
+    let laws : Test = lawsFault (nodesIn e f a b c) (operatorRows e (operatorsIn e f a)) in
+    let p = all-split (λ t. t ≡ Passed) (before e f a b c) (laws ∷ []) (r .0) in
+    (by-name e f a b c (p .0), p .1 .0, r .1)
 
 passed-answer : (e : Edition) (f : List ℕ) (a b c : ℕ) → Stages e f a b c → lawsFault (nodesIn e f a b c) (operatorRows e (operatorsIn e f a)) ≡ Passed
     → answer (stages e f a b c) (layout a b c) ≡ Accepted (layout a b c)

@@ -37,7 +37,7 @@ use Rattle.section.specs.declared.Test.{Test}
 use Rattle.section.specs.declared.Test.the-variants.{Passed, Failed}
 use Rattle.section.proofs.Each.{FirstFault, each-first}
 use Rattle.whole.proofs.Named.{operators-many, right-operators, laws-kept, passed-search}
-use Rattle.policy.proofs.Accepted.{AllPassed, Stages, otherwise-of, of-otherwise}
+use Rattle.policy.proofs.Accepted.{AllPassed, before, by-name, Stages, otherwise-of, of-otherwise}
 use Rattle.logic.proofs.Tests.{by-test}
 use Rattle.action.specs.Operator.{cellsOf}
 
@@ -116,20 +116,9 @@ first-refusal (Passed ∷ ts) u l r p e = ⊎-elim (λ h. inl h) (λ h. inr ((re
 first-refusal (Failed s ∷ ts) u l r p e = inl (p .0 .only r (cc))
 
 module _ (e : Edition) (f : List ℕ) (a b c : ℕ) where
-  -- the stages before the laws
-  before : List Test
-  before =
-      headerFault e f
-      ∷ sectionFault f (headerLengthIn e) (Operators e)
-      ∷ sectionFault f (atomsAtIn e a) (Atoms e)
-      ∷ sectionFault f (nodesAtIn e a b) (Nodes a)
-      ∷ extraFault f (endIn e a b c)
-      ∷ shapeFault (nodesIn e f a b c)
-      ∷ sumFault (nodesIn e f a b c) b
-      ∷ []
-
-  before-plain : All Plain before
-  unfolding before shapeFault sumFault
+  -- the stages before the laws refuse plainly
+  before-plain : All Plain (before e f a b c)
+  unfolding shapeFault sumFault
   before-plain = (
     header-plain e f,
     (
@@ -154,24 +143,12 @@ module _ (e : Edition) (f : List ℕ) (a b c : ℕ) where
   laws = lawsFault (nodesIn e f a b c) (operatorRows e (operatorsIn e f a))
 
   split : (r : Refusal) → answer (stages e f a b c) (layout a b c) ≡ Refused r → PlainRefusal r ⊎ (Stages e f a b c × (laws ≡ Failed r))
-  unfolding stages wholeStages before laws
+  unfolding stages wholeStages laws
   split r g =
       ⊎-elim
       (λ h. inl h)
-      (λ h. let p : AllPassed before = h .0 in
-      inr (
-        record {
-          header = p .0;
-          operators = p .1 .0;
-          atoms = p .1 .1 .0;
-          nodes = p .1 .1 .1 .0;
-          extra = p .1 .1 .1 .1 .0;
-          tree = p .1 .1 .1 .1 .1 .0;
-          sum = p .1 .1 .1 .1 .1 .1 .0;
-        },
-        h .1,
-      ))
-      (first-refusal before laws (layout a b c) r before-plain g)
+      (λ h. inr (by-name e f a b c (h .0), h .1))
+      (first-refusal (before e f a b c) laws (layout a b c) r before-plain g)
 
 -- what the refusal of the operator i shows: it is named and breaks a law
 record Found (ns : List (List ℕ)) (i : ℕ) (o : List ℕ) (r : Refusal) : Type 0 where

@@ -1,5 +1,6 @@
 // The sections of a policy file, by edition: where each stands, its count, that all of it is there, and its records in
-// order. Only the reading of a file calls these: two of them ask that what they look at is within the file.
+// order. These are for the crates that read a file: a section is looked at where the file reaches, and a place is asked
+// for only where it is a number of 64 bits.
 pub use crate::operators::operator_in;
 pub use crate::places::behind;
 pub use crate::places::header_words;
