@@ -42,7 +42,7 @@ pigeonhole (suc n) g xs f h =
       pigeonhole n g (without (g n) xs) (λ j k a b. f j k a (omega arith)) (λ k a. has-without (g n) (g k) xs (f k n a (omega arith)) (h k (omega arith))),
     )
 
-has-at : (xs : List ℕ) (i : ℕ) → i < length xs → has (getD xs i 0) xs ≡ true
+pub has-at : (xs : List ℕ) (i : ℕ) → i < length xs → has (getD xs i 0) xs ≡ true
 has-at [] i h = absurd (omega arith)
 has-at (x ∷ xs) zero h = rw (eq-eqb x x refl)
 has-at (x ∷ xs) (suc i) h = by-test (eqb (getD xs i 0) x) (λ t. rw t) (λ t. rw t (has-at xs i (omega arith)))

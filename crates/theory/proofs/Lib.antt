@@ -8,3 +8,5 @@ pub mod Levels
 pub mod Chain
 pub mod Fewest
 pub mod Switch
+pub mod Where
+pub mod Hidden

@@ -13,17 +13,26 @@
 --   Overlapping, Obeyed                    what is asked of overlap, and the rows that a switch may obey
 --   SwitchScan, SwitchPriorities           under a right numbering, so under ours, a switch does what the scan does
 --   SwitchFirst                            the first matching row may be obeyed
+--   ScanHidden                             without the hidden rows the scan is the same
+--   HiddenExactly, InsideExactly           which rows stay, by place, and what it is to lie inside one of some rows
+--   HasWhere, WhereRises                   the places that pass a test are had and no other, each after the one before
+--   NoneHidden, HiddenAgain                of what stays no row lies inside an earlier one: a second pass changes nothing
+--   HiddenStep                             one row more, asking only the rows that stay
+--   HiddenLess, HiddenEvery                no more rows than before, each with what every row has
 use Prim.Native.Nat.{ℕ, suc, _+_, _*_, _≤_, _<_}
 use mathlib.Core.Path.{_≡_}
-use mathlib.Core.Bool.{Bool, true, false, _&&_}
-use mathlib.Core.List.{List}
-use lib.ListN.{getD, length}
+use mathlib.Core.Bool.{Bool, true, false, cond, not, _&&_}
+use mathlib.Core.List.{List, [], _∷_, _++_, map}
+use mathlib.Core.Logic.{_↔_}
+use lib.Dec.{ltb}
+use lib.ListN.{getD, length, take}
 use Rattle.logic.specs.Lists.{All}
 use Rattle.theory.specs.Rows.{Row, scan, place, tried, matchesAt, commonRow, join}
 use Rattle.theory.specs.Tree.{Tree, node, bare, _▸_, Node, EveryNode, GoodNode, own, eval, compile}
 use Rattle.theory.specs.Nodes.{Listed, plant, listTree, listTrees, ChildrenFound}
 use Rattle.theory.specs.Number.{rowsOverlap, FirstPlace, levels, levelCount, priorities, chain, Chained, Right}
-use Rattle.theory.specs.Number.{distinct, Obeyed}
+use Rattle.theory.specs.Number.{distinct, has, Obeyed}
+use Rattle.theory.specs.Hidden.{insideOne, staying, insideEarlier, InsideSome, placesWhere, InsideMeets, InsideTrans}
 
 module _ {M P A O : Type 0} (meets : M → P → Bool) (dontCare : A) (joined : O → A → A → A) (common : M → M → M)
     (empty : M → Bool) where
@@ -133,3 +142,52 @@ module _ {M P A : Type 0} (meets : M → P → Bool) (dontCare : A) (overlap : M
   SwitchFirst = Overlapping meets overlap → (d : Row M A) (N : List (Row M A)) (q : ℕ → ℕ)
       → Right (rowsOverlap overlap d N) (length N) q
       → (p : P) (i : ℕ) → FirstPlace (matchesAt meets d N p) (length N) i → Obeyed meets d N q p i
+
+module _ {M P A : Type 0} (meets : M → P → Bool) (dontCare : A) (inside : M → M → Bool) where
+  -- Without the hidden rows the scan is the same, for every packet.
+  abbrev pub ScanHidden : Type 0
+  ScanHidden = InsideMeets meets inside → (N : List (Row M A)) (p : P)
+      → scan meets dontCare (staying inside N) p ≡ scan meets dontCare N p
+
+module _ {M : Type 0} (A : Type 0) (inside : M → M → Bool) where
+  -- What stays are the rows at the places that lie inside no earlier row of the table, in order.
+  abbrev pub HiddenExactly : Type 0
+  HiddenExactly = (d : Row M A) (N : List (Row M A))
+      → staying inside N ≡ map (λ i. getD N i d) (placesWhere (λ i. not (insideEarlier inside d N i)) (length N))
+
+  -- A match lies inside one of some rows exactly when there is one that it lies inside.
+  abbrev pub InsideExactly : Type 0
+  InsideExactly = (d : Row M A) (m : M) (N : List (Row M A)) → (insideOne inside m N ≡ true) ↔ InsideSome inside d m N
+
+  -- Of what stays no row lies inside an earlier one.
+  abbrev pub NoneHidden : Type 0
+  NoneHidden = (d : Row M A) (N : List (Row M A)) → let K : List (Row M A) = staying inside N in
+      (j i : ℕ) → j < i → i < length K → inside (getD K i d .match) (getD K j d .match) ≡ false
+
+  -- A second pass changes nothing.
+  abbrev pub HiddenAgain : Type 0
+  HiddenAgain = (N : List (Row M A)) → staying inside (staying inside N) ≡ staying inside N
+
+  -- One row more: it is enough to ask the rows that stay, since a row inside one that goes lies inside one that stays.
+  abbrev pub HiddenStep : Type 0
+  HiddenStep = InsideTrans inside → (d : Row M A) (N : List (Row M A)) (i : ℕ) → i < length N
+      → let K : List (Row M A) = staying inside (take i N) in
+      staying inside (take (suc i) N) ≡ K ++ cond (insideOne inside (getD N i d .match) K) [] (getD N i d ∷ [])
+
+  -- No more rows stay than there were.
+  abbrev pub HiddenLess : Type 0
+  HiddenLess = (N : List (Row M A)) → length (staying inside N) ≤ length N
+
+  -- What every row has, every row that stays has.
+  abbrev pub HiddenEvery : Type 1
+  HiddenEvery = (T : Row M A → Type 0) (N : List (Row M A)) → All T N → All T (staying inside N)
+
+module _ (test : ℕ → Bool) where
+  -- The places that pass the test are had, and no other.
+  abbrev pub HasWhere : Type 0
+  HasWhere = (n i : ℕ) → has i (placesWhere test n) ≡ (ltb i n && test i)
+
+  -- Each lies after the one before it.
+  abbrev pub WhereRises : Type 0
+  WhereRises = (n k : ℕ) → suc k < length (placesWhere test n)
+      → getD (placesWhere test n) k 0 < getD (placesWhere test n) (suc k) 0
