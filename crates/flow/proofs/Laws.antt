@@ -79,15 +79,15 @@ meets-own m e =
     (in-own addressBits (m .destination) (m .destinationlength))
 
 -- the values of a right match are in a packet's ranges
-record Ranges (m : Match) : Type 0 where
-  source : m .source < 2 ^ addressBits
-  destination : m .destination < 2 ^ addressBits
-  inport : m .inport < portLimit
-  protocol : m .protocol < protocolLimit
-  sourceport : m .sourceport < portLimit
-  destinationport : m .destinationport < portLimit
+pub record Ranges (m : Match) : Type 0 where
+  pub source : m .source < 2 ^ addressBits
+  pub destination : m .destination < 2 ^ addressBits
+  pub inport : m .inport < portLimit
+  pub protocol : m .protocol < protocolLimit
+  pub sourceport : m .sourceport < portLimit
+  pub destinationport : m .destinationport < portLimit
 
-ranges : (m : Match) → rightMatch m ≡ true → Ranges m
+pub ranges : (m : Match) → rightMatch m ≡ true → Ranges m
 unfolding rightMatch isNone isPlain rightValue rightPrefix
 ranges m e =
     ⊎-elim
