@@ -4,7 +4,7 @@
 --   OverlapExactly, MeetsOverlap                          when matches overlap, right ones and all
 --   MetExactly                                            when some packet meets a right match
 --   CommonRight, CommonEmpty                              when the common match is right, and when it is empty
---   InsideMeets, InsideTrans                              what lies inside a match is met only by what meets it, and goes on
+--   InsideMeets, InsideTrans                              who meets what a match lies inside, and what it lies inside
 --   InsideExactly                                         when a right match lies inside another
 --   MatchWordsRead, MatchReadWords, MatchWrittenRead      the words of a match, read and written
 --   PacketWordsRead, PacketReadWords, PacketWrittenRead   the words of a packet
@@ -16,8 +16,8 @@ use mathlib.Core.Logic.{_↔_}
 use lib.ListN.{length, drop}
 use Rattle.words.specs.Words.{copied}
 use Rattle.flow.specs.Packet.{packetLength, packetOf, packetWords}
-use Rattle.flow.specs.Match.{matchLength, matchOf, matchWords, isEmpty, rightMatch, meets, overlap, common, inside}
-use Rattle.flow.specs.Match.{SharedPacket, Within}
+use Rattle.flow.specs.Match.{matchLength, matchOf, matchWords, isEmpty, rightMatch, meets, overlap, common}
+use Rattle.flow.specs.Match.{inside, SharedPacket, Within}
 use Rattle.flow.specs.declared.Match.{Match}
 use Rattle.flow.specs.declared.Packet.{Packet}
 

@@ -1,5 +1,5 @@
-// A packet and a match: which packets meet a match, when two matches overlap, when one lies inside another, and the match
-// that both together are.
+// A packet and a match: which packets meet a match, when two matches overlap, when one lies inside another, and the
+// match that both together are.
 pub use crate::matches::common;
 pub use crate::matches::constrains;
 pub use crate::matches::is_empty;

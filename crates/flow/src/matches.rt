@@ -1,4 +1,5 @@
-// Matches: which packets meet one, when two overlap, when one lies inside another, and the match that both together are.
+// Matches: which packets meet one, when two overlap, when one lies inside another, and the match that both together
+// are.
 ghost use mathlib.Core.Path.{_≡_};
 ghost use Rattle.field.specs.Value.{valuesMeet, valueInside};
 ghost use Rattle.words.specs.Words.{copied};

@@ -15,50 +15,54 @@ returns c = rw (← c .before .is-empty .ensures, c .if1 .taken)
 returns-2 : tie.Need-returns-2
 unfolding inside
 returns-2 c =
+    let destination = c .before .prefix-covers in
     let empty = c .before .before in
     rw (
       ← empty .before .is-empty .ensures,
       empty .if1 .left,
-      ← c .before .prefix-covers .ensures,
-      not-true (c .before .prefix-covers .result) (c .if2 .taken),
+      ← destination .ensures,
+      not-true (destination .result) (c .if2 .taken),
       and-false,
     )
 
 returns-3 : tie.Need-returns-3
 unfolding inside
 returns-3 c =
+    let source = c .before .prefix-covers2 in
     let empty = c .before .before .before .before in
     rw (
       ← empty .before .is-empty .ensures,
       empty .if1 .left,
-      ← c .before .prefix-covers2 .ensures,
-      not-true (c .before .prefix-covers2 .result) (c .if3 .taken),
+      ← source .ensures,
+      not-true (source .result) (c .if3 .taken),
       and-false,
     )
 
 returns-4 : tie.Need-returns-4
 unfolding inside
 returns-4 c =
+    let destinationport = c .before .inside-in in
     let addresses = c .before .before in
     let empty = addresses .before .before .before .before in
     rw (
       ← empty .before .is-empty .ensures,
       empty .if1 .left,
-      ← c .before .inside-in .ensures,
-      not-true (c .before .inside-in .result) (c .if4 .taken),
+      ← destinationport .ensures,
+      not-true (destinationport .result) (c .if4 .taken),
       and-false,
     )
 
 returns-5 : tie.Need-returns-5
 unfolding inside
 returns-5 c =
+    let sourceport = c .before .inside-in2 in
     let addresses = c .before .before .before .before in
     let empty = addresses .before .before .before .before in
     rw (
       ← empty .before .is-empty .ensures,
       empty .if1 .left,
-      ← c .before .inside-in2 .ensures,
-      not-true (c .before .inside-in2 .result) (c .if5 .taken),
+      ← sourceport .ensures,
+      not-true (sourceport .result) (c .if5 .taken),
       and-false,
     )
 
