@@ -41,7 +41,7 @@ pub common-value-below : (on : Bool) (limit v v′ : ℕ) → v < limit → v′
 common-value-below true limit v v′ p q = p
 common-value-below false limit v v′ p q = q
 
--- what meets a value meets one that it lies inside, and lies inside what that lies inside
+-- where one value lies inside another, a number that meets the one meets the other; and lying inside goes on
 pub value-meets : (on : Bool) (v : ℕ) (on′ : Bool) (v′ x : ℕ) → valueInside on v on′ v′ ≡ true → meetsValue on v x ≡ true → meetsValue on′ v′ x ≡ true
 unfolding valueInside meetsValue
 value-meets on v false v′ x h k = refl

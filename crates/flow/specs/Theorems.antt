@@ -4,7 +4,7 @@
 --   OverlapExactly, MeetsOverlap                          when matches overlap, right ones and all
 --   MetExactly                                            when some packet meets a right match
 --   CommonRight, CommonEmpty                              when the common match is right, and when it is empty
---   InsideMeets, InsideTrans                              who meets what a match lies inside, and what it lies inside
+--   InsideMeets, InsideTrans                              what lying inside gives, and that it goes on
 --   InsideExactly                                         when a right match lies inside another
 --   MatchWordsRead, MatchReadWords, MatchWrittenRead      the words of a match, read and written
 --   PacketWordsRead, PacketReadWords, PacketWrittenRead   the words of a packet
@@ -49,11 +49,11 @@ CommonRight = (a b : Match) → rightMatch a ≡ true → rightMatch b ≡ true 
 abbrev pub CommonEmpty : Type 0
 CommonEmpty = (a b : Match) → isEmpty (common a b) ≡ not (overlap a b)
 
--- a packet that meets a match meets whatever that lies inside, for all matches (inside-meets)
+-- where a lies inside b, a packet that meets a meets b, for all matches (inside-meets)
 abbrev pub InsideMeets : Type 0
 InsideMeets = (a b : Match) (p : Packet) → inside a b ≡ true → meets a p ≡ true → meets b p ≡ true
 
--- a match lies inside whatever one that it lies inside lies inside, for all matches (inside-trans)
+-- where a lies inside b and b inside c, a lies inside c, for all matches (inside-trans)
 abbrev pub InsideTrans : Type 0
 InsideTrans = (a b c : Match) → inside a b ≡ true → inside b c ≡ true → inside a c ≡ true
 
