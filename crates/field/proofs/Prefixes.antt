@@ -8,7 +8,7 @@ use lib.Dec.{eqb, leb}
 use lib.Pow.{shr-shr, shr-lt, high, pow-add, pow-pos, pow-lt, mod-pow-add, mod-mod-pow}
 use lib.Arith.{digits-lt}
 use lib.Bits.{bitXor, xor-shr, xor-self, xor-add-and, and-le-l, and-le-r}
-use borrow.Author.Tests.{eqb-true, eq-eqb, leb-true, leb-false}
+use borrow.Author.Tests.{eqb-true, eq-eqb, leb-true, leb-false, le-leb}
 use Rattle.field.specs.Prefix.{leading, inPrefix, rightPrefix, prefixesMeet, covers, longerAddress, longerLength}
 use Rattle.field.specs.Theorems.{InBoth, SharedAddress, MeetExactly, Contains, CoversExactly}
 use Rattle.logic.specs.Tests.{Joins, Keeps}
@@ -115,15 +115,27 @@ block-within w q n r l hq h =
     subst (λ (k : ℕ). leading w n q * 2 ^ (w - n) + r < k) (sym (pow-add 2 n (w - n)) ∙ ap (λ (k : ℕ). 2 ^ k) s)
     (digits-lt (shr-lt n (w - n) (subst (λ (k : ℕ). q < 2 ^ k) (sym s) hq)) h)
 
+-- a prefix holds what one that it covers holds, and covers what that covers
+pub covers-in : (w p m q n x : ℕ) → covers w p m q n ≡ true → inPrefix w q n x ≡ true → inPrefix w p m x ≡ true
+unfolding covers
+covers-in w p m q n x e f =
+    in-moves w q n p m x (leb-true m n (and-left (leb m n) (inPrefix w p m q) e)) f
+    ∙ and-right (leb m n) (inPrefix w p m q) e
+
+pub covers-trans : (w p m q n r k : ℕ) → covers w p m q n ≡ true → covers w q n r k ≡ true → covers w p m r k ≡ true
+unfolding covers
+covers-trans w p m q n r k e f =
+    let h : m ≤ n = leb-true m n (and-left (leb m n) (inPrefix w p m q) e) in
+    let l : n ≤ k = leb-true n k (and-left (leb n k) (inPrefix w q n r) f) in
+    and-both (le-leb m k (omega arith)) (covers-in w p m q n r e (and-right (leb n k) (inPrefix w q n r) f))
+
 -- A PREFIX COVERS ANOTHER exactly when it contains it: a longer one misses one of two neighbouring addresses
 pub covers-exactly : CoversExactly
 unfolding covers inPrefix
 covers-exactly w p m q n hm hq = (contains, covered)
   where
     contains : covers w p m q n ≡ true → Contains w p m q n
-    contains e x h f =
-        in-moves w q n p m x (leb-true m n (and-left (leb m n) (inPrefix w p m q) e)) f
-        ∙ and-right (leb m n) (inPrefix w p m q) e
+    contains e x h f = covers-in w p m q n x e f
 
     base : ℕ
     base = leading w n q * 2 ^ (w - n)

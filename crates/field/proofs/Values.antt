@@ -1,11 +1,12 @@
 -- Laws of values that may be constrained, by the four cases of what is constrained. Assumes nothing.
 use mathlib.Core.Path.{_≡_, refl, sym, ap, _∙_}
-use mathlib.Core.Bool.{Bool, true, false, _||_, and-true, and-comm}
-use Prim.Native.Nat.{ℕ, _<_}
+use mathlib.Core.Bool.{Bool, true, false, _||_, and-true, and-comm, false≢true}
+use Prim.Native.Nat.{ℕ, zero, suc, _<_}
+use native.Mathlib.Omega.{arith}
 use lib.Dec.{eqb}
 use borrow.Author.Tests.{eqb-true, eq-eqb}
-use Rattle.field.specs.Value.{meetsValue, valuesMeet, commonValue, rightValue}
-use Rattle.field.specs.Theorems.{ValueBoth}
+use Rattle.field.specs.Value.{meetsValue, valuesMeet, valueInside, commonValue, rightValue}
+use Rattle.field.specs.Theorems.{ValueBoth, ValueInsideExactly}
 use Rattle.logic.specs.Tests.{Joins, Keeps}
 use Rattle.logic.proofs.Tests.{and-under}
 
@@ -39,3 +40,43 @@ common-value-right false on′ limit v v′ = record { gives = λ p q. q }
 pub common-value-below : (on : Bool) (limit v v′ : ℕ) → v < limit → v′ < limit → commonValue on v v′ < limit
 common-value-below true limit v v′ p q = p
 common-value-below false limit v v′ p q = q
+
+-- where one value lies inside another, a number that meets the one meets the other; and lying inside goes on
+pub value-meets : (on : Bool) (v : ℕ) (on′ : Bool) (v′ x : ℕ) → valueInside on v on′ v′ ≡ true → meetsValue on v x ≡ true → meetsValue on′ v′ x ≡ true
+unfolding valueInside meetsValue
+value-meets on v false v′ x h k = refl
+value-meets true v true v′ x h k = eq-eqb v′ x (eqb-true v′ v h ∙ eqb-true v x k)
+value-meets false v true v′ x h k = absurd (false≢true h)
+
+pub value-trans : (on : Bool) (v : ℕ) (on′ : Bool) (v′ : ℕ) (on″ : Bool) (v″ : ℕ)
+    → valueInside on v on′ v′ ≡ true → valueInside on′ v′ on″ v″ ≡ true → valueInside on v on″ v″ ≡ true
+unfolding valueInside
+value-trans on v on′ v′ false v″ h k = refl
+value-trans true v true v′ true v″ h k = eq-eqb v″ v (eqb-true v″ v′ k ∙ eqb-true v′ v h)
+value-trans false v true v′ true v″ h k = absurd (false≢true h)
+value-trans on v false v′ true v″ h k = absurd (false≢true k)
+
+-- a number other than v, below two
+abbrev other : ℕ → ℕ
+other zero = 1
+other (suc v) = 0
+
+other-differs : (v : ℕ) → ¬ (v ≡ other v)
+other-differs zero e = omega (arith, e)
+other-differs (suc v) e = omega (arith, e)
+
+other-below : (v : ℕ) → other v < 2
+other-below zero = omega arith
+other-below (suc v) = omega arith
+
+-- ONE VALUE LIES INSIDE ANOTHER exactly when what meets it meets the other: v itself does, and if v is unconstrained another number too
+pub value-inside-exactly : ValueInsideExactly
+unfolding valueInside meetsValue
+value-inside-exactly limit on v on′ v′ two below = (λ e x h m. value-meets on v on′ v′ x e m, found on on′)
+  where
+    found : (on on′ : Bool) → ((x : ℕ) → x < limit → meetsValue on v x ≡ true → meetsValue on′ v′ x ≡ true) → valueInside on v on′ v′ ≡ true
+    found on false f = refl
+    found true true f = f v below (meets-own-value true v)
+    found false true f =
+        let near : other v < limit = omega (arith, other-below v) in
+        absurd (other-differs v (sym (eqb-true v′ v (f v below refl)) ∙ eqb-true v′ (other v) (f (other v) near refl)))

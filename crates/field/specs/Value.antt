@@ -3,6 +3,7 @@
 --
 --   meetsValue on v x   x meets the value
 --   valuesMeet          some number meets both values
+--   valueInside         every number that meets the first value meets the second
 --   commonValue         the value that two are together
 --   rightValue          a right value: below its limit, and 0 where it is unconstrained
 use Prim.Native.Nat.{ℕ}
@@ -16,6 +17,11 @@ meetsValue on v x = not on || eqb v x
 -- some number meets both values: the first is unconstrained, or it meets the second
 unfoldable pub valuesMeet : Bool → ℕ → Bool → ℕ → Bool
 valuesMeet on v on′ v′ = not on || meetsValue on′ v′ v
+
+-- every number that meets the first value meets the second: the second is unconstrained, or both are constrained and
+-- equal
+unfoldable pub valueInside : Bool → ℕ → Bool → ℕ → Bool
+valueInside on v on′ v′ = not on′ || (on && eqb v′ v)
 
 -- the value that two are together, where some number meets both
 abbrev pub commonValue : Bool → ℕ → ℕ → ℕ

@@ -4,7 +4,7 @@ ghost use mathlib.Core.Bool.{cond};
 ghost use Prim.Native.Nat.{_-_, _≤_};
 ghost use Rattle.field.specs.Prefix.{addressBits, inPrefix, zeroBeyond, rightPrefix, prefixesMeet, covers};
 ghost use Rattle.field.specs.Prefix.{longerAddress, longerLength};
-ghost use Rattle.field.specs.Value.{meetsValue, valuesMeet, commonValue, rightValue};
+ghost use Rattle.field.specs.Value.{meetsValue, valuesMeet, valueInside, commonValue, rightValue};
 
 // How many bits an address has.
 pub const ADDRESS_BITS: u32 = 32;
@@ -70,6 +70,13 @@ pub fn values_meet(a: bool, v: u32, b: bool, w: u32) -> bool
     ensures { λ r. ⌜ r ≡ valuesMeet a v b w ⌝ }
 {
     !a | (!b | (w == v))
+}
+
+// Whether every number that meets v, constrained where a says so, meets w, constrained where b says so.
+pub fn value_inside(a: bool, v: u32, b: bool, w: u32) -> bool
+    ensures { λ r. ⌜ r ≡ valueInside a v b w ⌝ }
+{
+    !b | (a & (w == v))
 }
 
 // The value that two such values that meet are together: the first if it is constrained, else the second.

@@ -2,11 +2,11 @@
 use mathlib.Core.Path.{_≡_, refl, sym, ap, ap₂, _∙_}
 use mathlib.Core.Bool.{Bool, true, false, cond, not, _&&_, _||_, and-eq-true-iff, or-true}
 use mathlib.Core.Logic.{⊎-elim}
-use Prim.Native.Nat.{_^_, _<_}
+use Prim.Native.Nat.{_^_, _≤_, _<_}
 use native.Mathlib.Omega.{arith}
 use lib.Bits.{bitAnd}
 use lib.Dec.{eqb}
-use borrow.Author.Tests.{ltb-true, eqb-true, lt-ltb, not-true}
+use borrow.Author.Tests.{ltb-true, leb-true, eqb-true, lt-ltb, not-true}
 use Rattle.field.specs.Prefix.{addressBits, rightPrefix}
 use Rattle.field.specs.Value.{rightValue}
 use Rattle.field.proofs.Prefixes.{prefix-joins, in-own, longer-right, longer-within}
@@ -78,21 +78,23 @@ meets-own m e =
     (in-own addressBits (m .source) (m .sourcelength)))
     (in-own addressBits (m .destination) (m .destinationlength))
 
--- the values of a right match are in a packet's ranges
-record Ranges (m : Match) : Type 0 where
-  source : m .source < 2 ^ addressBits
-  destination : m .destination < 2 ^ addressBits
-  inport : m .inport < portLimit
-  protocol : m .protocol < protocolLimit
-  sourceport : m .sourceport < portLimit
-  destinationport : m .destinationport < portLimit
+-- the values of a right match are in a packet's ranges, its prefixes no longer than an address
+pub record Ranges (m : Match) : Type 0 where
+  pub source : m .source < 2 ^ addressBits
+  pub destination : m .destination < 2 ^ addressBits
+  pub inport : m .inport < portLimit
+  pub protocol : m .protocol < protocolLimit
+  pub sourceport : m .sourceport < portLimit
+  pub destinationport : m .destinationport < portLimit
+  pub sourcelength : m .sourcelength ≤ addressBits
+  pub destinationlength : m .destinationlength ≤ addressBits
 
-ranges : (m : Match) → rightMatch m ≡ true → Ranges m
+pub ranges : (m : Match) → rightMatch m ≡ true → Ranges m
 unfolding rightMatch isNone isPlain rightValue rightPrefix
 ranges m e =
     ⊎-elim
     (λ n. let h = simp and-eq-true-iff at n in omega (arith, eqb-true))
-    (λ n. let h = simp and-eq-true-iff at n in omega (arith, ltb-true))
+    (λ n. let h = simp and-eq-true-iff at n in omega (arith, ltb-true, leb-true))
     (or-split (isNone m) (isPlain m) e)
 
 -- the own packet of two right matches together is in range

@@ -1,3 +1,4 @@
 pub mod Flags
+pub mod Inside
 pub mod Laws
 pub mod Words

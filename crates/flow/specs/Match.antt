@@ -13,7 +13,9 @@
 --   overlap a b           some packet meets both
 --   both a b              the two together, where they overlap
 --   common a b            the match that exactly the packets meet that meet both
+--   inside a b            every packet that meets a meets b
 --   SharedPacket a b      a packet in range that meets both
+--   Within a b            every packet in range that meets a meets b
 use Prim.Native.Nat.{ℕ, _+_, _-_}
 use mathlib.Core.Path.{_≡_}
 use mathlib.Core.Bool.{Bool, true, false, cond, not, _&&_, _||_}
@@ -21,8 +23,8 @@ use mathlib.Core.List.{List, [], _∷_, _++_}
 use lib.Bits.{bitAnd, bitOr}
 use lib.Dec.{eqb}
 use lib.ListN.{getD, replicate}
-use Rattle.field.specs.Prefix.{addressBits, inPrefix, rightPrefix, prefixesMeet, longerAddress, longerLength}
-use Rattle.field.specs.Value.{meetsValue, valuesMeet, commonValue, rightValue}
+use Rattle.field.specs.Prefix.{addressBits, inPrefix, rightPrefix, prefixesMeet, covers, longerAddress, longerLength}
+use Rattle.field.specs.Value.{meetsValue, valuesMeet, valueInside, commonValue, rightValue}
 use Rattle.flow.specs.Packet.{portLimit, protocolLimit, rightPacket}
 use Rattle.flow.specs.declared.Match.{Match}
 use Rattle.flow.specs.declared.Packet.{Packet}
@@ -167,9 +169,26 @@ both a b = record {
 unfoldable pub common : Match → Match → Match
 common a b = cond (overlap a b) (both a b) none
 
+-- a lies inside b, that is, b is met by every packet that meets a: a is empty, or b is not and holds a in each field
+unfoldable pub inside : Match → Match → Bool
+inside a b =
+    isEmpty a
+    || (not (isEmpty b)
+    && valueInside (constrains inportFlag a) (a .inport) (constrains inportFlag b) (b .inport)
+    && valueInside (constrains protocolFlag a) (a .protocol) (constrains protocolFlag b) (b .protocol)
+    && valueInside (constrains sourceportFlag a) (a .sourceport) (constrains sourceportFlag b) (b .sourceport)
+    && valueInside (constrains destinationportFlag a) (a .destinationport) (constrains destinationportFlag b)
+    (b .destinationport)
+    && covers addressBits (b .source) (b .sourcelength) (a .source) (a .sourcelength)
+    && covers addressBits (b .destination) (b .destinationlength) (a .destination) (a .destinationlength))
+
 -- a packet in range that meets two matches
 pub record SharedPacket (a b : Match) : Type 0 where
   pub packet : Packet
   pub inRange : rightPacket packet ≡ true
   pub left : meets a packet ≡ true
   pub right : meets b packet ≡ true
+
+-- every packet in range that meets a meets b
+abbrev pub Within : Match → Match → Type 0
+Within a b = (p : Packet) → rightPacket p ≡ true → meets a p ≡ true → meets b p ≡ true

@@ -4,6 +4,8 @@
 --   OverlapExactly, MeetsOverlap                          when matches overlap, right ones and all
 --   MetExactly                                            when some packet meets a right match
 --   CommonRight, CommonEmpty                              when the common match is right, and when it is empty
+--   InsideMeets, InsideTrans                              what lying inside gives, and that it goes on
+--   InsideExactly                                         when a right match lies inside another
 --   MatchWordsRead, MatchReadWords, MatchWrittenRead      the words of a match, read and written
 --   PacketWordsRead, PacketReadWords, PacketWrittenRead   the words of a packet
 use Prim.Native.Nat.{ℕ, _≤_}
@@ -15,7 +17,7 @@ use lib.ListN.{length, drop}
 use Rattle.words.specs.Words.{copied}
 use Rattle.flow.specs.Packet.{packetLength, packetOf, packetWords}
 use Rattle.flow.specs.Match.{matchLength, matchOf, matchWords, isEmpty, rightMatch, meets, overlap, common}
-use Rattle.flow.specs.Match.{SharedPacket}
+use Rattle.flow.specs.Match.{inside, SharedPacket, Within}
 use Rattle.flow.specs.declared.Match.{Match}
 use Rattle.flow.specs.declared.Packet.{Packet}
 
@@ -46,6 +48,18 @@ CommonRight = (a b : Match) → rightMatch a ≡ true → rightMatch b ≡ true 
 -- the common match is empty exactly when the two do not overlap, for all matches (common-empty)
 abbrev pub CommonEmpty : Type 0
 CommonEmpty = (a b : Match) → isEmpty (common a b) ≡ not (overlap a b)
+
+-- where a lies inside b, a packet that meets a meets b, for all matches (inside-meets)
+abbrev pub InsideMeets : Type 0
+InsideMeets = (a b : Match) (p : Packet) → inside a b ≡ true → meets a p ≡ true → meets b p ≡ true
+
+-- where a lies inside b and b inside c, a lies inside c, for all matches (inside-trans)
+abbrev pub InsideTrans : Type 0
+InsideTrans = (a b c : Match) → inside a b ≡ true → inside b c ≡ true → inside a c ≡ true
+
+-- a right match lies inside another exactly when every packet in range that meets it meets the other (inside-exactly)
+abbrev pub InsideExactly : Type 0
+InsideExactly = (a b : Match) → rightMatch a ≡ true → rightMatch b ≡ true → (inside a b ≡ true) ↔ Within a b
 
 -- the words of a match are read as the match (match-words-read), and read words are its words (match-read-words)
 abbrev pub MatchWordsRead : Type 0

@@ -1,8 +1,10 @@
-// A packet and a match: which packets meet a match, when two matches overlap, and the match that both together are.
+// A packet and a match: which packets meet a match, when two matches overlap, when one lies inside another, and the
+// match that both together are.
 pub use crate::matches::common;
 pub use crate::matches::constrains;
 pub use crate::matches::is_empty;
 pub use crate::matches::is_plain;
+pub use crate::matches::lies_inside;
 pub use crate::matches::meets;
 pub use crate::matches::overlap;
 pub use crate::matches::read_match;

@@ -1,9 +1,10 @@
-// Matches: which packets meet one, when two overlap, and the match that both together are.
+// Matches: which packets meet one, when two overlap, when one lies inside another, and the match that both together
+// are.
 ghost use mathlib.Core.Path.{_≡_};
-ghost use Rattle.field.specs.Value.{valuesMeet};
+ghost use Rattle.field.specs.Value.{valuesMeet, valueInside};
 ghost use Rattle.words.specs.Words.{copied};
 ghost use Rattle.flow.specs.Match.{matchOf, matchWords, constrains, isEmpty, isNone, isPlain, rightMatch};
-ghost use Rattle.flow.specs.Match.{meets, overlap, both, common};
+ghost use Rattle.flow.specs.Match.{meets, overlap, inside, both, common};
 use crate::DESTINATION_PORT;
 use crate::EMPTY;
 use crate::IN_PORT;
@@ -20,9 +21,11 @@ use field::in_prefix;
 use field::longer_address;
 use field::longer_length;
 use field::meets_value;
+use field::prefix_covers;
 use field::prefixes_meet;
 use field::right_prefix;
 use field::right_value;
+use field::value_inside;
 use field::values_meet;
 use words::copy;
 use words::word;
@@ -73,6 +76,35 @@ pub fn overlap(a: Match, b: Match) -> bool
         & !is_empty(b)
         & agree_in(a, b, IN_PORT, a.inport, b.inport)
         & agree_in(a, b, PROTOCOL, a.protocol, b.protocol)
+}
+
+// Whether every packet that meets the first match meets the second. The addresses are tested first, as in overlap.
+pub fn lies_inside(a: Match, b: Match) -> bool
+    ensures { λ r. ⌜ r ≡ inside a b ⌝ }
+{
+    if is_empty(a) {
+        return true;
+    }
+    if !prefix_covers(
+        b.destination,
+        b.destinationlength,
+        a.destination,
+        a.destinationlength,
+    ) {
+        return false;
+    }
+    if !prefix_covers(b.source, b.sourcelength, a.source, a.sourcelength) {
+        return false;
+    }
+    if !inside_in(a, b, DESTINATION_PORT, a.destinationport, b.destinationport) {
+        return false;
+    }
+    if !inside_in(a, b, SOURCE_PORT, a.sourceport, b.sourceport) {
+        return false;
+    }
+    !is_empty(b)
+        & inside_in(a, b, IN_PORT, a.inport, b.inport)
+        & inside_in(a, b, PROTOCOL, a.protocol, b.protocol)
 }
 
 // The match that exactly the packets meet that meet both: empty where there are none.
@@ -174,6 +206,13 @@ fn agree_in(a: Match, b: Match, flag: u32, v: u32, w: u32) -> bool
     ensures { λ r. ⌜ r ≡ valuesMeet (constrains flag a) v (constrains flag b) w ⌝ }
 {
     values_meet(constrains(a, flag), v, constrains(b, flag), w)
+}
+
+// Whether one match lies inside another in the value that a flag is for: v in the one, w in the other.
+fn inside_in(a: Match, b: Match, flag: u32, v: u32, w: u32) -> bool
+    ensures { λ r. ⌜ r ≡ valueInside (constrains flag a) v (constrains flag b) w ⌝ }
+{
+    value_inside(constrains(a, flag), v, constrains(b, flag), w)
 }
 
 // Both matches together, where they overlap: what either constrains, and the longer prefixes.
