@@ -11,7 +11,7 @@ use Rattle.field.proofs.Prefixes.{in-own, covers-exactly, covers-in, covers-tra
 use Rattle.field.proofs.Values.{meets-own-value, value-meets, value-trans, value-inside-exactly}
 use Rattle.flow.specs.Packet.{portLimit, protocolLimit, rightPacket}
 use Rattle.flow.specs.Match.{inportFlag, protocolFlag, sourceportFlag, destinationportFlag, constrains}
-use Rattle.flow.specs.Match.{isEmpty, rightMatch, meets, inside, Within}
+use Rattle.flow.specs.Match.{isEmpty, rightMatch, meets, inside, LiesIn}
 use Rattle.flow.specs.Theorems.{InsideMeets, InsideTrans, InsideExactly}
 use Rattle.flow.specs.declared.Match.{Match}
 use Rattle.flow.specs.declared.Packet.{Packet}
@@ -142,7 +142,7 @@ own-address q n h = record { address = q; within = h; met = in-own addressBits q
 
 -- a match that is not empty lies inside another where every packet in range that meets it meets that: in each field the packets tell
 -- that differ from its own there alone
-module _ (a b : Match) (ra : rightMatch a ≡ true) (rb : rightMatch b ≡ true) (live : isEmpty a ≡ false) (all : Within a b) where
+module _ (a b : Match) (ra : rightMatch a ≡ true) (rb : rightMatch b ≡ true) (live : isEmpty a ≡ false) (all : LiesIn a b) where
   -- its own values
   inport : Chosen portLimit (constrains inportFlag a) (a .inport)
   inport = own-value portLimit _ (a .inport) (ranges a ra .inport)

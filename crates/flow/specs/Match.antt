@@ -15,7 +15,7 @@
 --   common a b            the match that exactly the packets meet that meet both
 --   inside a b            every packet that meets a meets b
 --   SharedPacket a b      a packet in range that meets both
---   Within a b            every packet in range that meets a meets b
+--   LiesIn a b            every packet in range that meets a meets b
 use Prim.Native.Nat.{ℕ, _+_, _-_}
 use mathlib.Core.Path.{_≡_}
 use mathlib.Core.Bool.{Bool, true, false, cond, not, _&&_, _||_}
@@ -190,5 +190,5 @@ pub record SharedPacket (a b : Match) : Type 0 where
   pub right : meets b packet ≡ true
 
 -- every packet in range that meets a meets b
-abbrev pub Within : Match → Match → Type 0
-Within a b = (p : Packet) → rightPacket p ≡ true → meets a p ≡ true → meets b p ≡ true
+abbrev pub LiesIn : Match → Match → Type 0
+LiesIn a b = (p : Packet) → rightPacket p ≡ true → meets a p ≡ true → meets b p ≡ true

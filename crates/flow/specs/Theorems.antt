@@ -17,7 +17,7 @@ use lib.ListN.{length, drop}
 use Rattle.words.specs.Words.{copied}
 use Rattle.flow.specs.Packet.{packetLength, packetOf, packetWords}
 use Rattle.flow.specs.Match.{matchLength, matchOf, matchWords, isEmpty, rightMatch, meets, overlap, common}
-use Rattle.flow.specs.Match.{inside, SharedPacket, Within}
+use Rattle.flow.specs.Match.{inside, SharedPacket, LiesIn}
 use Rattle.flow.specs.declared.Match.{Match}
 use Rattle.flow.specs.declared.Packet.{Packet}
 
@@ -59,7 +59,7 @@ InsideTrans = (a b c : Match) → inside a b ≡ true → inside b c ≡ true �
 
 -- a right match lies inside another exactly when every packet in range that meets it meets the other (inside-exactly)
 abbrev pub InsideExactly : Type 0
-InsideExactly = (a b : Match) → rightMatch a ≡ true → rightMatch b ≡ true → (inside a b ≡ true) ↔ Within a b
+InsideExactly = (a b : Match) → rightMatch a ≡ true → rightMatch b ≡ true → (inside a b ≡ true) ↔ LiesIn a b
 
 -- the words of a match are read as the match (match-words-read), and read words are its words (match-read-words)
 abbrev pub MatchWordsRead : Type 0

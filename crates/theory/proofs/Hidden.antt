@@ -9,8 +9,8 @@ use lib.Seq.{take-suc, take-length}
 use Rattle.logic.proofs.Tests.{by-test}
 use Rattle.logic.specs.Lists.{All}
 use Rattle.theory.specs.Rows.{Row, scan}
-use Rattle.theory.specs.Hidden.{insideOne, stayingAfter, staying, insideEarlier, placesWhere, InsideSome, InsideMeets, InsideTrans}
-use Rattle.theory.specs.Theorems.{ScanHidden, HiddenExactly, InsideExactly, NoneHidden, HiddenAgain, HiddenStep, HiddenLess, HiddenEvery}
+use Rattle.theory.specs.Hidden.{insideOne, stayingAfter, staying, insideEarlier, placesWhere, InsideSome, Enclosing, Nesting}
+use Rattle.theory.specs.Theorems.{ScanHidden, HiddenExactly, OneExactly, NoneHidden, HiddenAgain, HiddenStep, HiddenLess, HiddenEvery}
 
 -- Both halves of a disjunction that fails.
 or-none : (a b : Bool) → (a || b) ≡ false → (a ≡ false) × (b ≡ false)
@@ -137,7 +137,7 @@ module _ {M P A : Type 0} (meets : M → P → Bool) (dontCare : A) (inside : M 
   abbrev Unmet : List (Row M A) → P → Type 0
   Unmet E p = (m : M) → insideOne inside m E ≡ true → meets m p ≡ false
 
-  unmet-snoc : InsideMeets meets inside → (E : List (Row M A)) (r : Row M A) (p : P) → Unmet E p → meets (r .match) p ≡ false → Unmet (E ++ (r ∷ [])) p
+  unmet-snoc : Enclosing meets inside → (E : List (Row M A)) (r : Row M A) (p : P) → Unmet E p → meets (r .match) p ≡ false → Unmet (E ++ (r ∷ [])) p
   unmet-snoc meets-inside E r p u e m h =
       let o : (insideOne inside m E || inside m (r .match)) ≡ true = sym (one-snoc inside m E r) ∙ h in
       by-test (insideOne inside m E)
@@ -146,7 +146,7 @@ module _ {M P A : Type 0} (meets : M → P → Bool) (dontCare : A) (inside : M 
       (λ k. absurd (false≢true (sym e ∙ meets-inside m (r .match) p (rw t at o) k)))
       (λ k. k))
 
-  scan-after : InsideMeets meets inside → (E N : List (Row M A)) (p : P) → Unmet E p → scan meets dontCare (stayingAfter inside E N) p ≡ scan meets dontCare N p
+  scan-after : Enclosing meets inside → (E N : List (Row M A)) (p : P) → Unmet E p → scan meets dontCare (stayingAfter inside E N) p ≡ scan meets dontCare N p
   scan-after meets-inside E [] p u = refl
   scan-after meets-inside E (r ∷ N) p u =
       by-test (meets (r .match) p)
@@ -161,7 +161,7 @@ module _ {M P A : Type 0} (meets : M → P → Bool) (dontCare : A) (inside : M 
 
 module _ {M : Type 0} (A : Type 0) (inside : M → M → Bool) where
   -- Inside a row that lies inside one of the rows is inside one of them.
-  one-trans : InsideTrans inside → (m : M) (r : Row M A) (N : List (Row M A))
+  one-trans : Nesting inside → (m : M) (r : Row M A) (N : List (Row M A))
       → inside m (r .match) ≡ true → insideOne inside (r .match) N ≡ true → insideOne inside m N ≡ true
   one-trans trans m r [] e h = h
   one-trans trans m r (s ∷ N) e h =
@@ -170,7 +170,7 @@ module _ {M : Type 0} (A : Type 0) (inside : M → M → Bool) where
       (λ t. rw (one-trans trans m r N e (rw t at h)) (or-true (inside m (s .match))))
 
   -- One row more.
-  enough-snoc : InsideTrans inside → (m : M) (N : List (Row M A)) (r : Row M A) → insideOne inside m (staying inside N) ≡ insideOne inside m N
+  enough-snoc : Nesting inside → (m : M) (N : List (Row M A)) (r : Row M A) → insideOne inside m (staying inside N) ≡ insideOne inside m N
       → insideOne inside m (staying inside (N ++ (r ∷ []))) ≡ insideOne inside m (N ++ (r ∷ []))
   enough-snoc trans m N r e =
       rw (staying-snoc inside N r, one-snoc inside m N r)
@@ -182,7 +182,7 @@ module _ {M : Type 0} (A : Type 0) (inside : M → M → Bool) where
       (λ t. rw (t, one-snoc inside m (staying inside N) r, e)))
 
   -- To ask only the rows that stay is to ask all rows.
-  enough-take : InsideTrans inside → (m : M) (d : Row M A) (N : List (Row M A)) (k : ℕ) → k ≤ length N
+  enough-take : Nesting inside → (m : M) (d : Row M A) (N : List (Row M A)) (k : ℕ) → k ≤ length N
       → insideOne inside m (staying inside (take k N)) ≡ insideOne inside m (take k N)
   enough-take trans m d N zero h = refl
   enough-take trans m d N (suc k) h = rw (take-suc N k d h) (enough-snoc trans m (take k N) (getD N k d) (enough-take trans m d N k (omega arith)))
@@ -206,5 +206,5 @@ module _ {M : Type 0} (A : Type 0) (inside : M → M → Bool) where
   one-at d m (r ∷ N) zero h e = rw e
   one-at d m (r ∷ N) (suc i) h e = rw (one-at d m N i (omega arith) e) (or-true (inside m (r .match)))
 
-  pub inside-exactly : InsideExactly A inside
-  inside-exactly d m N = (one-found d m N, λ s. one-at d m N (s .place) (s .within) (s .lies))
+  pub one-exactly : OneExactly A inside
+  one-exactly d m N = (one-found d m N, λ s. one-at d m N (s .place) (s .within) (s .lies))

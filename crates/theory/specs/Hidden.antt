@@ -6,8 +6,8 @@
 --   staying            of a table's rows, those that lie inside no earlier one
 --   insideEarlier      whether the row at a place lies inside an earlier row
 --   placesWhere        the places that pass a test, in order
---   InsideMeets        asked of `inside`: a packet that meets the inner match meets the outer
---   InsideTrans        asked of it too: what lies inside a match lies inside all that this one lies inside
+--   Enclosing          asked of `inside`: a packet that meets the inner match meets the outer
+--   Nesting            asked of it too: what lies inside a match lies inside all that this one lies inside
 --   InsideSome         one of some rows whose match a match lies inside
 use Prim.Native.Nat.{ℕ, zero, suc, _<_}
 use mathlib.Core.Path.{_≡_}
@@ -49,9 +49,9 @@ placesWhere test zero = []
 placesWhere test (suc n) = placesWhere test n ++ cond (test n) (n ∷ []) []
 
 -- A packet that meets a match meets every match that it lies inside.
-abbrev pub InsideMeets : {M P : Type 0} → (M → P → Bool) → (M → M → Bool) → Type 0
-InsideMeets {M} {P} meets inside = (m n : M) (p : P) → inside m n ≡ true → meets m p ≡ true → meets n p ≡ true
+abbrev pub Enclosing : {M P : Type 0} → (M → P → Bool) → (M → M → Bool) → Type 0
+Enclosing {M} {P} meets inside = (m n : M) (p : P) → inside m n ≡ true → meets m p ≡ true → meets n p ≡ true
 
 -- What lies inside a match lies inside all that this one lies inside.
-abbrev pub InsideTrans : {M : Type 0} → (M → M → Bool) → Type 0
-InsideTrans {M} inside = (l m n : M) → inside l m ≡ true → inside m n ≡ true → inside l n ≡ true
+abbrev pub Nesting : {M : Type 0} → (M → M → Bool) → Type 0
+Nesting {M} inside = (l m n : M) → inside l m ≡ true → inside m n ≡ true → inside l n ≡ true

@@ -14,7 +14,7 @@
 --   SwitchScan, SwitchPriorities           under a right numbering, so under ours, a switch does what the scan does
 --   SwitchFirst                            the first matching row may be obeyed
 --   ScanHidden                             without the hidden rows the scan is the same
---   HiddenExactly, InsideExactly           which rows stay, by place, and what it is to lie inside one of some rows
+--   HiddenExactly, OneExactly           which rows stay, by place, and what it is to lie inside one of some rows
 --   HasWhere, WhereRises                   the places that pass a test are had and no other, each after the one before
 --   NoneHidden, HiddenAgain                of what stays no row lies inside an earlier one: a second pass changes nothing
 --   HiddenStep                             one row more, asking only the rows that stay
@@ -32,7 +32,7 @@ use Rattle.theory.specs.Tree.{Tree, node, bare, _▸_, Node, EveryNode, 
 use Rattle.theory.specs.Nodes.{Listed, plant, listTree, listTrees, ChildrenFound}
 use Rattle.theory.specs.Number.{rowsOverlap, FirstPlace, levels, levelCount, priorities, chain, Chained, Right}
 use Rattle.theory.specs.Number.{distinct, has, Obeyed}
-use Rattle.theory.specs.Hidden.{insideOne, staying, insideEarlier, InsideSome, placesWhere, InsideMeets, InsideTrans}
+use Rattle.theory.specs.Hidden.{insideOne, staying, insideEarlier, InsideSome, placesWhere, Enclosing, Nesting}
 
 module _ {M P A O : Type 0} (meets : M → P → Bool) (dontCare : A) (joined : O → A → A → A) (common : M → M → M)
     (empty : M → Bool) where
@@ -146,7 +146,7 @@ module _ {M P A : Type 0} (meets : M → P → Bool) (dontCare : A) (overlap : M
 module _ {M P A : Type 0} (meets : M → P → Bool) (dontCare : A) (inside : M → M → Bool) where
   -- Without the hidden rows the scan is the same, for every packet.
   abbrev pub ScanHidden : Type 0
-  ScanHidden = InsideMeets meets inside → (N : List (Row M A)) (p : P)
+  ScanHidden = Enclosing meets inside → (N : List (Row M A)) (p : P)
       → scan meets dontCare (staying inside N) p ≡ scan meets dontCare N p
 
 module _ {M : Type 0} (A : Type 0) (inside : M → M → Bool) where
@@ -156,8 +156,8 @@ module _ {M : Type 0} (A : Type 0) (inside : M → M → Bool) where
       → staying inside N ≡ map (λ i. getD N i d) (placesWhere (λ i. not (insideEarlier inside d N i)) (length N))
 
   -- A match lies inside one of some rows exactly when there is one that it lies inside.
-  abbrev pub InsideExactly : Type 0
-  InsideExactly = (d : Row M A) (m : M) (N : List (Row M A)) → (insideOne inside m N ≡ true) ↔ InsideSome inside d m N
+  abbrev pub OneExactly : Type 0
+  OneExactly = (d : Row M A) (m : M) (N : List (Row M A)) → (insideOne inside m N ≡ true) ↔ InsideSome inside d m N
 
   -- Of what stays no row lies inside an earlier one.
   abbrev pub NoneHidden : Type 0
@@ -170,7 +170,7 @@ module _ {M : Type 0} (A : Type 0) (inside : M → M → Bool) where
 
   -- One row more: it is enough to ask the rows that stay, since a row inside one that goes lies inside one that stays.
   abbrev pub HiddenStep : Type 0
-  HiddenStep = InsideTrans inside → (d : Row M A) (N : List (Row M A)) (i : ℕ) → i < length N
+  HiddenStep = Nesting inside → (d : Row M A) (N : List (Row M A)) (i : ℕ) → i < length N
       → let K : List (Row M A) = staying inside (take i N) in
       staying inside (take (suc i) N) ≡ K ++ cond (insideOne inside (getD N i d .match) K) [] (getD N i d ∷ [])
 
