@@ -2,6 +2,7 @@
 // What a call and its answer look like stands in tests/README.md.
 use calls::call_action;
 use calls::call_compile;
+use calls::call_hidden;
 use calls::call_number;
 use calls::call_read;
 use calls::call_scan;
@@ -22,6 +23,8 @@ const SCAN: u32 = 4;
 const NUMBER: u32 = 5;
 
 const LIST: u32 = 6;
+
+const HIDDEN: u32 = 7;
 
 // The longest slice taken, in words, and the longest input of a listing, in bytes.
 const MOST_WORDS: usize = 45100;
@@ -62,6 +65,7 @@ fn answer(a: &mut Words, b: &mut Words, c: &mut Words) -> bool {
         SCAN => call_scan(a, b),
         NUMBER => call_number(a, b, c),
         LIST => answer_list(a),
+        HIDDEN => call_hidden(a),
         _ => false,
     }
 }

@@ -19,7 +19,7 @@ use Rattle.flow.proofs.Laws.{common-right}
 use Rattle.action.specs.Action.{inRange}
 use Rattle.action.specs.Operator as operator
 use Rattle.action.specs.declared.Action.{Action}
-use Rattle.row.specs.Row.{rowLength, rowOf, rightRowMatch, RightRow, wordsOf, InRange}
+use Rattle.row.specs.Row.{rowLength, rowOf, rightRowMatch, RightRow, wordsOf, InRange, tableRows}
 use Rattle.section.specs.Numbers.{atomLength, nodeLength}
 use Rattle.refusal.specs.Plain.{plain}
 use Rattle.policy.specs.Read.{readOf, nodesAt, operatorRecords, atomRecords, nodeRecords}
@@ -33,8 +33,9 @@ use Rattle.refusal.specs.declared.Refusal.{Refusal}
 use Rattle.policy.specs.declared.Reading.{Reading}
 use Rattle.policy.specs.declared.Reading.the-variants as reading
 use Rattle.policy.proofs.Accepted.{accepted-exactly, accepted-tree}
-use Rattle.compile.specs.Compile.{noRoom, noScratch, wrongRate, room, compiledRows, fine, zeros, acceptedAnswer, afterReading, answerOf, tableAfter}
-use Rattle.compile.specs.Compile.{scratchAfter, compileRefusal, tableRows}
+use Rattle.words.specs.Words.{zeros}
+use Rattle.compile.specs.Compile.{noRoom, noScratch, wrongRate, room, compiledRows, fine, acceptedAnswer, afterReading, answerOf, tableAfter}
+use Rattle.compile.specs.Compile.{scratchAfter, compileRefusal}
 use Rattle.compile.specs.Theorems.{RoomExactly, RowsAnswered, AnswerTells, AnswersRows}
 use Rattle.compile.specs.declared.Compiled.{Compiled}
 use Rattle.compile.specs.declared.Compiled.the-variants.{Rows, Refused}

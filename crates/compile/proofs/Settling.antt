@@ -9,7 +9,7 @@ use lib.ListN.{length, take, drop, length-append, length-drop}
 use lib.Seq.{take-at, drop-at, length-take-le}
 use borrow.Author.Tests.{lt-ltb, le-ltb}
 use Rattle.words.specs.Records.{rowsOf}
-use Rattle.words.specs.Words.{laid, cleared}
+use Rattle.words.specs.Words.{laid, cleared, zeros}
 use Rattle.words.proofs.Laid.{laid-is}
 use Rattle.words.proofs.Records.{rows-at, rows-end, rows-more, rows-none, length-flat}
 use Rattle.theory.specs.Rows.{Row}
@@ -30,7 +30,7 @@ use Rattle.nodes.specs.declared.Spot.{Spot}
 use Rattle.nodes.proofs.Walk.{root-tree}
 use Rattle.common.specs.Lays.{Lays}
 use Rattle.build.specs.Build.{compileTree, treeWords, Builds, TreeBuilt, Within}
-use Rattle.compile.specs.Compile.{noRoom, noScratch, wrongRate, room, compiledRows, fine, allRight, fineWords, zeros, answerOf, tableAfter, scratchAfter}
+use Rattle.compile.specs.Compile.{noRoom, noScratch, wrongRate, room, compiledRows, fine, allRight, fineWords, answerOf, tableAfter, scratchAfter}
 use Rattle.compile.specs.Compile.{Compiles, AcceptedCompiles, Settled, Settles}
 use Rattle.compile.specs.declared.Compiled.{Compiled}
 use Rattle.compile.specs.declared.Compiled.the-variants.{Rows, Refused}

@@ -13,7 +13,7 @@ use mathlib.Core.Path.{_≡_}
 use mathlib.Core.Bool.{Bool, true, cond, _&&_}
 use mathlib.Core.List.{List, [], _∷_, _++_}
 use lib.Dec.{ltb}
-use lib.ListN.{length, replicate, take}
+use lib.ListN.{length, take}
 use Rattle.theory.specs.Rows.{Row}
 use Rattle.flow.specs.declared.Match.{Match}
 use Rattle.action.specs.Action.{inRange}
@@ -28,6 +28,7 @@ use Rattle.policy.specs.declared.Reading.{Reading}
 use Rattle.policy.specs.declared.Reading.the-variants as reading
 use Rattle.refusal.specs.declared.Refusal.{Refusal}
 use Rattle.build.specs.Build.{compileTree}
+use Rattle.words.specs.Words.{zeros}
 use Rattle.compile.specs.declared.Compiled.{Compiled}
 use Rattle.compile.specs.declared.Compiled.the-variants.{Rows, Refused}
 use Rattle.build.specs.declared.Built.{Built}
@@ -66,10 +67,6 @@ allRight (w ∷ ws) = rightRowAction w && allRight ws
 -- the same of the rows that some words hold
 unfoldable pub fineWords : List ℕ → Bool
 fineWords ws = allRight (rowsOf rowLength (λ w. w) ws)
-
--- so many zeros
-abbrev pub zeros : ℕ → List ℕ
-zeros n = replicate n 0
 
 -- one of four, by what is refused: the scratch, the room, a rate, or nothing
 abbrev pub byCase : {X : Type 0} → List (Row Match Action) → List ℕ → List ℕ → X → X → X → X → X
@@ -142,7 +139,3 @@ compileRefusal (Refused r) = r
 abbrev pub compileCount : Compiled → ℕ
 compileCount (Rows n) = n
 compileCount (Refused r) = 0
-
--- the words of the first n rows
-abbrev pub tableRows : ℕ → List ℕ → List ℕ
-tableRows n t = take (n * rowLength) t

@@ -8,13 +8,13 @@ use mathlib.Core.Path.{_≡_}
 use mathlib.Core.List.{List, _++_}
 use mathlib.Core.Logic.{_↔_}
 use lib.ListN.{length}
-use Rattle.row.specs.Row.{rowLength, RightRow, wordsOf, InRange}
+use Rattle.row.specs.Row.{rowLength, RightRow, wordsOf, InRange, tableRows}
 use Rattle.refusal.specs.Plain.{plain}
 use Rattle.policy.specs.Read.{readOf}
 use Rattle.policy.specs.declared.Layout.{Layout}
 use Rattle.policy.specs.declared.Reading.the-variants.{Accepted}
-use Rattle.compile.specs.Compile.{noRoom, room, compiledRows, zeros, answerOf, tableAfter, scratchAfter}
-use Rattle.compile.specs.Compile.{tableRows}
+use Rattle.words.specs.Words.{zeros}
+use Rattle.compile.specs.Compile.{noRoom, room, compiledRows, answerOf, tableAfter, scratchAfter}
 use Rattle.compile.specs.declared.Compiled.the-variants.{Rows, Refused}
 use Rattle.logic.specs.Lists.{All}
 

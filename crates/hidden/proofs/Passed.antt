@@ -3,8 +3,8 @@ use Prim.Native.Nat.{ℕ, _*_, _-_, _/_, _≤_}
 use native.Mathlib.Omega.{arith}
 use mathlib.Core.Path.{_≡_, refl, sym, ap, ap₂, _∙_}
 use mathlib.Core.List.{List, _++_}
-use lib.ListN.{length, take, replicate}
-use Rattle.words.specs.Words.{laid, cleared}
+use lib.ListN.{length, take}
+use Rattle.words.specs.Words.{laid, zeros, cleared}
 use Rattle.words.proofs.Laid.{length-laid, take-laid}
 use Rattle.words.proofs.Records.{length-flat}
 use Rattle.theory.proofs.Hidden.{hidden-less}
@@ -36,26 +36,26 @@ module _ (ws : List ℕ) {x : Checked} (e : x ≡ checkOf ws) where
     right = sym e ∙ r
 
     module _ {end : ℕ} (l : end ≡ length (keptWords ws)) where
-      pub kept-rows : Rows (end / rowLength) ≡ keptOf ws
+      pub right-answer : Rows (end / rowLength) ≡ keptOf ws
       unfolding keptOf
-      kept-rows =
+      right-answer =
           let count : end / rowLength ≡ length (keptRows ws) = omega (arith, l, kept-long ws) in
           ap Rows count ∙ ap (keptBy ws) (sym right)
 
-      pub kept-table : {table after : List ℕ} → table ≡ laid 0 (keptWords ws) ws → after ≡ cleared end table → after ≡ tableKept ws
+      pub right-table : {table after : List ℕ} → table ≡ laid 0 (keptWords ws) ws → after ≡ cleared end table → after ≡ tableKept ws
       unfolding tableKept cleared
-      kept-table {table} {after} t c =
+      right-table {table} {after} t c =
           c
-          ∙ ap₂ (λ n m. take n m ++ replicate (length m - n) 0) l t
-          ∙ ap₂ (λ m n. m ++ replicate (n - length (keptWords ws)) 0) (take-laid (keptWords ws) ws (length (keptWords ws)) refl (kept-fits ws))
+          ∙ ap₂ (λ n m. take n m ++ zeros (length m - n)) l t
+          ∙ ap₂ (λ m n. m ++ zeros (n - length (keptWords ws))) (take-laid (keptWords ws) ws (length (keptWords ws)) refl (kept-fits ws))
           (length-laid 0 (keptWords ws) ws)
           ∙ ap (tableBy ws) (sym right)
 
   module _ {n i : ℕ} (r : x ≡ checked.Wrong n i) where
-    pub kept-refused : Refused n i ≡ keptOf ws
+    pub wrong-answer : Refused n i ≡ keptOf ws
     unfolding keptOf
-    kept-refused = ap (keptBy ws) (sym r ∙ e)
+    wrong-answer = ap (keptBy ws) (sym r ∙ e)
 
-    pub kept-stays : ws ≡ tableKept ws
+    pub wrong-table : ws ≡ tableKept ws
     unfolding tableKept
-    kept-stays = ap (tableBy ws) (sym r ∙ e)
+    wrong-table = ap (tableBy ws) (sym r ∙ e)

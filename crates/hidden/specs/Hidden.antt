@@ -7,7 +7,8 @@
 --   keptNumber, keptPlace, keptCount   the number, the place and the row count of an answer; 0 where it has none
 use Prim.Native.Nat.{ℕ, _-_}
 use mathlib.Core.List.{List, _++_}
-use lib.ListN.{length, replicate}
+use lib.ListN.{length}
+use Rattle.words.specs.Words.{zeros}
 use Rattle.theory.specs.Rows.{Row}
 use Rattle.theory.specs.Hidden.{staying}
 use Rattle.flow.specs.Match.{inside}
@@ -39,7 +40,7 @@ keptOf ws = keptBy ws (checkOf ws)
 
 -- the words after it, by what the check finds: the rows that stay and then zeros, or what was there
 abbrev pub tableBy : List ℕ → Checked → List ℕ
-tableBy ws (checked.Rows n) = keptWords ws ++ replicate (length ws - length (keptWords ws)) 0
+tableBy ws (checked.Rows n) = keptWords ws ++ zeros (length ws - length (keptWords ws))
 tableBy ws (checked.Wrong n i) = ws
 
 -- THE TABLE after it

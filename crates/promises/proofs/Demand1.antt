@@ -37,7 +37,8 @@ use Rattle.table.proofs.Tables.{check-exactly, check-first}
 use Rattle.table.proofs.Scans.{scan-refused}
 use Rattle.priority.specs.Numbering.{numberOf, answerCount, count}
 use Rattle.priority.proofs.After.{number-ready, words-stay, refused-stays}
-use Rattle.compile.specs.Compile.{noRoom, noScratch, wrongRate, room, compiledRows, fine, zeros, answerOf, tableAfter, scratchAfter}
+use Rattle.words.specs.Words.{zeros}
+use Rattle.compile.specs.Compile.{noRoom, noScratch, wrongRate, room, compiledRows, fine, answerOf, tableAfter, scratchAfter}
 use Rattle.compile.specs.Compile as compile
 use Rattle.compile.specs.declared.Compiled.{Compiled}
 use Rattle.compile.specs.declared.Compiled.the-variants.{Rows, Refused}

@@ -14,7 +14,8 @@ use Rattle.priority.specs.Numbering.{levelsOf, chainAfter, Ready, count, link}
 use Rattle.priority.proofs.Whole.{levels-many}
 use Rattle.priority.proofs.After.{answer-counts, earlier-higher, priorities-used, fewest-numbers, chain-forces, switch-scans, switch-obeys}
 use Rattle.tree.specs.declared.Evaluated.the-variants.{Gives}
-use Rattle.compile.specs.Compile.{tableAfter, tableRows}
+use Rattle.row.specs.Row.{tableRows}
+use Rattle.compile.specs.Compile.{tableAfter}
 use Rattle.text.proofs.Right.{table-right}
 use Rattle.promises.specs.Demands.{SwitchObeysTree, Demand3}
 use Rattle.promises.proofs.Scanned.{table-scans}

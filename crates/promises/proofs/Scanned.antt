@@ -21,12 +21,12 @@ use Rattle.table.proofs.Scans.{scan-found}
 use Rattle.tree.specs.Action.{evalTree, treeActionOf}
 use Rattle.tree.specs.declared.Evaluated.the-variants.{Gives}
 use Rattle.tree.proofs.Eval.{action-eval}
-use Rattle.compile.specs.Compile.{compiledRows, answerOf, tableAfter, tableRows}
+use Rattle.compile.specs.Compile.{compiledRows, answerOf, tableAfter}
 use Rattle.compile.specs.Theorems.{AnswerTells}
 use Rattle.compile.specs.declared.Compiled.the-variants.{Rows}
 use Rattle.compile.proofs.Answered.{answers-rows}
 use Rattle.text.proofs.Right.{table-right}
-use Rattle.row.specs.Row.{rowsIn}
+use Rattle.row.specs.Row.{rowsIn, tableRows}
 use Rattle.table.specs.Table.{RightTable}
 
 -- the scan of the rows is the action of the tree

@@ -12,7 +12,7 @@ use mathlib.Core.List.{List, [], _∷_, _++_}
 use Rattle.action.specs.Operator.{join, sibling, parent}
 use Rattle.action.specs.declared.Action.the-variants.{DontCare, Allow, Deny, Gmb}
 use Rattle.action.specs.declared.Law.the-variants.{Commutativity, Associativity}
-use Rattle.row.specs.Row.{rowLength}
+use Rattle.row.specs.Row.{rowLength, tableRows}
 use Rattle.section.specs.Numbers.{short, lawBroken}
 use Rattle.refusal.specs.Plain.{plain}
 use Rattle.policy.specs.Read.{readOf}
@@ -24,7 +24,8 @@ use Rattle.table.specs.Scan.{scanOf}
 use Rattle.table.specs.declared.Scanned.the-variants.{Found}
 use Rattle.priority.specs.Numbering.{numberOf, prioritiesAfter, chainAfter}
 use Rattle.priority.specs.declared.Numbered.the-variants.{Priorities}
-use Rattle.compile.specs.Compile.{zeros, answerOf, tableAfter, scratchAfter, compileCount, tableRows}
+use Rattle.words.specs.Words.{zeros}
+use Rattle.compile.specs.Compile.{answerOf, tableAfter, scratchAfter, compileCount}
 use Rattle.compile.specs.declared.Compiled.the-variants.{Rows}
 
 -- a case: its number in the scope, a call, and what it gives

@@ -23,7 +23,7 @@ use Rattle.action.specs.Operator.{join}
 use Rattle.action.specs.Laws.{lawSearch, Shows}
 use Rattle.action.specs.declared.Action.{Action}
 use Rattle.action.specs.declared.Action.the-variants.{DontCare}
-use Rattle.row.specs.Row.{rowLength, rightRow, wordsOf, rowsIn}
+use Rattle.row.specs.Row.{rowLength, rightRow, wordsOf, rowsIn, tableRows}
 use Rattle.section.specs.Numbers.{lawBroken}
 use Rattle.refusal.specs.Plain.{plain}
 use Rattle.policy.specs.Read.{readOf, operatorRecords, nodeRecords}
@@ -43,8 +43,9 @@ use Rattle.table.specs.declared.Checked.the-variants as checked
 use Rattle.table.specs.declared.Scanned.the-variants as scanned
 use Rattle.priority.specs.Numbering.{shortBuffer, numberOf, prioritiesAfter, chainAfter, Ready, Shared, priority, link}
 use Rattle.priority.specs.declared.Numbered.the-variants as numbered
-use Rattle.compile.specs.Compile.{noRoom, noScratch, wrongRate, room, compiledRows, zeros, answerOf, tableAfter}
-use Rattle.compile.specs.Compile.{scratchAfter, tableRows}
+use Rattle.words.specs.Words.{zeros}
+use Rattle.compile.specs.Compile.{noRoom, noScratch, wrongRate, room, compiledRows, answerOf, tableAfter}
+use Rattle.compile.specs.Compile.{scratchAfter}
 use Rattle.compile.specs.declared.Compiled.the-variants as compiled
 use Rattle.promises.specs.Told.{searchTold, readTold, actionTold, compileTold, checkTold, scanTold, numberTold}
 use Rattle.promises.specs.Told.{between, Fixed}

@@ -10,7 +10,8 @@ use mathlib.Core.Bool.{true}
 use mathlib.Core.List.{List}
 use mathlib.Core.Logic.{_⊎_}
 use Rattle.words.specs.Bytes.{wordsIn}
-use Rattle.compile.specs.Compile.{noRoom, answerOf, tableAfter, tableRows}
+use Rattle.row.specs.Row.{tableRows}
+use Rattle.compile.specs.Compile.{noRoom, answerOf, tableAfter}
 use Rattle.compile.specs.declared.Compiled.the-variants.{Rows}
 use Rattle.line.specs.Text.{refusal}
 use Rattle.text.specs.Listing.{wrongInput, rightInput, blank, fileText, listingOf, ListedRows}

@@ -4,16 +4,17 @@
 --   mostRows                        the most rows that a table may have
 --   rowOf, rowWords                 the match and the action that some words are, and their words
 --   rowsIn, wordsOf                 the rows that some words hold, and the words of rows, one behind the other
+--   tableRows n t                   the words of the first n rows of a table
 --   rightRowMatch, rightRowAction   the match is right, the action is right
 --   rightRow                        a right row: an atom with a right match and a right action, whose match is not
 --                                   empty
 --   RightRow                        the same of a match and an action
 --   InRange                         the rate of a row lies in its range
-use Prim.Native.Nat.{ℕ, _+_}
+use Prim.Native.Nat.{ℕ, _+_, _*_}
 use mathlib.Core.Path.{_≡_}
 use mathlib.Core.Bool.{Bool, true, false, not, _&&_}
 use mathlib.Core.List.{List, [], _∷_, _++_}
-use lib.ListN.{getD}
+use lib.ListN.{getD, take}
 use Rattle.words.specs.Records.{rowsOf, flat}
 use Rattle.theory.specs.Rows.{Row}
 use Rattle.flow.specs.Match.{matchLength, matchOf, matchWords, isEmpty, rightMatch}
@@ -56,6 +57,10 @@ rowsIn ws = rowsOf rowLength rowOf ws
 -- the words of rows, one behind the other
 abbrev pub wordsOf : List (Row Match Action) → List ℕ
 wordsOf N = flat rowWords N
+
+-- the words of the first n rows
+abbrev pub tableRows : ℕ → List ℕ → List ℕ
+tableRows n t = take (n * rowLength) t
 
 -- the match is right
 unfoldable pub rightRowMatch : List ℕ → Bool

@@ -6,12 +6,15 @@ ghost use Rattle.tree.specs.Action.{treeActionOf};
 ghost use Rattle.compile.specs.Compile.{answerOf, tableAfter, scratchAfter, compileCount};
 ghost use Rattle.table.specs.Scan.{scanOf, scanAction, scanTried};
 ghost use Rattle.priority.specs.Numbering.{numberOf, answerCount, prioritiesAfter, chainAfter};
+ghost use Rattle.hidden.specs.Hidden.{keptOf, tableKept, keptCount};
 ghost use Rattle.speed.specs.Answers.{readNumber, treeNumber, treeAction, withAction};
 use action::Action;
 use action::kind;
 use action::rate;
 use compile::Compiled;
 use compile::compile;
+use hidden::Kept;
+use hidden::drop_hidden;
 use policy::Reading;
 use policy::read;
 use priority::Numbered;
@@ -73,6 +76,15 @@ pub extern "C" fn speed_number(table: &[u32], priorities: &mut [u32], chain: &mu
         × (now (chain .exit) ≡ chainAfter (now (table .entry)) (now (priorities .entry)) (now (chain .entry))) ⌝ }
 {
     priority_count(number(table, priorities, chain))
+}
+
+// The pass that takes hidden rows out; the answer is how many rows stay, 0 where it is refused.
+#[no_mangle]
+pub extern "C" fn speed_hidden(table: &mut [u32]) -> usize
+    ensures { λ r. ⌜ (r ≡ keptCount (keptOf (now (table .entry))))
+        × (now (table .exit) ≡ tableKept (now (table .entry))) ⌝ }
+{
+    kept_count(drop_hidden(table))
 }
 
 fn read_number(answer: Reading) -> u32
@@ -141,6 +153,18 @@ fn priority_count(answer: Numbered) -> u32
     match answer {
         Numbered::Priorities(count) => count,
         Numbered::Refused {
+            number: _,
+            place: _,
+        } => 0,
+    }
+}
+
+fn kept_count(answer: Kept) -> usize
+    ensures { λ r. ⌜ r ≡ keptCount answer ⌝ }
+{
+    match answer {
+        Kept::Rows(rows) => rows,
+        Kept::Refused {
             number: _,
             place: _,
         } => 0,

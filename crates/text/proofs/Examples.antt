@@ -1,10 +1,10 @@
 -- The examples, by computation.
 use mathlib.Core.Path.{refl}
-use Rattle.field.specs.Prefix.{inPrefix, rightPrefix, zeroBeyond, prefixesMeet}
-use Rattle.field.specs.Value.{meetsValue, valuesMeet, rightValue}
+use Rattle.field.specs.Prefix.{inPrefix, rightPrefix, zeroBeyond, prefixesMeet, covers}
+use Rattle.field.specs.Value.{meetsValue, valuesMeet, valueInside, rightValue}
 use Rattle.words.specs.Words.{laid}
 use Rattle.words.specs.Records.{rowsOf}
-use Rattle.flow.specs.Match.{isEmpty, isNone, isPlain, rightMatch, overlap, common, both}
+use Rattle.flow.specs.Match.{isEmpty, isNone, isPlain, rightMatch, overlap, common, both, inside}
 use Rattle.action.specs.Action.{actionOf, rightAction, inRange}
 use Rattle.action.specs.Operator.{coded, join, rightCell}
 use Rattle.action.specs.Laws.{commutes, associates, shown, pairs, triples, firstPair, firstTriple, lawSearch}
@@ -13,16 +13,17 @@ use Rattle.section.specs.Sections.{countFault, cellsFault, atomFault, nodeFault
 use Rattle.whole.specs.Whole.{shapeFault, sumFault, operatorFault, lawsFault}
 use Rattle.policy.specs.Read.{wholeStages, stages, answer, readAs}
 use Rattle.table.specs.Table.{rightLength, checkRows, checkOf}
+use Rattle.hidden.specs.Hidden.{keptWords, keptOf, tableKept}
 use Rattle.priority.specs.Numbering.{over, levelsOf, numberOf}
 use Rattle.compile.specs.Compile.{compiledRows, answerOf, tableAfter}
 use Rattle.line.specs.Text.{digits, decimal, number, value, address, matchText, actionText, line, head, refusal}
-use Rattle.text.specs.Listing.{rightInput, tableText, fileText, listingOf}
+use Rattle.text.specs.Listing.{rightInput, tableText, shownText, fileText, listingOf}
 use Rattle.text.specs.Theorems.{ExamplesListed}
 
 pub examples-listed : ExamplesListed
-unfolding inPrefix rightPrefix zeroBeyond prefixesMeet meetsValue valuesMeet rightValue laid rowsOf isEmpty isNone isPlain rightMatch overlap common both
+unfolding inPrefix rightPrefix zeroBeyond prefixesMeet covers meetsValue valuesMeet valueInside rightValue laid rowsOf isEmpty isNone isPlain rightMatch overlap common both inside
     actionOf rightAction inRange coded join rightCell commutes associates shown pairs triples firstPair firstTriple lawSearch rowAction rightRowMatch
     rightRowAction rightRow countFault cellsFault atomFault nodeFault sectionFault shapeFault sumFault operatorFault lawsFault wholeStages stages answer readAs
-    rightLength checkRows checkOf over levelsOf numberOf compiledRows answerOf tableAfter digits decimal number value address matchText actionText line head
-    refusal rightInput tableText fileText listingOf
+    rightLength checkRows checkOf keptWords keptOf tableKept over levelsOf numberOf compiledRows answerOf tableAfter digits decimal number value address matchText actionText line head
+    refusal rightInput tableText shownText fileText listingOf
 examples-listed = (refl, (refl, (refl, (refl, (refl, tt)))))

@@ -12,12 +12,18 @@ use Rattle.words.specs.Words.{laid, copied}
 use Rattle.words.specs.Bytes.{wordBytes, wordsIn}
 use Rattle.words.proofs.Laid.{copied-fits, length-copied, length-laid, take-laid}
 use Rattle.words.proofs.Bytes.{length-words}
-use Rattle.row.specs.Row.{rowLength, mostRows, rowsIn}
-use Rattle.table.specs.Table.{rowCount}
+use Rattle.row.specs.Row.{rowLength, mostRows, rowsIn, tableRows}
+use Rattle.table.specs.Table.{rowCount, checkOf}
+use Rattle.table.specs.declared.Checked.the-variants as checked
 use Rattle.table.proofs.Tables.{check-exactly}
+use Rattle.hidden.specs.Hidden.{keptOf, tableKept}
+use Rattle.hidden.specs.Theorems.{KeptTells}
+use Rattle.hidden.specs.declared.Kept.{Kept}
+use Rattle.hidden.specs.declared.Kept.the-variants as kept
+use Rattle.hidden.proofs.Laws.{kept-rows}
 use Rattle.section.specs.Numbers.{longestFile}
 use Rattle.refusal.specs.declared.Refusal.{Refusal}
-use Rattle.compile.specs.Compile.{answerOf, tableAfter, Compiles, tableRows}
+use Rattle.compile.specs.Compile.{answerOf, tableAfter, Compiles}
 use Rattle.compile.specs.declared.Compiled.{Compiled}
 use Rattle.compile.specs.declared.Compiled.the-variants.{Rows}
 use Rattle.compile.specs.declared.Compiled.the-variants as compiled
@@ -30,7 +36,8 @@ use Rattle.priority.proofs.Whole.{priorities-many}
 use Rattle.line.specs.Text.{head, refusal}
 use Rattle.line.specs.Puts.{Puts}
 use Rattle.line.proofs.Putting.{_then_}
-use Rattle.text.specs.Listing.{wrongInput, listingRoom, longestInput, rightInput, lines, blank, tableText, fileText, listingOf}
+use Rattle.text.specs.Listing.{wrongInput, listingRoom, longestInput, rightInput, lines, blank, tableText, shownText, fileText}
+use Rattle.text.specs.Listing.{listingOf}
 use Rattle.text.proofs.Right.{table-right}
 
 -- the words of an input, where it is right
@@ -60,19 +67,21 @@ pub input-refused : (b : List ℕ) {l m : List ℕ} {r : ℕ} → rightInput b �
 unfolding listingOf
 input-refused b e p = rw e p
 
+-- rows at the front of a table that are a right table fit into it
+rows-within : (n : ℕ) (t : List ℕ) → checkOf (tableRows n t) ≡ checked.Rows n → n * rowLength ≤ length t
+rows-within n t e =
+    let q : n ≡ rowCount (tableRows n t) = check-exactly (tableRows n t) n .0 e .1 in
+    by-le (n * rowLength) (length t) (λ h. h) (λ h.
+    let z : n ≡ rowCount t = q ∙ ap rowCount (take-all (n * rowLength) t (omega arith)) in
+    absurd (omega arith))
+
 -- the table of a file, where the compile answers rows
 module _ {f t s t′ s′ : List ℕ} {r : Compiled} (c : Compiles f t s t′ s′ r) where
   pub file-few : {n : ℕ} → r ≡ Rows n → n ≤ mostRows
   file-few {n} e = omega (arith, answers-rows f t s n (sym (c .answer) ∙ e) .fits)
 
   pub file-fits : {n : ℕ} → r ≡ Rows n → n * rowLength ≤ length t′
-  file-fits {n} e =
-      let q : n ≡ rowCount (take (n * rowLength) (tableAfter f t s)) = check-exactly (tableRows n (tableAfter f t s)) n .0
-      (table-right f t s n (sym (c .answer) ∙ e)) .1 in
-      let k : n ≡ rowCount (take (n * rowLength) t′) = q ∙ ap (λ x. rowCount (take (n * rowLength) x)) (sym (c .table)) in
-      by-le (n * rowLength) (length t′) (λ h. h) (λ h.
-      let z : n ≡ rowCount t′ = k ∙ ap rowCount (take-all (n * rowLength) t′ (omega arith)) in
-      absurd (omega arith))
+  file-fits {n} e = rows-within n t′ (ap (λ x. checkOf (tableRows n x)) (c .table) ∙ table-right f t s n (sym (c .answer) ∙ e))
 
   module _ (bt : t ≡ blank) (bs : s ≡ blank) where
     answer-blank : r ≡ answerOf f blank blank
@@ -81,15 +90,34 @@ module _ {f t s t′ s′ : List ℕ} {r : Compiled} (c : Compiles f t s t′ s�
     table-blank : t′ ≡ tableAfter f blank blank
     table-blank = c .table ∙ ap₂ (tableAfter f) bt bs
 
-    pub file-listed : {n : ℕ} {l m : List ℕ} {i : ℕ} → r ≡ Rows n → Puts (tableText (take (n * rowLength) t′)) l 0 m i → Puts (fileText f) l 0 m i
+    pub file-listed : {n : ℕ} {l m : List ℕ} {i : ℕ} → r ≡ Rows n → Puts (shownText (take (n * rowLength) t′)) l 0 m i → Puts (fileText f) l 0 m i
     unfolding fileText
     file-listed {n} {l} {m} {i} e p =
         let q : answerOf f blank blank ≡ Rows n = sym answer-blank ∙ e in
-        rw q (subst (λ x. Puts (tableText (take (n * rowLength) x)) l 0 m i) table-blank p)
+        rw q (subst (λ x. Puts (shownText (take (n * rowLength) x)) l 0 m i) table-blank p)
 
     pub file-refused : {x : Refusal} {l m : List ℕ} {i : ℕ} → r ≡ compiled.Refused x → Puts (refusal (x .number) (x .place)) l 0 m i → Puts (fileText f) l 0 m i
     unfolding fileText
     file-refused {x} e p = let q : answerOf f blank blank ≡ compiled.Refused x = sym answer-blank ∙ e in rw q p
+
+-- the rows that stay, where the pass answers them
+module _ (t : List ℕ) {t′ : List ℕ} {r : Kept} (e : r ≡ keptOf t) (w : t′ ≡ tableKept t) where
+  module _ {n : ℕ} (q : r ≡ kept.Rows n) where
+    pub kept-few : n ≤ mostRows
+    kept-few = let k : KeptTells t n = kept-rows t n (sym e ∙ q) in omega (arith, k .fewer, k .right .few)
+
+    pub kept-fits : n * rowLength ≤ length t′
+    kept-fits = rows-within n t′ (ap (λ x. checkOf (tableRows n x)) w ∙ kept-rows t n (sym e ∙ q) .check)
+
+    pub kept-listed : {l m : List ℕ} {i : ℕ} → Puts (tableText (take (n * rowLength) t′)) l 0 m i → Puts (shownText t) l 0 m i
+    unfolding shownText
+    kept-listed {l} {m} {i} p =
+        let z : keptOf t ≡ kept.Rows n = sym e ∙ q in
+        rw z (subst (λ x. Puts (tableText (take (n * rowLength) x)) l 0 m i) w p)
+
+  pub kept-refused : {n j : ℕ} {l m : List ℕ} {i : ℕ} → r ≡ kept.Refused n j → Puts (refusal n j) l 0 m i → Puts (shownText t) l 0 m i
+  unfolding shownText
+  kept-refused {n} {j} q p = let z : keptOf t ≡ kept.Refused n j = sym e ∙ q in rw z p
 
 -- the rows of a table, where the numbering answers a count
 module _ (t ps cs : List ℕ) {ps′ cs′ : List ℕ} {r : Numbered} (c : Answered t ps cs r ps′ cs′) where

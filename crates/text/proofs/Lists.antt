@@ -1,5 +1,5 @@
--- What is listed, by what the compile answers in blank buffers: its rows pass the table's check and fit the numbering's buffers, so the numbering refuses
--- nothing. So no listing is longer than its bound. Assumes nothing.
+-- What is listed, by what the compile answers in blank buffers: its rows pass the table's check, so do those of them that stay, and these fit the
+-- numbering's buffers, so neither the pass nor the numbering refuses anything. So no listing is longer than its bound. Assumes nothing.
 use Prim.Native.Nat.{ℕ, _*_, _≤_, _<_}
 use native.Mathlib.Omega.{arith}
 use mathlib.Core.Path.{_≡_, refl, sym, ap, ap₂, _∙_}
@@ -15,10 +15,14 @@ use Rattle.theory.specs.Number.{levelCount}
 use Rattle.theory.specs.Rows.{Row}
 use Rattle.flow.specs.declared.Match.{Match}
 use Rattle.action.specs.declared.Action.{Action}
-use Rattle.row.specs.Row.{rowLength, rowsIn}
-use Rattle.table.specs.Table.{rowCount}
+use Rattle.row.specs.Row.{rowLength, rowsIn, tableRows}
+use Rattle.table.specs.Table.{rowCount, RightTable}
 use Rattle.table.proofs.Tables.{check-exactly, length-rows}
-use Rattle.compile.specs.Compile.{answerOf, tableAfter, tableRows}
+use Rattle.hidden.specs.Hidden.{keptRows, keptOf, tableKept}
+use Rattle.hidden.specs.Theorems.{KeptTells}
+use Rattle.hidden.specs.declared.Kept.the-variants as kept
+use Rattle.hidden.proofs.Laws.{kept-rows, right-kept}
+use Rattle.compile.specs.Compile.{answerOf, tableAfter}
 use Rattle.compile.specs.declared.Compiled.{Compiled}
 use Rattle.compile.specs.declared.Compiled.the-variants.{Rows, Refused}
 use Rattle.compile.proofs.Answered.{answers-rows}
@@ -27,8 +31,8 @@ use Rattle.priority.specs.declared.Numbered.the-variants.{Priorities}
 use Rattle.priority.proofs.Whole.{priorities-many}
 use Rattle.line.specs.Text.{line, head, longestLine}
 use Rattle.line.specs.Puts.{stop, Puts}
-use Rattle.text.specs.Listing.{wrongInput, listingRoom, longestInput, rightInput, lines, blank, tableText, fileText, listingOf, ListsWhole}
-use Rattle.text.specs.Listing.{longestListing, rowsText}
+use Rattle.text.specs.Listing.{wrongInput, listingRoom, longestInput, rightInput, lines, blank, tableText, shownText, fileText}
+use Rattle.text.specs.Listing.{listingOf, ListsWhole, longestListing, rowsText, ListedRows}
 use Rattle.text.specs.Theorems.{ListsRows, ListsRefused, RefusedInput, NeverCut, WrittenWhole, KnownByFirst}
 use Rattle.line.proofs.Lengths.{line-within, head-within, refusal-within}
 use Rattle.text.proofs.Right.{table-right}
@@ -39,21 +43,46 @@ module _ (f : List ℕ) (n : ℕ) (e : answerOf f blank blank ≡ Rows n) where
   few = let k : length blank ≡ rowLength * listingRoom = length-replicate {A = ℕ} (rowLength * listingRoom) 0 in omega
       (arith, answers-rows f blank blank n e .fits)
 
-  many : n ≡ rowCount (tableRows n (tableAfter f blank blank))
-  many = check-exactly (tableRows n (tableAfter f blank blank)) n .0 (table-right f blank blank n e) .1
+  -- the compiled rows
+  abbrev compiled : List ℕ
+  compiled = tableRows n (tableAfter f blank blank)
 
-  numbers : numberOf (tableRows n (tableAfter f blank blank)) listingRoom listingRoom
-      ≡ Priorities (levelCount (levelsOf (tableRows n (tableAfter f blank blank))))
+  checked : RightTable compiled × (n ≡ rowCount compiled)
+  checked = check-exactly compiled n .0 (table-right f blank blank n e)
+
+  -- how many of them stay, and what stands of them
+  abbrev stay : ℕ
+  stay = length (keptRows compiled)
+
+  abbrev shown : List ℕ
+  shown = tableRows stay (tableKept compiled)
+
+  stays : keptOf compiled ≡ kept.Rows stay
+  stays = right-kept compiled (checked .0)
+
+  told : KeptTells compiled stay
+  told = kept-rows compiled stay stays
+
+  fewer : stay ≤ listingRoom
+  fewer = omega (arith, few, checked .1, told .fewer)
+
+  many : stay ≡ rowCount shown
+  many = check-exactly shown stay .0 (told .check) .1
+
+  numbers : numberOf shown listingRoom listingRoom ≡ Priorities (levelCount (levelsOf shown))
   unfolding numberOf
-  numbers = rw (table-right f blank blank n e, le-leb n listingRoom few)
+  numbers = rw (told .check, le-leb stay listingRoom fewer)
+
+  pub listed : ListedRows f stay shown
+  unfolding fileText shownText tableText
+  listed = record {
+    text = rw (e, stays, numbers) (ap (λ k. rowsText k shown) (sym many));
+    rows = length-rows shown ∙ sym many;
+    priorities = priorities-many shown ∙ sym many;
+  }
 
 pub lists-rows : ListsRows
-unfolding fileText tableText
-lists-rows f n e = record {
-  text = rw (e, numbers f n e) (ap (λ k. rowsText k (tableRows n (tableAfter f blank blank))) (sym (many f n e)));
-  rows = length-rows (tableRows n (tableAfter f blank blank)) ∙ sym (many f n e);
-  priorities = priorities-many (tableRows n (tableAfter f blank blank)) ∙ sym (many f n e);
-}
+lists-rows f n e = record { count = stay f n e; stay = stays f n e; listed = listed f n e }
 
 pub lists-refused : ListsRefused
 unfolding fileText
@@ -74,10 +103,11 @@ file-long f = by-answer (answerOf f blank blank) refl
   where
     by-answer : (x : Compiled) → answerOf f blank blank ≡ x → length (fileText f) ≤ longestListing
     by-answer (Rows n) e =
-        let t : List ℕ = tableRows n (tableAfter f blank blank) in
-        let h : length (head n (levelCount (levelsOf t))) ≤ longestLine = head-within n (levelCount (levelsOf t)) in
-        let k : length (lines (prioritiesOf t) (rowsIn t)) ≤ longestLine * length (rowsIn t) = lines-within (prioritiesOf t) (rowsIn t) in
-        rw (lists-rows f n e .text, length-append) (omega (arith, few f n e, lists-rows f n e .rows))
+        let t : List ℕ = shown f n e in
+        let k : ℕ = stay f n e in
+        let h : length (head k (levelCount (levelsOf t))) ≤ longestLine = head-within k (levelCount (levelsOf t)) in
+        let i : length (lines (prioritiesOf t) (rowsIn t)) ≤ longestLine * length (rowsIn t) = lines-within (prioritiesOf t) (rowsIn t) in
+        rw (listed f n e .text, length-append) (omega (arith, fewer f n e, listed f n e .rows))
     by-answer (Refused r) e = rw (lists-refused f r e) (omega (arith, refusal-within (r .number) (r .place)))
 
 pub never-cut : NeverCut

@@ -7,10 +7,10 @@ use lib.ListN.{length}
 use Rattle.theory.specs.Rows.{Row}
 use Rattle.flow.specs.declared.Match.{Match}
 use Rattle.action.specs.declared.Action.{Action}
-use Rattle.row.specs.Row.{mostRows}
+use Rattle.row.specs.Row.{mostRows, tableRows}
 use Rattle.table.specs.Table.{rowCount, RightTable}
 use Rattle.table.proofs.Tables.{check-exactly, table-words}
-use Rattle.compile.specs.Compile.{compiledRows, tableAfter, tableRows}
+use Rattle.compile.specs.Compile.{compiledRows, tableAfter}
 use Rattle.compile.specs.Theorems.{AnswerTells}
 use Rattle.compile.proofs.Answered.{answers-rows}
 use Rattle.compile.proofs.Settling.{words-count}

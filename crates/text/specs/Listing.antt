@@ -6,11 +6,13 @@
 --   rightInput b        whole words, and not more than the longest file has
 --   lines ps rs         rows, each with its priority
 --   tableText t         the listing of a table
+--   shownText t         the listing of compiled rows, without the hidden ones
 --   fileText f          the listing of a policy file
 --   listingOf b         the listing of an input
 --   longestListing      no listing has more bytes
 --   rowsText n t        the listing of a table t of n rows: the head, and a line for each row
 --   ListedRows f n t    the listing of the file f is that, and t has n rows and n priorities
+--   ListedKept f t      the listing of the file f has those of the rows t that are not hidden
 --   ListsWhole a n l m r   m is l with the listing at its start, up to r: whole, of every input that was read into a
 use Prim.Native.Nat.{ℕ, _+_, _*_, _%_, _≤_}
 use mathlib.Core.Path.{_≡_}
@@ -22,10 +24,13 @@ use Rattle.theory.specs.Rows.{Row}
 use Rattle.flow.specs.declared.Match.{Match}
 use Rattle.action.specs.declared.Action.{Action}
 use Rattle.words.specs.Bytes.{wordBytes, wordsIn}
-use Rattle.row.specs.Row.{rowLength, rowsIn}
+use Rattle.row.specs.Row.{rowLength, rowsIn, tableRows}
 use Rattle.table.specs.Table.{rowCount}
+use Rattle.hidden.specs.Hidden.{keptOf, tableKept}
+use Rattle.hidden.specs.declared.Kept.{Kept}
+use Rattle.hidden.specs.declared.Kept.the-variants as kept
 use Rattle.section.specs.Numbers.{longestFile}
-use Rattle.compile.specs.Compile.{answerOf, tableAfter, tableRows}
+use Rattle.compile.specs.Compile.{answerOf, tableAfter}
 use Rattle.compile.specs.declared.Compiled.{Compiled}
 use Rattle.compile.specs.declared.Compiled.the-variants as compiled
 use Rattle.theory.specs.Number.{levelCount}
@@ -70,9 +75,18 @@ numberedText t (numbered.Refused n i) = refusal n i
 unfoldable pub tableText : List ℕ → List ℕ
 tableText t = numberedText t (numberOf t listingRoom listingRoom)
 
+-- what is shown of compiled rows, by what the pass that takes hidden rows out answers and the table that it leaves
+abbrev pub keptText : List ℕ → Kept → List ℕ
+keptText t (kept.Rows n) = tableText (tableRows n t)
+keptText t (kept.Refused n i) = refusal n i
+
+-- the listing of compiled rows
+unfoldable pub shownText : List ℕ → List ℕ
+shownText t = keptText (tableKept t) (keptOf t)
+
 -- what is shown of a file, by what the compile answers and the table that it leaves
 abbrev pub compiledText : List ℕ → Compiled → List ℕ
-compiledText t (compiled.Rows n) = tableText (tableRows n t)
+compiledText t (compiled.Rows n) = shownText (tableRows n t)
 compiledText t (compiled.Refused r) = refusal (r .number) (r .place)
 
 -- the listing of a policy file
@@ -103,3 +117,9 @@ pub record ListedRows (f : List ℕ) (n : ℕ) (t : List ℕ) : Type 0 where
   pub text : fileText f ≡ rowsText n t
   pub rows : length (rowsIn t) ≡ n
   pub priorities : length (prioritiesOf t) ≡ n
+
+-- of the compiled rows t, those that stay when the hidden ones are out
+pub record ListedKept (f t : List ℕ) : Type 0 where
+  pub count : ℕ
+  pub stay : keptOf t ≡ kept.Rows count
+  pub listed : ListedRows f count (tableRows count (tableKept t))

@@ -1,7 +1,8 @@
 -- What is proved of the listing. A law of the same name in proofs/ proves each statement: never-cut proves NeverCut.
 --
 --   TableRight                    the rows that the compile leaves pass the table's check, with as many rows
---   ListsRows                     where the compile answers rows, they are listed: the numbering refuses nothing
+--   ListsRows                     where the compile answers rows, those that are not hidden are listed: neither the pass
+--                                 nor the numbering refuses anything
 --   ListsRefused                  where the compile refuses, its number and place are listed
 --   RefusedInput                  an input that is no file is 18 at place 0
 --   NeverCut                      no listing is longer than longestListing
@@ -21,12 +22,13 @@ use Rattle.table.specs.declared.Checked.the-variants as checked
 use Rattle.action.specs.Operator.{sibling}
 use Rattle.policy.specs.Examples.{tenant, tenantWith, lone}
 use Rattle.refusal.specs.declared.Refusal.{Refusal}
-use Rattle.compile.specs.Compile.{answerOf, tableAfter, tableRows}
+use Rattle.row.specs.Row.{tableRows}
+use Rattle.compile.specs.Compile.{answerOf, tableAfter}
 use Rattle.compile.specs.declared.Compiled.the-variants.{Rows, Refused}
 use Rattle.line.specs.Text.{ascii, refusal}
 use Rattle.line.specs.Puts.{Puts}
 use Rattle.text.specs.Listing.{wrongInput, longestInput, rightInput, blank, fileText}
-use Rattle.text.specs.Listing.{listingOf, longestListing, ListedRows}
+use Rattle.text.specs.Listing.{listingOf, longestListing, ListedKept}
 use Rattle.logic.specs.Lists.{All}
 
 -- the rows that the compile leaves pass the table's check, with as many rows
@@ -34,10 +36,10 @@ abbrev pub TableRight : Type 0
 TableRight =
     (f t s : List ℕ) (n : ℕ) → answerOf f t s ≡ Rows n → checkOf (tableRows n (tableAfter f t s)) ≡ checked.Rows n
 
--- THE LISTING HAS A LINE FOR EACH COMPILED ROW
+-- THE LISTING HAS A LINE FOR EACH COMPILED ROW THAT IS NOT HIDDEN
 abbrev pub ListsRows : Type 0
 ListsRows =
-    (f : List ℕ) (n : ℕ) → answerOf f blank blank ≡ Rows n → ListedRows f n (tableRows n (tableAfter f blank blank))
+    (f : List ℕ) (n : ℕ) → answerOf f blank blank ≡ Rows n → ListedKept f (tableRows n (tableAfter f blank blank))
 
 -- or it is the compile's refusal
 abbrev pub ListsRefused : Type 0
@@ -73,10 +75,9 @@ examples =
     record {
       input = flat bytesOf tenant;
       listed =
-          "rows 3 priorities 3\n"
-          ∷ "3 * 0.0.0.0/0 10.7.3.9/32 * * * gmb 40000\n"
-          ∷ "2 * 0.0.0.0/0 10.7.0.0/16 * * * deny\n"
-          ∷ "1 * 0.0.0.0/0 10.7.3.9/32 * * * gmb 40000\n"
+          "rows 2 priorities 2\n"
+          ∷ "2 * 0.0.0.0/0 10.7.3.9/32 * * * gmb 40000\n"
+          ∷ "1 * 0.0.0.0/0 10.7.0.0/16 * * * deny\n"
           ∷ [];
     }
     ∷ record { input = flat bytesOf (tenantWith 1); listed = "refused 10 1\n" ∷ [] }

@@ -4,10 +4,13 @@ ghost use Prim.Native.Nat.{_≤_};
 ghost use lib.ListN.{length, take};
 ghost use Rattle.table.specs.Table.{rowCount};
 ghost use Rattle.line.specs.Puts.{Puts};
-ghost use Rattle.text.specs.Listing.{rightInput, lines, tableText, fileText, listingOf, ListsWhole};
+ghost use Rattle.text.specs.Listing.{rightInput, lines, tableText, shownText, fileText, listingOf};
+ghost use Rattle.text.specs.Listing.{ListsWhole};
 ghost use Rattle.row.specs.Row.{rowsIn};
 use compile::Compiled;
 use compile::compile;
+use hidden::Kept;
+use hidden::drop_hidden;
 use line::put_head;
 use line::put_line;
 use line::put_refusal;
@@ -80,8 +83,18 @@ fn list_file(file: &[u32], out: &mut [u8]) -> usize
     let mut scratch = [0u32; ROW_WORDS * ROOM];
     let compiled = compile(file, &mut table, &mut scratch);
     match compiled {
-        Compiled::Rows(rows) => list_table(&table[..rows * ROW_WORDS], out),
+        Compiled::Rows(rows) => list_rows(&mut table[..rows * ROW_WORDS], out),
         Compiled::Refused(refusal) => put_refusal(out, refusal.number, refusal.place),
+    }
+}
+
+// The listing of compiled rows: the hidden ones are taken out first.
+fn list_rows(table: &mut [u32], out: &mut [u8]) -> usize
+    ensures { λ r. ⌜ Puts (shownText (now (table .entry))) (now (out .entry)) 0 (now (out .exit)) r ⌝ }
+{
+    match drop_hidden(table) {
+        Kept::Rows(kept) => list_table(&table[..kept * ROW_WORDS], out),
+        Kept::Refused { number, place } => put_refusal(out, number, place),
     }
 }
 

@@ -14,6 +14,10 @@ laid a F l = sets l a F
 unfoldable pub copied : ℕ → List ℕ → List ℕ → List ℕ
 copied a F l = cond (leb (a + length F) (length l)) (laid a F l) l
 
+-- so many zeros
+abbrev pub zeros : ℕ → List ℕ
+zeros n = replicate n 0
+
 -- the words from the place a on are 0, those before it stay
 unfoldable pub cleared : ℕ → List ℕ → List ℕ
-cleared a l = take a l ++ replicate (length l - a) 0
+cleared a l = take a l ++ zeros (length l - a)

@@ -13,31 +13,31 @@ mul-table c =
     let compile = c .before .before .before .before .before .compile in
     omega (arith, file-few (compile .ensures) (c .before .compiled .given .1))
 
-array-share-prefix-table : tie.Need-array-share-prefix-table
-array-share-prefix-table c =
+array-borrow-prefix-table : tie.Need-array-borrow-prefix-table
+array-borrow-prefix-table c =
     let compile = c .before .before .before .before .before .compile in
     file-fits (compile .ensures) (c .before .compiled .given .1)
 
-slice-aggregate-list-table : tie.Need-slice-aggregate-list-table
-slice-aggregate-list-table c =
+slice-aggregate-list-rows : tie.Need-slice-aggregate-list-rows
+slice-aggregate-list-rows c =
     let compile = c .before .before .before .before .before .before .compile in
     sym (length-take-le _ _ (file-fits (compile .ensures) (c .before .before .compiled .given .1)))
 
 returns : tie.Need-returns
 returns c =
-    let compile = c .before .before .before .before .before .before .before .before .before .before .compile in
-    let compiled = c .before .before .before .before .before .before .compiled in
-    file-listed (compile .ensures) refl refl (compiled .given .1) (c .before .before .list-table .ensures)
+    let answered = c .before .before .before .before .before .before .before in
+    let compile = answered .before .before .before .before .compile in
+    file-listed (compile .ensures) refl refl (answered .compiled .given .1) (c .before .before .before .list-rows .ensures)
 
 returns-2 : tie.Need-returns-2
 returns-2 c =
-    let compile = c .before .before .before .before .before .before .before .before .before .compile in
-    let compiled2 = c .before .before .before .before .before .compiled2 in
-    file-refused (compile .ensures) refl refl (compiled2 .given .1) (c .before .before .put-refusal .ensures)
+    let answered = c .before .before .before .before .before in
+    let compile = answered .before .before .before .before .compile in
+    file-refused (compile .ensures) refl refl (answered .compiled2 .given .1) (c .before .before .put-refusal .ensures)
 
 pub list-file-spec : {M : Type 1} → statement M
 list-file-spec =
     tie.close
-    (tie.spec (search needs) (search needs) (search needs) (search needs) mul-table array-share-prefix-table
-    slice-aggregate-list-table (search needs) (search needs) (search needs) (search needs) returns (search needs)
+    (tie.spec (search needs) (search needs) (search needs) (search needs) mul-table array-borrow-prefix-table
+    slice-aggregate-list-rows (search needs) (search needs) (search needs) (search needs) returns (search needs)
     returns-2)
