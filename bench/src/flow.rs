@@ -68,6 +68,16 @@ pub fn overlap(a: &Row, b: &Row) -> bool {
         && VALUES.iter().all(|&(at, flag, _)| both & flag == 0 || a[at] == b[at])
 }
 
+/// Whether a's match lies wholly inside b's; neither is empty.
+pub fn inside(a: &Row, b: &Row) -> bool {
+    prefix_inside(a, b, DESTINATION, DESTINATION_LENGTH)
+        && prefix_inside(a, b, SOURCE, SOURCE_LENGTH)
+        && b[FLAGS] & !a[FLAGS] == 0
+        && VALUES
+            .iter()
+            .all(|&(at, flag, _)| b[FLAGS] & flag == 0 || a[at] == b[at])
+}
+
 /// The common match of two rows that overlap, with no action.
 pub fn common(a: &Row, b: &Row) -> Row {
     let mut m = [0; ROW_WORDS];
@@ -106,6 +116,10 @@ fn in_prefix(p: u32, length: u32, x: u32) -> bool {
 
 fn prefixes_meet(a: &Row, b: &Row, at: usize, length: usize) -> bool {
     in_prefix(a[at], a[length].min(b[length]), b[at])
+}
+
+fn prefix_inside(a: &Row, b: &Row, at: usize, length: usize) -> bool {
+    b[length] <= a[length] && in_prefix(b[at], b[length], a[at])
 }
 
 fn right_prefix(p: u32, length: u32) -> bool {

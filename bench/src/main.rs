@@ -3,6 +3,7 @@
 mod action;
 mod compile;
 mod flow;
+mod hidden;
 mod inputs;
 mod number;
 mod numbers;
@@ -86,6 +87,7 @@ fn tables() {
             let size = format!("{rows} {kind}");
             scan(&size, table);
             number(&size, table);
+            hidden(&size, table);
         }
     }
 }
@@ -220,18 +222,41 @@ fn number(size: &str, table: &[u32]) {
     }
 }
 
-/// Runs the two in turn, each time so many calls, with the buffers cleared before and outside the timing, and prints the medians for one call.
+fn hidden(size: &str, table: &[u32]) {
+    for (name, by_rust) in [
+        ("hidden", hidden::all_pairs as fn(&mut [u32]) -> _),
+        ("hidden pruned", hidden::pruned),
+    ] {
+        let (mut ours, mut theirs) = (table.to_vec(), table.to_vec());
+        assert_eq!(Ok(rattle::hidden(&mut ours)), by_rust(&mut theirs));
+        assert!(ours == theirs);
+        let copy = std::cell::RefCell::new(ours);
+        line(
+            &format!("{name} {size}"),
+            1,
+            || copy.borrow_mut().copy_from_slice(table),
+            || {
+                black_box(rattle::hidden(black_box(&mut copy.borrow_mut())));
+            },
+            || {
+                let _ = black_box(by_rust(black_box(&mut copy.borrow_mut())));
+            },
+        );
+    }
+}
+
+/// Runs the two in turn, each time so many calls, with the buffers made ready before and outside the timing, and prints the medians for one call.
 /// Words given to the program must stand in the line's name; none has the word that asks for no timing.
-fn line(name: &str, calls: u32, clear: impl Fn(), mut rattle: impl FnMut(), mut rust: impl FnMut()) {
+fn line(name: &str, calls: u32, ready: impl Fn(), mut rattle: impl FnMut(), mut rust: impl FnMut()) {
     if std::env::args().skip(1).any(|word| !name.contains(&word)) {
         return;
     }
     let mut times = (vec![], vec![]);
     let started = Instant::now();
     while times.0.len() < FEWEST || (times.0.len() < MOST && started.elapsed() < BUDGET) {
-        clear();
+        ready();
         times.0.push(timed(calls, &mut rattle));
-        clear();
+        ready();
         times.1.push(timed(calls, &mut rust));
     }
     let (a, b) = (median(times.0) / calls as f64, median(times.1) / calls as f64);

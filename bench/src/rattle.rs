@@ -36,6 +36,7 @@ mod raw {
             chain: *mut u32,
             long: usize,
         ) -> u32;
+        pub fn speed_hidden(table: *mut u32, words: usize) -> usize;
     }
 }
 
@@ -95,4 +96,8 @@ pub fn number(table: &[u32], priorities: &mut [u32], chain: &mut [u32]) -> u32 {
             chain.len(),
         )
     }
+}
+
+pub fn hidden(table: &mut [u32]) -> usize {
+    unsafe { raw::speed_hidden(table.as_mut_ptr(), table.len()) }
 }

@@ -24,6 +24,8 @@ pub const READ_COUNTS: usize = 3;
 pub const ATOMS_AT: usize = REFUSAL_WORDS + 1;
 /// Where the rows tried stand, behind the action of a scan.
 pub const TRIED_AT: usize = PLACED_WORDS + ACTION_WORDS;
+/// Where the rows stand that are not hidden, behind their count.
+pub const ROWS_AT: usize = PLACED_WORDS + 1;
 
 #[derive(Clone, PartialEq, Eq, Debug)]
 pub enum Call {
@@ -51,11 +53,16 @@ pub enum Call {
     Listing {
         bytes: Vec<u8>,
     },
+    Hidden {
+        table: Vec<u32>,
+    },
 }
 
 /// Names of the functions, by call code less 1.
-pub const NAMES: [&str; FUNCTIONS] = ["read", "action", "compile", "scan", "number", "listing"];
-pub const FUNCTIONS: usize = 6;
+pub const NAMES: [&str; FUNCTIONS] = [
+    "read", "action", "compile", "scan", "number", "listing", "hidden",
+];
+pub const FUNCTIONS: usize = 7;
 
 impl Call {
     pub fn code(&self) -> u32 {
@@ -66,6 +73,7 @@ impl Call {
             Call::Scan { .. } => 4,
             Call::Number { .. } => 5,
             Call::Listing { .. } => 6,
+            Call::Hidden { .. } => 7,
         }
     }
 
@@ -93,6 +101,7 @@ impl Call {
                 words.extend(words_of_bytes(bytes));
                 &[]
             }
+            Call::Hidden { table } => &[table],
         };
         for slice in slices {
             words.push(slice.len() as u32);
@@ -128,6 +137,9 @@ impl Call {
             6 => Call::Listing {
                 bytes: take_bytes(words)?,
             },
+            7 => Call::Hidden {
+                table: take_slice(words)?,
+            },
             _ => return None,
         })
     }
@@ -143,6 +155,7 @@ impl Call {
                 priorities, chain, ..
             } => PLACED_WORDS + 1 + priorities.len() + chain.len(),
             Call::Listing { .. } => 1 + (*words.first()? as usize).div_ceil(WORD_BYTES),
+            Call::Hidden { table } => ROWS_AT + table.len(),
         };
         take(words, length).map(<[u32]>::to_vec)
     }

@@ -15,6 +15,9 @@ use crate::world::World;
 /// The longest file that is sent; there is a little room behind a right one.
 const MOST_FILE_WORDS: usize = MOST_INPUT_BYTES / WORD_BYTES;
 
+/// Kinds of cases at large sizes.
+pub const BIG_KINDS: usize = 15;
+
 pub struct Maker<'a> {
     pub random: Random,
     pub stock: &'a Stock,
@@ -25,20 +28,24 @@ impl Maker<'_> {
         let world = World::tiny(&mut self.random);
         let size = Size::small(&mut self.random);
         match self.random.below(100) {
-            0..=29 => Call::Read {
+            0..=25 => Call::Read {
                 file: self.file(&world, size, 60),
             },
-            30..=44 => self.action(&world, size),
-            45..=62 => self.compile(&world, size),
-            63..=74 => {
+            26..=39 => self.action(&world, size),
+            40..=56 => self.compile(&world, size),
+            57..=67 => {
                 let rows = self.random.within(0, 12);
                 self.scan(&world, rows)
             }
-            75..=87 => {
+            68..=79 => {
                 let rows = self.random.within(0, 24);
                 self.number(&world, rows)
             }
-            _ => self.listing(&world, size),
+            80..=90 => self.listing(&world, size),
+            _ => {
+                let rows = self.random.within(0, 24);
+                self.hidden(&world, rows)
+            }
         }
     }
 
@@ -48,7 +55,7 @@ impl Maker<'_> {
         let tiny = World::tiny(&mut self.random);
         let big = Size::big(&mut self.random);
         let middling = Size::middling(&mut self.random);
-        match kind % 13 {
+        match kind % BIG_KINDS {
             0 => self.limit_read(&wide),
             1 => self.action(&wide, big),
             2 => self.action(&tiny, big),
@@ -69,9 +76,18 @@ impl Maker<'_> {
                 let rows = self.random.pick(&[300, MOST_ROWS]);
                 self.number(&tiny, rows)
             }
-            9 => self.listing(&wide, big),
-            10 => self.listing(&tiny, middling),
-            11 => self.listing_to_the_edge(),
+            9 => {
+                let near = [300, 1_000, MOST_ROWS - 1, MOST_ROWS, MOST_ROWS + 1];
+                let rows = self.random.pick(&near);
+                self.hidden(&wide, rows)
+            }
+            10 => {
+                let rows = self.random.pick(&[300, MOST_ROWS, MOST_ROWS + 1]);
+                self.hidden(&tiny, rows)
+            }
+            11 => self.listing(&wide, big),
+            12 => self.listing(&tiny, middling),
+            13 => self.listing_to_the_edge(),
             _ => self.long_listing(&wide),
         }
     }

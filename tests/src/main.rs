@@ -8,6 +8,7 @@ mod known;
 mod laws;
 mod model;
 mod numberings;
+mod passes;
 mod policies;
 mod program;
 mod properties;
@@ -121,7 +122,7 @@ fn test(program: &Program, options: &Options) -> bool {
     }
     let seldom = tally.too_seldom();
     if !seldom.is_empty() {
-        println!("FAILED: refusals {seldom:?} were met too seldom");
+        println!("FAILED: refusals met too seldom: {}", seldom.join(", "));
         return false;
     }
     println!("all answers as expected");

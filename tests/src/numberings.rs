@@ -2,7 +2,7 @@
 //! apart by. Nothing here asks the model what a row meets.
 
 use crate::model::action::ACTION_WORDS;
-use crate::model::fields::{Kind, Packet, KINDS};
+use crate::model::fields::{Fields, Kind, Packet, KINDS};
 use crate::model::matches::WORD_BITS;
 use crate::model::priorities::overlap;
 use crate::model::record::RawRow;
@@ -117,20 +117,28 @@ pub fn action_words(row: &RawRow) -> [u32; ACTION_WORDS] {
 
 /// Whether a packet meets a row, straight from what is written and bit by bit.
 pub fn meets(row: &RawRow, packet: &Packet) -> bool {
-    let values = KINDS.pairs(&row.values).zip(packet.list());
-    let numbers = values.into_iter().all(|((kind, given), value)| match kind {
-        Kind::Number { flag, .. } => row.flags & flag == 0 || given == value,
-        Kind::Address => true,
-    });
+    let mut values = packet.list().into_iter().enumerate();
+    values.all(|(place, value)| suits(row, place, *value))
+}
+
+/// Whether one value of a packet is as a row wants it.
+pub fn suits(row: &RawRow, place: usize, value: u32) -> bool {
+    let given = *row.values.list()[place];
     let bit = |word: u32, place: u32| word >> (WORD_BITS - 1 - place) & 1;
-    let prefix = |given: u32, value: u32, length: u32| {
-        (0..length).all(|place| bit(given, place) == bit(value, place))
-    };
-    numbers
-        && prefix(row.values.source, packet.source, row.source_length)
-        && prefix(
-            row.values.destination,
-            packet.destination,
-            row.destination_length,
-        )
+    match *KINDS.list()[place] {
+        Kind::Number { flag, .. } => row.flags & flag == 0 || given == value,
+        Kind::Address => {
+            let length = *lengths(row).list()[place];
+            (0..length).all(|place| bit(given, place) == bit(value, place))
+        }
+    }
+}
+
+/// The prefix lengths of a row, at the places of their addresses.
+pub fn lengths(row: &RawRow) -> Fields<u32> {
+    Fields {
+        source: row.source_length,
+        destination: row.destination_length,
+        ..Fields::default()
+    }
 }

@@ -1,13 +1,14 @@
 //! Properties, each by means of its own: nothing here asks the model what a row
-//! meets, which rows overlap or how long a chain is.
+//! meets, which rows overlap or hide others, or how long a chain is.
 
-use crate::calls::{Call, PLACED_WORDS, REFUSAL_WORDS, TRIED_AT};
+use crate::calls::{Call, PLACED_WORDS, REFUSAL_WORDS, ROWS_AT, TRIED_AT};
 use crate::cases::Maker;
 use crate::model::action::DONT_CARE;
 use crate::model::edition::{DEEPEST, MOST_OPERATORS, NEWEST, ROW_WORDS};
 use crate::model::fields::Packet;
 use crate::model::record::RawRow;
 use crate::numberings::{action_words, meets, numbering_fault};
+use crate::passes::pass_fault;
 use crate::policies::Size;
 use crate::program::{Difference, Program};
 use crate::random::Random;
@@ -34,7 +35,8 @@ pub fn check(
     let mut subjects = compiled(program, maker, policies, tally)?;
     subjects.extend(drawn(maker, policies));
     scans_agree(program, &mut maker.random, &subjects, tally)?;
-    numberings_hold(program, &subjects, tally)
+    numberings_hold(program, &subjects, tally)?;
+    passes_hold(program, &subjects, tally)
 }
 
 fn ask(program: &Program, calls: &[Call], tally: &mut Tally) -> Result<Vec<Vec<u32>>, Difference> {
@@ -88,17 +90,24 @@ fn compiled(
 /// The rows in the answer of a compile.
 fn compiled_rows(answer: &[u32]) -> Vec<RawRow> {
     let count = answer[REFUSAL_WORDS] as usize;
-    let table = answer[REFUSAL_WORDS + 1..].chunks(ROW_WORDS).take(count);
-    table.map(|row| RawRow::from_words(row, NEWEST)).collect()
+    first_rows(&answer[REFUSAL_WORDS + 1..], count)
 }
 
-/// Tables of drawn rows.
+fn first_rows(table: &[u32], count: usize) -> Vec<RawRow> {
+    let rows = table.chunks(ROW_WORDS).take(count);
+    rows.map(|row| RawRow::from_words(row, NEWEST)).collect()
+}
+
+/// Tables of drawn rows, every second time such that many lie inside earlier ones.
 fn drawn(maker: &mut Maker, tables: usize) -> Vec<Subject> {
     let mut subjects = Vec::new();
-    for _ in 0..tables {
+    for table in 0..tables {
         let world = World::tiny(&mut maker.random);
         let count = maker.random.within(0, 30);
-        let rows = world.rows(&mut maker.random, count);
+        let rows = match table % 2 {
+            0 => world.rows(&mut maker.random, count),
+            _ => maker.nested_rows(&world, count),
+        };
         subjects.push(Subject {
             world,
             file: None,
@@ -192,6 +201,41 @@ fn numberings_hold(
         );
         if let Some(what) = fault {
             return Err(broken(call, what));
+        }
+        tally.properties += 1;
+    }
+    Ok(())
+}
+
+/// Hidden rows out of all the tables, and once more out of the rows that stay.
+fn passes_hold(
+    program: &Program,
+    subjects: &[Subject],
+    tally: &mut Tally,
+) -> Result<(), Difference> {
+    let table = |subject: &Subject| table_words(&subject.rows);
+    let out_of = |table| Call::Hidden { table };
+    let calls: Vec<Call> = subjects.iter().map(table).map(out_of).collect();
+    let answers = ask(program, &calls, tally)?;
+    let mut left = Vec::new();
+    for ((subject, answer), call) in subjects.iter().zip(answers).zip(calls) {
+        let count = answer[PLACED_WORDS] as usize;
+        let (stay, freed) = answer[ROWS_AT..].split_at(ROW_WORDS * count);
+        if freed.iter().any(|word| *word != 0) {
+            return Err(broken(call, "a freed word is not 0"));
+        }
+        if let Some(what) = pass_fault(&subject.rows, &first_rows(stay, count)) {
+            return Err(broken(call, what));
+        }
+        left.push(stay.to_vec());
+        tally.properties += 1;
+    }
+    let calls: Vec<Call> = left.iter().cloned().map(out_of).collect();
+    let answers = ask(program, &calls, tally)?;
+    for ((table, answer), call) in left.iter().zip(answers).zip(calls) {
+        let count = answer[PLACED_WORDS] as usize;
+        if ROW_WORDS * count != table.len() || answer[ROWS_AT..] != table[..] {
+            return Err(broken(call, "a second pass takes rows out"));
         }
         tally.properties += 1;
     }

@@ -1,4 +1,5 @@
-//! Cases about tables: scans and numberings of right and damaged ones.
+//! Cases about tables: scans and numberings of right and damaged ones, and hidden
+//! rows out of them.
 
 use crate::calls::Call;
 use crate::cases::Maker;
@@ -15,7 +16,23 @@ pub fn table_words(rows: &[RawRow]) -> Vec<u32> {
 impl Maker<'_> {
     /// Words of a table with this many rows, right three times in four.
     fn table(&mut self, world: &World, rows: usize) -> Vec<u32> {
-        let mut rows = world.rows(&mut self.random, rows);
+        let rows = world.rows(&mut self.random, rows);
+        self.lent(rows)
+    }
+
+    /// Rows of which many lie inside earlier ones; sometimes the last are zeros.
+    pub fn nested_rows(&mut self, world: &World, rows: usize) -> Vec<RawRow> {
+        let zeros = match self.random.below(6) {
+            0 => rows.min(self.random.within(1, 3)),
+            _ => 0,
+        };
+        let mut nested = world.nested_rows(&mut self.random, rows - zeros);
+        nested.resize(rows, RawRow::default());
+        nested
+    }
+
+    /// The words of these rows, damaged once in four times.
+    fn lent(&mut self, mut rows: Vec<RawRow>) -> Vec<u32> {
         if self.random.percent(18) {
             self.spoil_rows(&mut rows);
         }
@@ -60,6 +77,13 @@ impl Maker<'_> {
             table,
             priorities,
             chain,
+        }
+    }
+
+    pub fn hidden(&mut self, world: &World, rows: usize) -> Call {
+        let rows = self.nested_rows(world, rows);
+        Call::Hidden {
+            table: self.lent(rows),
         }
     }
 

@@ -7,10 +7,13 @@ use crate::calls::{
 };
 use crate::model::action::DONT_CARE;
 use crate::model::edition::ROW_WORDS;
-use crate::model::numbers::{BROKEN_LAW, LAST, RATE_OUTSIDE};
+use crate::model::numbers::{BROKEN_LAW, LAST, NOT_A_TABLE, RATE_OUTSIDE, WRONG_ROW};
 
-/// Every refusal that can be reached must be met this often.
+/// Every refusal that can be reached must be met this often; the two of a table
+/// by each function that reads one.
 const LEAST: usize = 100;
+const OF_TABLES: [usize; 2] = [NOT_A_TABLE as usize, WRONG_ROW as usize];
+const READ_TABLES: [&str; 3] = ["scan", "number", "hidden"];
 const NUMBERS: usize = LAST as usize;
 const UNREACHABLE: usize = RATE_OUTSIDE as usize;
 /// No law, commutativity and associativity.
@@ -28,6 +31,9 @@ pub struct Tally {
     /// Refusals 10 by law.
     laws: [usize; LAWS],
     most_priorities: u32,
+    /// Rows that stayed without the hidden ones, and hidden ones that went.
+    stayed: usize,
+    went: usize,
     pub properties: usize,
 }
 
@@ -49,8 +55,15 @@ impl Tally {
             let size = size(call, answer);
             self.sized[function] += usize::from(size > 0);
             self.largest[function] = self.largest[function].max(size);
-            if let Call::Number { .. } = call {
-                self.most_priorities = self.most_priorities.max(answer[PLACED_WORDS]);
+            match call {
+                Call::Number { .. } => {
+                    self.most_priorities = self.most_priorities.max(answer[PLACED_WORDS]);
+                }
+                Call::Hidden { table } => {
+                    self.stayed += size;
+                    self.went += table.len() / ROW_WORDS - size;
+                }
+                _ => {}
             }
         }
     }
@@ -70,6 +83,8 @@ impl Tally {
             *law += more;
         }
         self.most_priorities = self.most_priorities.max(other.most_priorities);
+        self.stayed += other.stayed;
+        self.went += other.went;
         self.properties += other.properties;
     }
 
@@ -82,10 +97,18 @@ impl Tally {
     }
 
     /// Refusals that were met too seldom to say that they were tested.
-    pub fn too_seldom(&self) -> Vec<usize> {
-        (1..=NUMBERS)
-            .filter(|number| *number != UNREACHABLE && self.met(*number) < LEAST)
-            .collect()
+    pub fn too_seldom(&self) -> Vec<String> {
+        let all = (1..=NUMBERS).filter(|number| *number != UNREACHABLE);
+        let seldom = all.filter(|number| self.met(*number) < LEAST);
+        let mut seldom: Vec<String> = seldom.map(|number| number.to_string()).collect();
+        for (name, numbers) in NAMES.iter().zip(&self.numbers) {
+            for number in OF_TABLES {
+                if READ_TABLES.contains(name) && numbers[number] < LEAST {
+                    seldom.push(format!("{number} of {name}"));
+                }
+            }
+        }
+        seldom
     }
 
     pub fn report(&self) -> String {
@@ -101,17 +124,24 @@ impl Tally {
                 self.largest[function]
             );
         }
-        text += "(size: rows made, tried, numbered or listed; atoms read; an action that cares)\n";
-        text += "refusal    times  different places\n";
+        text += "(size: rows made, tried, numbered, listed or kept; atoms read; an action that cares)\n";
+        text += "refusal    times  different places";
+        text += &NAMES.map(|name| format!(" {name:>8}")).concat();
+        text += "\n";
         for number in 1..=NUMBERS {
             let places = self.places[number].len();
-            text += &format!("{number:>7} {:>8} {places:>8}\n", self.met(number));
+            text += &format!("{number:>7} {:>8} {places:>17}", self.met(number));
+            for numbers in &self.numbers {
+                text += &format!(" {:>8}", numbers[number]);
+            }
+            text += "\n";
         }
         text += &format!(
             "refusal 10: {} for commutativity, {} for associativity\n",
             self.laws[1], self.laws[2]
         );
         text += &format!("most priorities in a numbering: {}\n", self.most_priorities);
+        text += &format!("hidden rows: {} went, {} stayed\n", self.went, self.stayed);
         text += &format!("{} properties checked\n", self.properties);
         text
     }
@@ -131,7 +161,7 @@ fn number_and_place(call: &Call, answer: &[u32]) -> (u32, u32) {
     (number(), number())
 }
 
-/// The size of a success: rows made, tried, numbered or listed, atoms read. For
+/// The size of a success: rows made, tried, numbered, listed or kept, atoms read. For
 /// the tree's action 1 or 0, whether it is anything but don't care.
 fn size(call: &Call, answer: &[u32]) -> usize {
     match call {
@@ -141,5 +171,6 @@ fn size(call: &Call, answer: &[u32]) -> usize {
         Call::Scan { .. } => answer[TRIED_AT] as usize,
         Call::Number { table, .. } => table.len() / ROW_WORDS,
         Call::Listing { .. } => text_of_answer(answer).lines().count() - 1,
+        Call::Hidden { .. } => answer[PLACED_WORDS] as usize,
     }
 }

@@ -5,7 +5,7 @@ use std::sync::Mutex;
 use std::thread;
 
 use crate::calls::Call;
-use crate::cases::Maker;
+use crate::cases::{Maker, BIG_KINDS};
 use crate::known::known;
 use crate::model::edition::NEWEST;
 use crate::model::operator::Cells;
@@ -20,7 +20,6 @@ use crate::tally::Tally;
 const THREADS: usize = 2;
 /// Small cases in a part, so that a run of the program gets several thousand.
 const SMALL: usize = 3_000;
-const BIG: usize = 13;
 /// Big parts for each seed.
 const BIG_PARTS: usize = 14;
 /// Compiled tables, and drawn tables, in a part of properties.
@@ -135,7 +134,7 @@ fn run_part(
         }
         Part::Big(seed, part) => {
             let mut maker = maker(seed, 3 * part + 1);
-            (0..BIG).map(|kind| maker.big(kind)).collect()
+            (0..BIG_KINDS).map(|kind| maker.big(kind)).collect()
         }
         Part::Properties(seed, part) => {
             let mut maker = maker(seed, 3 * part + 2);

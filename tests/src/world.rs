@@ -88,6 +88,62 @@ impl World {
         (0..count).map(|_| self.row(random).raw()).collect()
     }
 
+    /// Rows of which many are near an earlier one.
+    pub fn nested_rows(&self, random: &mut Random, count: usize) -> Vec<RawRow> {
+        let fresh = random.pick(&[10, 30, 60]);
+        let mut rows: Vec<Row> = Vec::new();
+        for _ in 0..count {
+            let row = if rows.is_empty() || random.percent(fresh) {
+                self.row(random)
+            } else {
+                let earlier = random.pick(&rows);
+                self.near(random, earlier.matching)
+            };
+            rows.push(row);
+        }
+        rows.iter().map(Row::raw).collect()
+    }
+
+    /// A row whose match is this one, or narrower or wider in up to three values.
+    fn near(&self, random: &mut Random, mut matching: Match) -> Row {
+        for _ in 0..random.below(4) {
+            let place = random.below(FIELD_COUNT);
+            let old = *matching.list()[place];
+            let new = if random.percent(70) {
+                self.narrower(random, place, old)
+            } else {
+                self.wider(random, place, old)
+            };
+            matching = matching.with(place, new);
+        }
+        let action = self.action(random);
+        Row { matching, action }
+    }
+
+    /// Inside this prefix, and cut from a value of the pool as all prefixes are.
+    fn narrower(&self, random: &mut Random, place: usize, prefix: Prefix) -> Prefix {
+        let pool = self.pools.list()[place].iter().copied();
+        let covered: Vec<u32> = pool.filter(|value| prefix.covers(*value)).collect();
+        let value = random.pick(&covered);
+        match KINDS.list()[place] {
+            Kind::Address => {
+                let length = prefix.length.max(random.pick(&self.lengths));
+                Prefix::of(cut(value, length), length)
+            }
+            Kind::Number { .. } => Prefix::exactly(value),
+        }
+    }
+
+    fn wider(&self, random: &mut Random, place: usize, prefix: Prefix) -> Prefix {
+        match KINDS.list()[place] {
+            Kind::Address => {
+                let length = prefix.length.min(random.pick(&self.lengths));
+                Prefix::of(cut(prefix.value, length), length)
+            }
+            Kind::Number { .. } => Prefix::default(),
+        }
+    }
+
     fn prefix(&self, random: &mut Random, pool: &[u32]) -> Prefix {
         if !random.percent(self.constrained) {
             return Prefix::default();

@@ -35,18 +35,16 @@ fn in_largest_room(file: Vec<u32>, more: usize) -> Call {
     }
 }
 
-/// One node of k atoms that all overlap has 2^k - 1 rows, all overlapping.
+/// One node of k atoms that all overlap has 2^k - 1 rows, all overlapping. The
+/// listing has the first of them only, and yet needs room for all.
 fn doubling() -> Vec<Known> {
     let file = |atoms: usize| one_node(&vec![open(Deny); atoms]);
-    let mut text = "rows 1023 priorities 1023\n".to_string();
-    for priority in (1..=1_023).rev() {
-        text += &format!("{priority} * 0.0.0.0/0 0.0.0.0/0 * * * deny\n");
-    }
+    let text = "rows 1 priorities 1\n1 * 0.0.0.0/0 0.0.0.0/0 * * * deny\n";
     let rows = table_words(&vec![open(Deny); 4_095]);
     let twelve = [&[4_095][..], &rows, &[0; ROW_WORDS], &[0; LARGEST_ROOM]].concat();
     let thirteen = refused(MORE_ROWS, 0, 1 + 2 * LARGEST_ROOM);
     vec![
-        listing("10 open atoms listed", &to_bytes(&file(10)), &text),
+        listing("10 open atoms listed", &to_bytes(&file(10)), text),
         listing(
             "11 open atoms listed",
             &to_bytes(&file(11)),
@@ -65,20 +63,24 @@ fn doubling() -> Vec<Known> {
 fn full_rooms() -> Vec<Known> {
     let file =
         |atoms: usize, others: &[RawRow]| one_node(&[&vec![at_port(1); atoms], others].concat());
-    let mut text = "rows 1024 priorities 1023\n".to_string();
-    for priority in (1..=1_023).rev() {
-        text += &format!("{priority} 1 0.0.0.0/0 0.0.0.0/0 * * * deny\n");
+    let few = "rows 2 priorities 1\n\
+        1 1 0.0.0.0/0 0.0.0.0/0 * * * deny\n\
+        1 2 0.0.0.0/0 0.0.0.0/0 * * * deny\n";
+    let apart: Vec<RawRow> = (0..1_024).map(at_port).collect();
+    let mut text = "rows 1024 priorities 1\n".to_string();
+    for in_port in 0..1_024 {
+        text += &format!("1 {in_port} 0.0.0.0/0 0.0.0.0/0 * * * deny\n");
     }
-    text += "1023 2 0.0.0.0/0 0.0.0.0/0 * * * deny\n";
     let (two, three) = ([at_port(2)], [at_port(2), at_port(3)]);
     let rows = table_words(&[&vec![at_port(1); 4_095][..], &two].concat());
     let more = MOST_SLICE_WORDS - LARGEST_ROOM;
     let full = [&[4_096][..], &rows, &vec![0; more], &[0; LARGEST_ROOM]].concat();
     let over = refused(MORE_ROWS, 0, 1 + MOST_SLICE_WORDS + LARGEST_ROOM);
     vec![
-        listing("1024 rows listed", &to_bytes(&file(10, &two)), &text),
+        listing("1024 rows listed", &to_bytes(&one_node(&apart)), &text),
+        listing("1024 rows, 2 listed", &to_bytes(&file(10, &two)), few),
         listing(
-            "1025 rows listed",
+            "1025 rows, 3 to list",
             &to_bytes(&file(10, &three)),
             "refused 12 0\n",
         ),

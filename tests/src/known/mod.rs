@@ -1,12 +1,13 @@
 //! The known cases, with answers written down and not worked out by the model.
 
+mod hidden;
 mod limits;
 mod worked;
 
 use crate::calls::{words_of_bytes, Call, PLACED_WORDS, REFUSAL_WORDS};
 use crate::model::action::Action;
 use crate::model::edition::{Edition, NEWEST};
-use crate::model::matches::Match;
+use crate::model::matches::{Match, Prefix};
 use crate::model::operator::Cells;
 use crate::model::record::{Node, RawRow};
 use crate::policies::Draft;
@@ -20,6 +21,7 @@ pub struct Known {
 pub fn known() -> Vec<Known> {
     let mut cases = worked::cases();
     cases.extend(limits::cases());
+    cases.extend(hidden::cases());
     cases
 }
 
@@ -65,6 +67,16 @@ fn chain_of_nodes(edition: Edition, operators: &[Cells], nodes: &[&[RawRow]]) ->
 /// An atom that constrains nothing.
 fn open(action: Action) -> RawRow {
     Match::default().raw(action)
+}
+
+/// An atom for the destinations of a prefix.
+fn to(destination: Prefix, action: Action) -> RawRow {
+    let open = Match::default();
+    Match {
+        destination,
+        ..open
+    }
+    .raw(action)
 }
 
 fn one_node(atoms: &[RawRow]) -> Vec<u32> {

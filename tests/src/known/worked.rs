@@ -1,6 +1,6 @@
 //! The worked cases of the scope.
 
-use super::{case, chain_of_nodes, listing, one_node, open, refused, success, Known};
+use super::{case, chain_of_nodes, listing, one_node, open, refused, success, to, Known};
 use crate::calls::{to_bytes, Call, READ_COUNTS};
 use crate::model::action::Action::{self, Allow, Deny, DontCare, Gmb};
 use crate::model::edition::{Edition, NEWEST, ROW_WORDS};
@@ -24,10 +24,9 @@ const TENANT: [u32; 53] = [
     0, 1, 0, 1, 0,
 ];
 
-const TENANT_LISTING: &str = "rows 3 priorities 3\n\
-    3 * 0.0.0.0/0 10.7.3.9/32 * * * gmb 40000\n\
-    2 * 0.0.0.0/0 10.7.0.0/16 * * * deny\n\
-    1 * 0.0.0.0/0 10.7.3.9/32 * * * gmb 40000\n";
+const TENANT_LISTING: &str = "rows 2 priorities 2\n\
+    2 * 0.0.0.0/0 10.7.3.9/32 * * * gmb 40000\n\
+    1 * 0.0.0.0/0 10.7.0.0/16 * * * deny\n";
 
 /// Rows of the first edition, word for word: all values constrained, and one
 /// pair of numbers and another, which tells the flags apart.
@@ -87,16 +86,6 @@ fn written_as_it_must_be() {
         from_port.raw(Deny),
     ];
     assert_eq!(rows.map(|row| row.words(Edition::First)), ROWS);
-}
-
-/// An atom for the destinations of a prefix.
-fn to(destination: Prefix, action: Action) -> RawRow {
-    let open = Match::default();
-    Match {
-        destination,
-        ..open
-    }
-    .raw(action)
 }
 
 fn action(name: &'static str, file: Vec<u32>, packet: Packet, action: Action) -> Known {
@@ -180,6 +169,8 @@ fn tenant() -> Vec<Known> {
     let rows = tenant_rows();
     let scratch = rows.len();
     let compiled = [&[3][..], &rows, &[0; 7], &vec![0; scratch]].concat();
+    let (stay, hidden) = rows.split_at(2 * ROW_WORDS);
+    let without_hidden = [&[0, 0, 2][..], stay, &vec![0; hidden.len()]].concat();
     let mut cases = vec![
         case(
             "tenant's file",
@@ -195,6 +186,13 @@ fn tenant() -> Vec<Known> {
                 scratch: vec![88; scratch],
             },
             success(&compiled),
+        ),
+        case(
+            "K9 hidden rows",
+            Call::Hidden {
+                table: rows.clone(),
+            },
+            without_hidden,
         ),
         case(
             "K9 priorities and chain",

@@ -4,6 +4,7 @@ use super::action::Action;
 use super::edition::{NEWEST, ROW_WORDS};
 use super::fields::Packet;
 use super::file::Policy;
+use super::hidden::without_hidden;
 use super::listing::listing;
 use super::numbers::{MORE_ROWS, SHORT_BUFFER, SHORT_SCRATCH, WRONG_PACKET};
 use super::operator::Law;
@@ -28,6 +29,7 @@ pub fn answer(call: &Call) -> Vec<u32> {
             chain,
         } => numbered(table, priorities, chain),
         Call::Listing { bytes } => words_of_bytes(listing(bytes).as_bytes()),
+        Call::Hidden { table } => hidden_out(table),
     }
 }
 
@@ -69,15 +71,20 @@ fn compiled(file: &[u32], table: &[u32], scratch: &[u32]) -> Vec<u32> {
         scratch.fill(0);
     }
     let rows = result.as_ref().map_or(&[][..], |rows| &rows[..]);
-    for (words, row) in table.chunks_mut(ROW_WORDS).zip(rows) {
-        words.copy_from_slice(&row.raw().words(NEWEST));
-    }
+    put_rows(rows, &mut table);
     let count = rows.len() as u32;
     let mut words = refusal_words(result.err());
     words.push(count);
     words.extend(table);
     words.extend(scratch);
     words
+}
+
+/// Writes the rows at the front of the table.
+fn put_rows(rows: &[Row], table: &mut [u32]) {
+    for (words, row) in table.chunks_mut(ROW_WORDS).zip(rows) {
+        words.copy_from_slice(&row.raw().words(NEWEST));
+    }
 }
 
 fn compile_lent(file: &[u32], table: usize, scratch: usize) -> Result<Vec<Row>, Refusal> {
@@ -117,6 +124,21 @@ fn numbered(table: &[u32], priorities: &[u32], chain: &[u32]) -> Vec<u32> {
     let mut words = vec![number, place, levels];
     words.extend(priorities);
     words.extend(chain);
+    words
+}
+
+fn hidden_out(table: &[u32]) -> Vec<u32> {
+    let result = read_table(table).map(|rows| without_hidden(&rows));
+    let mut table = table.to_vec();
+    let mut count = 0;
+    if let Ok(rows) = &result {
+        count = rows.len() as u32;
+        table.fill(0);
+        put_rows(rows, &mut table);
+    }
+    let (number, place) = number_and_place(result.err());
+    let mut words = vec![number, place, count];
+    words.extend(table);
     words
 }
 

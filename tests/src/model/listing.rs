@@ -4,6 +4,7 @@ use super::action::Action;
 use super::edition::NEWEST;
 use super::fields::{Kind, KINDS};
 use super::file::Policy;
+use super::hidden::without_hidden;
 use super::matches::Prefix;
 use super::numbers::{MORE_ROWS, WRONG_BYTES};
 use super::priorities::number;
@@ -13,7 +14,7 @@ use crate::calls::{to_words, WORD_BYTES};
 
 /// The longest file's bytes, which is also what is read at most.
 pub const MOST_BYTES: usize = WORD_BYTES * NEWEST.most_words();
-/// Rows that are listed at most.
+/// Rows that a file may compile to, those that are hidden among them.
 pub const ROOM: usize = 1_024;
 
 pub fn listing(bytes: &[u8]) -> String {
@@ -23,12 +24,14 @@ pub fn listing(bytes: &[u8]) -> String {
     }
 }
 
+/// The rows that stay of those that the file compiles to.
 fn rows(bytes: &[u8]) -> Result<Vec<Row>, Refusal> {
     if !bytes.len().is_multiple_of(WORD_BYTES) || bytes.len() > MOST_BYTES {
         return Err(refusal(WRONG_BYTES, 0));
     }
     let tree = Policy::read(&to_words(bytes), NEWEST)?.tree();
-    compile(&tree, ROOM).map_err(|_| refusal(MORE_ROWS, 0))
+    let rows = compile(&tree, ROOM).map_err(|_| refusal(MORE_ROWS, 0))?;
+    Ok(without_hidden(&rows))
 }
 
 fn text(rows: &[Row]) -> String {

@@ -1,4 +1,5 @@
-//! Right packets, and matches: which packets meet one, and what two have in common.
+//! Right packets, and matches: which packets meet one, what two have in common,
+//! and whether one lies inside another.
 
 use super::action::Action;
 use super::edition::Edition;
@@ -38,12 +39,12 @@ impl Packet {
 }
 
 impl Prefix {
-    pub fn of(value: u32, length: u32) -> Prefix {
+    pub const fn of(value: u32, length: u32) -> Prefix {
         Prefix { value, length }
     }
 
     /// This value and no other.
-    pub fn exactly(value: u32) -> Prefix {
+    pub const fn exactly(value: u32) -> Prefix {
         Prefix::of(value, WORD_BITS)
     }
 
@@ -76,6 +77,11 @@ impl Prefix {
         } else {
             other.covers(self.value)
         }
+    }
+
+    /// Whether it covers every word that the other covers.
+    fn holds(self, other: Prefix) -> bool {
+        self.length <= other.length && self.covers(other.value)
     }
 
     fn longer(self, other: Prefix) -> Prefix {
@@ -135,6 +141,11 @@ impl Match {
         let mut pairs = self.pairs(other);
         let meet = pairs.all(|(one, two)| one.meets(*two));
         meet.then(|| self.both(other, Prefix::longer))
+    }
+
+    /// Whether every packet that meets the other meets this one.
+    pub fn holds(&self, other: &Match) -> bool {
+        self.pairs(other).all(|(one, two)| one.holds(*two))
     }
 }
 

@@ -7,6 +7,7 @@ pub mod answers;
 pub mod edition;
 pub mod fields;
 pub mod file;
+pub mod hidden;
 pub mod listing;
 pub mod matches;
 pub mod numbers;
