@@ -39,7 +39,7 @@ use Rattle.compile.specs.Compile.{scratchAfter, compileRefusal}
 use Rattle.compile.specs.Theorems.{RoomExactly, RowsAnswered, AnswerTells, AnswersRows}
 use Rattle.compile.specs.declared.Compiled.{Compiled}
 use Rattle.compile.specs.declared.Compiled.the-variants.{Rows, Refused}
-use Rattle.compile.proofs.Settling.{words-count}
+use Rattle.row.proofs.Rows.{words-count}
 use Rattle.logic.specs.Lists.{All}
 use Rattle.logic.proofs.Lists.{all-take, all-drop, all-map}
 

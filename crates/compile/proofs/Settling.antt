@@ -11,13 +11,13 @@ use borrow.Author.Tests.{lt-ltb, le-ltb}
 use Rattle.words.specs.Records.{rowsOf}
 use Rattle.words.specs.Words.{laid, cleared, zeros}
 use Rattle.words.proofs.Laid.{laid-is}
-use Rattle.words.proofs.Records.{rows-at, rows-end, rows-more, rows-none, length-flat}
+use Rattle.words.proofs.Records.{rows-at, rows-end, rows-more, rows-none}
 use Rattle.theory.specs.Rows.{Row}
 use Rattle.flow.specs.declared.Match.{Match}
 use Rattle.action.specs.declared.Action.{Action}
 use Rattle.action.proofs.Words.{right-words}
-use Rattle.row.specs.Row.{rowLength, rowOf, rowWords, rightRowAction, wordsOf}
-use Rattle.row.proofs.Rows.{row-back, row-long}
+use Rattle.row.specs.Row.{rowLength, rowWords, rightRowAction, wordsOf}
+use Rattle.row.proofs.Rows.{row-long, words-count}
 use Rattle.refusal.specs.Plain.{plain}
 use Rattle.policy.specs.Read.{readOf}
 use Rattle.policy.specs.File.{PolicyTree}
@@ -80,10 +80,6 @@ all-right (r ∷ N) = ap₂ (λ x y. x && y) (right-words (r .action)) (all-righ
 pub fine-words : (N : List (Row Match Action)) → fineWords (wordsOf N) ≡ fine N
 unfolding fineWords
 fine-words N = ap allRight (rows-words N) ∙ all-right N
-
--- how many words the rows have
-pub words-count : (N : List (Row Match Action)) → length (wordsOf N) ≡ length N * rowLength
-words-count N = length-flat rowLength rowOf some-words rowWords row-long row-back N
 
 -- the tree that the walk starts at is the file's
 root-words : (f : List ℕ) (l : Layout) → readOf f ≡ reading.Accepted l → (at : Spot) → at ≡ rootSpot l → treeWords f at ≡ wordsOf (compiledRows f l)

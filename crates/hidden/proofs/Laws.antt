@@ -2,10 +2,9 @@
 use Prim.Native.Nat.{ℕ, _*_, _-_, _≤_}
 use native.Mathlib.Omega.{arith}
 use mathlib.Core.Path.{_≡_, refl, sym, ap, ap₂, subst, _∙_}
-use mathlib.Core.Bool.{true, false}
 use mathlib.Core.List.{List, _++_}
-use lib.ListN.{length, take, drop}
-use lib.Seq.{take-at, drop-at}
+use lib.ListN.{length, take}
+use lib.Seq.{take-at}
 use Rattle.logic.proofs.Tests.{by-test}
 use Rattle.words.specs.Words.{zeros}
 use Rattle.theory.specs.Rows.{scan}
@@ -17,15 +16,15 @@ use Rattle.action.specs.declared.Action.{Action}
 use Rattle.action.specs.declared.Action.the-variants.{DontCare}
 use Rattle.row.specs.Row.{rowLength, mostRows, RightRow, rowsIn, wordsOf, tableRows}
 use Rattle.table.specs.Table.{rowCount, checkOf, RightTable}
-use Rattle.table.specs.Scan.{found, scanOf, scanNumber, scanAction}
+use Rattle.table.specs.Scan.{scanNumber, scanAction}
 use Rattle.table.specs.declared.Checked.{Checked}
 use Rattle.table.specs.declared.Checked.the-variants as checked
 use Rattle.table.proofs.Tables.{length-rows, check-exactly, table-rows, table-words, rows-read}
 use Rattle.table.proofs.Scans.{scan-found, scan-refused}
 use Rattle.hidden.specs.Hidden.{keptRows, keptWords, keptBy, keptOf, tableBy, tableKept}
-use Rattle.hidden.specs.Theorems.{KeptTells, KeptRows, RightKept, RefusedStays, SameAction}
+use Rattle.hidden.specs.Theorems.{KeptTells, KeptRows, RightKept, RefusedExactly, RefusedStays, SameAction}
 use Rattle.hidden.specs.declared.Kept.the-variants.{Rows, Refused}
-use Rattle.hidden.proofs.Passed.{kept-long, kept-fits}
+use Rattle.hidden.proofs.Passed.{kept-long}
 
 -- the words of the rows that stay of a right table are a right table of so many rows
 kept-right : (ws : List ℕ) → RightTable ws → checkOf (keptWords ws) ≡ checked.Rows (length (keptRows ws))
@@ -53,30 +52,41 @@ module _ (ws : List ℕ) (n : ℕ) (e : checkOf ws ≡ checked.Rows n) where
         fewer = omega (arith, hidden-less Action inside (rowsIn ws), length-rows ws);
         rows = ap rowsIn front ∙ rows-read (keptRows ws);
         check = ap checkOf front ∙ kept-right ws right;
-        freed = ap (drop (length (keptRows ws) * rowLength)) after ∙ drop-at (keptWords ws) rest _ k ∙ ap (λ m. zeros (length ws - m)) k;
+        words = after;
       }
 
 pub right-kept : RightKept
 unfolding keptOf
 right-kept ws t = ap (keptBy ws) (check-exactly ws (rowCount ws) .1 (t, refl))
 
-pub refused-stays : RefusedStays
-unfolding keptOf tableKept
-refused-stays ws n i e = (ap (keptBy ws) e, ap (tableBy ws) e)
+-- by what the check finds
+by-check : (ws : List ℕ) (X : Checked → Type 0) → ((n : ℕ) → checkOf ws ≡ checked.Rows n → X (checked.Rows n))
+    → ((n i : ℕ) → checkOf ws ≡ checked.Wrong n i → X (checked.Wrong n i))
+    → X (checkOf ws)
+by-check ws X rows wrong = go (checkOf ws) refl
+  where
+    go : (x : Checked) → checkOf ws ≡ x → X x
+    go (checked.Rows n) e = rows n e
+    go (checked.Wrong n i) e = wrong n i e
 
 pub kept-rows : KeptRows
 unfolding keptOf
-kept-rows ws n e = by-check (checkOf ws) refl
-  where
-    by-check : (x : Checked) → checkOf ws ≡ x → KeptTells ws n
-    by-check (checked.Rows m) c =
-        let q : Rows (length (keptRows ws)) ≡ Rows n = sym (ap (keptBy ws) c) ∙ e in
-        let many : length (keptRows ws) ≡ n = cc in
-        subst (KeptTells ws) many (told ws m c)
-    by-check (checked.Wrong m i) c =
-        let q : Refused m i ≡ Rows n = sym (ap (keptBy ws) c) ∙ e in
-        let z : _≡_ {A = ℕ} 0 1 = cc in
-        absurd (omega arith)
+kept-rows ws n = by-check ws (λ x. keptBy ws x ≡ Rows n → KeptTells ws n)
+    (λ m c q. let many : length (keptRows ws) ≡ n = cc in subst (KeptTells ws) many (told ws m c))
+    (λ m i c q. let z : _≡_ {A = ℕ} 0 1 = cc in absurd (omega arith))
+
+pub refused-exactly : RefusedExactly
+unfolding keptOf
+refused-exactly ws n i = (
+  by-check ws (λ x. keptBy ws x ≡ Refused n i → x ≡ checked.Wrong n i)
+      (λ m c q. let z : _≡_ {A = ℕ} 0 1 = cc in absurd (omega arith))
+      (λ m j c q. let number : m ≡ n = cc in let place : j ≡ i = cc in ap₂ checked.Wrong number place),
+  λ e. ap (keptBy ws) e,
+)
+
+pub refused-stays : RefusedStays
+unfolding tableKept
+refused-stays ws n i q = ap (tableBy ws) (refused-exactly ws n i .0 q)
 
 pub same-action : SameAction
 same-action ws packet n e =

@@ -6,24 +6,22 @@ use mathlib.Core.List.{List, _++_}
 use lib.ListN.{length, take}
 use Rattle.words.specs.Words.{laid, zeros, cleared}
 use Rattle.words.proofs.Laid.{length-laid, take-laid}
-use Rattle.words.proofs.Records.{length-flat}
 use Rattle.theory.proofs.Hidden.{hidden-less}
 use Rattle.flow.specs.Match.{inside}
 use Rattle.action.specs.declared.Action.{Action}
-use Rattle.row.specs.Row.{rowLength, rowOf, rowWords, rowsIn}
-use Rattle.row.proofs.Rows.{row-back, row-long}
+use Rattle.row.specs.Row.{rowLength, rowsIn}
+use Rattle.row.proofs.Rows.{words-count}
 use Rattle.table.specs.Table.{checkOf}
 use Rattle.table.specs.declared.Checked.{Checked}
 use Rattle.table.specs.declared.Checked.the-variants as checked
 use Rattle.table.proofs.Tables.{length-rows}
 use Rattle.hidden.specs.Hidden.{keptRows, keptWords, keptBy, keptOf, tableBy, tableKept}
-use Rattle.hidden.specs.declared.Kept.{Kept}
 use Rattle.hidden.specs.declared.Kept.the-variants.{Rows, Refused}
 
 -- the words of the rows that stay are so many
 pub kept-long : (ws : List ℕ) → length (keptWords ws) ≡ length (keptRows ws) * rowLength
 unfolding keptWords
-kept-long ws = length-flat rowLength rowOf (omega arith) rowWords row-long row-back (keptRows ws)
+kept-long ws = words-count (keptRows ws)
 
 -- and fit into the table
 pub kept-fits : (ws : List ℕ) → length (keptWords ws) ≤ length ws

@@ -1,7 +1,6 @@
 -- The turns of the two loops over a table's rows. Assumes nothing.
 use Prim.Native.Nat.{ℕ, suc, _+_, _*_, _-_, _≤_, _<_}
 use native.Mathlib.Omega.{arith}
-use native.Mathlib.Numerals.{add-one}
 use mathlib.Core.Path.{_≡_, refl, sym, ap, ap₂, _∙_}
 use mathlib.Core.Bool.{Bool, true, false, cond, not, _||_}
 use mathlib.Core.List.{List, [], _∷_, _++_, append-nil}
@@ -19,8 +18,8 @@ use Rattle.flow.specs.declared.Match.{Match}
 use Rattle.flow.proofs.Inside.{inside-trans}
 use Rattle.action.specs.declared.Action.{Action}
 use Rattle.row.specs.Row.{rowLength, rowOf, rowAction, rowWords, rowsIn, wordsOf}
-use Rattle.row.proofs.Rows.{row-back, row-long}
-use Rattle.table.specs.Table.{rowCount, past, rowAt}
+use Rattle.row.proofs.Rows.{row-long}
+use Rattle.table.specs.Table.{rowCount, past}
 use Rattle.table.proofs.Tables.{length-rows, row-at, rows-read}
 use Rattle.hidden.specs.Hidden.{keptWords}
 

@@ -3,29 +3,30 @@
 --   KeptTells ws n      what an answer of n rows tells of the words after it
 --   KeptRows            every answer of rows tells that
 --   RightKept           a right table is answered so
---   RefusedStays        where the check refuses, its number and place are answered, and every word stays
+--   RefusedExactly      it is refused exactly where the check refuses, with its number and place
+--   RefusedStays        then every word stays
 --   SameAction          the scan of the rows that stay has the action of the scan before, for every packet
-use Prim.Native.Nat.{ℕ, _*_, _-_, _≤_}
+use Prim.Native.Nat.{ℕ, _-_, _≤_}
 use mathlib.Core.Path.{_≡_}
-use mathlib.Core.List.{List}
-use lib.ListN.{length, drop}
+use mathlib.Core.List.{List, _++_}
+use mathlib.Core.Logic.{_↔_}
+use lib.ListN.{length}
 use Rattle.words.specs.Words.{zeros}
-use Rattle.row.specs.Row.{rowLength, rowsIn, tableRows}
+use Rattle.row.specs.Row.{rowsIn, wordsOf, tableRows}
 use Rattle.table.specs.Table.{rowCount, checkOf, RightTable}
 use Rattle.table.specs.Scan.{scanOf, scanNumber, scanAction}
 use Rattle.table.specs.declared.Checked.the-variants as checked
 use Rattle.hidden.specs.Hidden.{keptRows, keptOf, tableKept}
 use Rattle.hidden.specs.declared.Kept.the-variants.{Rows, Refused}
 
--- n rows stay of a right table: they stand at its front, are a right table by themselves, and the words behind them are
--- 0
+-- n rows stay of a right table: their words stand at its front with zeros behind them, and they are a right table
 pub record KeptTells (ws : List ℕ) (n : ℕ) : Type 0 where
   pub right : RightTable ws
   pub count : n ≡ length (keptRows ws)
   pub fewer : n ≤ rowCount ws
   pub rows : rowsIn (tableRows n (tableKept ws)) ≡ keptRows ws
   pub check : checkOf (tableRows n (tableKept ws)) ≡ checked.Rows n
-  pub freed : drop (n * rowLength) (tableKept ws) ≡ zeros (length ws - n * rowLength)
+  pub words : tableKept ws ≡ wordsOf (keptRows ws) ++ zeros (length ws - length (wordsOf (keptRows ws)))
 
 -- every answer of rows tells that
 abbrev pub KeptRows : Type 0
@@ -35,9 +36,13 @@ KeptRows = (ws : List ℕ) (n : ℕ) → keptOf ws ≡ Rows n → KeptTells ws n
 abbrev pub RightKept : Type 0
 RightKept = (ws : List ℕ) → RightTable ws → keptOf ws ≡ Rows (length (keptRows ws))
 
--- a table that is not right is refused as the check has it, and stays
+-- a table that is not right is refused as the check has it, and no other
+abbrev pub RefusedExactly : Type 0
+RefusedExactly = (ws : List ℕ) (n i : ℕ) → (keptOf ws ≡ Refused n i) ↔ (checkOf ws ≡ checked.Wrong n i)
+
+-- and stays
 abbrev pub RefusedStays : Type 0
-RefusedStays = (ws : List ℕ) (n i : ℕ) → checkOf ws ≡ checked.Wrong n i → (keptOf ws ≡ Refused n i) × (tableKept ws ≡ ws)
+RefusedStays = (ws : List ℕ) (n i : ℕ) → keptOf ws ≡ Refused n i → tableKept ws ≡ ws
 
 -- the rows that stay have the same action for every packet; words that are no packet are refused alike
 abbrev pub SameAction : Type 0

@@ -13,6 +13,7 @@ use Rattle.field.proofs.longer_address.Reads as longer-address
 use Rattle.field.proofs.longer_length.Reads as longer-length
 use Rattle.field.proofs.meets_value.Reads as meets-value
 use Rattle.field.proofs.values_meet.Reads as values-meet
+use Rattle.field.proofs.value_inside.Reads as value-inside
 use Rattle.field.proofs.common_value.Reads as common-value
 use Rattle.field.proofs.right_value.Reads as right-value
 use Rattle.words.proofs.word.Reads as word
@@ -23,6 +24,7 @@ use Rattle.words.proofs.from_bytes.Reads as from-bytes
 use Rattle.words.proofs.to_bytes.Reads as to-bytes
 use Rattle.flow.proofs.meets.Reads as meets
 use Rattle.flow.proofs.overlap.Reads as overlap
+use Rattle.flow.proofs.lies_inside.Reads as lies-inside
 use Rattle.flow.proofs.common.Reads as common
 use Rattle.flow.proofs.is_empty.Reads as is-empty
 use Rattle.flow.proofs.constrains.Reads as constrains
@@ -70,6 +72,7 @@ use Rattle.table.proofs.scan.Reads as scan
 use Rattle.table.proofs.check.Reads as check
 use Rattle.table.proofs.first_match.Reads as first-match
 use Rattle.table.proofs.match_at.Reads as match-at
+use Rattle.hidden.proofs.drop_hidden.Reads as drop-hidden
 use Rattle.priority.proofs.number.Reads as number
 use Rattle.compile.proofs.compile.Reads as compile
 use Rattle.line.proofs.put_line.Reads as put-line
@@ -83,6 +86,7 @@ use Rattle.speed.proofs.speed_tree.Reads as speed-tree
 use Rattle.speed.proofs.speed_compile.Reads as speed-compile
 use Rattle.speed.proofs.speed_scan.Reads as speed-scan
 use Rattle.speed.proofs.speed_number.Reads as speed-number
+use Rattle.speed.proofs.speed_hidden.Reads as speed-hidden
 
 -- where the contract says that what is seen is d, of the arguments alone
 fixed :
@@ -123,6 +127,9 @@ meets-value-one = fixed (λ κ a r s p. p)
 values-meet-one : OneAnswer values-meet.Pre values-meet.Post (λ κ r s. r)
 values-meet-one = fixed (λ κ a r s p. p)
 
+value-inside-one : OneAnswer value-inside.Pre value-inside.Post (λ κ r s. r)
+value-inside-one = fixed (λ κ a r s p. p)
+
 common-value-one : OneAnswer common-value.Pre common-value.Post (λ κ r s. r)
 common-value-one = fixed (λ κ a r s p. p)
 
@@ -154,6 +161,9 @@ meets-one = fixed (λ κ a r s p. p)
 
 overlap-one : OneAnswer overlap.Pre overlap.Post (λ κ r s. r)
 overlap-one = fixed (λ κ a r s p. p)
+
+lies-inside-one : OneAnswer lies-inside.Pre lies-inside.Post (λ κ r s. r)
+lies-inside-one = fixed (λ κ a r s p. p)
 
 common-one : OneAnswer common.Pre common.Post (λ κ r s. r)
 common-one = fixed (λ κ a r s p. p)
@@ -304,6 +314,10 @@ first-match-one = fixed (λ κ a r s p. p)
 match-at-one : OneAnswer match-at.Pre match-at.Post (λ κ r s. r)
 match-at-one = fixed (λ κ a r s p. p)
 
+-- hidden
+drop-hidden-one : OneAnswer drop-hidden.Pre drop-hidden.Post (λ κ r s. answerWith r (now (s .0)))
+drop-hidden-one = fixed (λ κ a r s p. both (p .0) (p .1))
+
 -- priority
 number-one : OneAnswer number.Pre number.Post (λ κ r s. answerAnd r (now (s .1 .0)) (now (s .1 .1 .0)))
 number-one = fixed (λ κ a r s p. all (p .0) (p .1) (p .2))
@@ -348,3 +362,6 @@ speed-scan-one = fixed (λ κ a r s p. both (p .0) (p .1))
 
 speed-number-one : OneAnswer speed-number.Pre speed-number.Post (λ κ r s. answerAnd r (now (s .1 .0)) (now (s .1 .1 .0)))
 speed-number-one = fixed (λ κ a r s p. all (p .0) (p .1) (p .2))
+
+speed-hidden-one : OneAnswer speed-hidden.Pre speed-hidden.Post (λ κ r s. answerWith r (now (s .0)))
+speed-hidden-one = fixed (λ κ a r s p. both (p .0) (p .1))

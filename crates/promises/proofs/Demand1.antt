@@ -38,6 +38,8 @@ use Rattle.table.proofs.Scans.{scan-refused}
 use Rattle.priority.specs.Numbering.{numberOf, answerCount, count}
 use Rattle.priority.proofs.After.{number-ready, words-stay, refused-stays}
 use Rattle.words.specs.Words.{zeros}
+use Rattle.hidden.specs.Hidden.{keptOf}
+use Rattle.hidden.proofs.Laws as hidden
 use Rattle.compile.specs.Compile.{noRoom, noScratch, wrongRate, room, compiledRows, fine, answerOf, tableAfter, scratchAfter}
 use Rattle.compile.specs.Compile as compile
 use Rattle.compile.specs.declared.Compiled.{Compiled}
@@ -122,7 +124,7 @@ search-fixed i Yes = success
 search-fixed i (Broken l a b c) = record { number = inr (omega arith, omega arith); value = λ n. (refl, refl); law = λ n. absurd (n refl) }
 
 every-input : EveryInput
-unfolding scanOf numberOf
+unfolding scanOf numberOf keptOf
 every-input = record {
   search = λ o i. search-fixed i (lawSearch o);
   read = λ f. by-reading f
@@ -147,6 +149,7 @@ every-input = record {
   number = λ ws p c. by-check ws
       (λ n e. by-test (leb n p && leb n c) (λ t. rw (e, t) success) (λ t. rw (e, t) (refused (omega arith, omega arith))))
       (λ n i e h. rw e (refused (h .0, omega (arith, h .1))));
+  hidden = λ ws. by-check ws (λ n e. rw e success) (λ n i e h. rw e (refused h));
 }
 
 -- a buffer shorter than the row count
@@ -172,6 +175,7 @@ order = record {
   scan-table = λ ws p n i t e. scan-refused ws p .1 t n i e;
   number-table = λ ws p c n i e. rw e refl;
   number-buffers = λ ws p c r h. rw (check-exactly ws (rowCount ws) .1 (r, refl), short (rowCount ws) p c h) refl;
+  hidden-table = λ ws n i e. hidden.refused-exactly ws n i .1 e;
 }
 
 -- the number of a refusal, and that it is no success
@@ -210,6 +214,8 @@ words-left = record {
       let w = words-stay ws ps cs (number-ready ws ps cs n q) in
       let c : count ws ps cs ≡ n = ap answerCount q in
       (w .2, rw c at (w .3));
+  hidden-stays = hidden.refused-stays;
+  hidden-rows = λ ws n q. hidden.kept-rows ws n q .words;
 }
 
 pub demand-1 : Demand1

@@ -7,6 +7,7 @@
 --   answerOf, tableAfter, scratchAfter         compile::compile    of a file, a table buffer and a scratch buffer
 --   scanOf                                     table::scan         of a table and a packet
 --   numberOf, prioritiesAfter, chainAfter      priority::number    of a table, a priority buffer and a chain buffer
+--   keptOf, tableKept                          hidden::drop_hidden of a table
 use Prim.Native.Nat.{ℕ, suc, _*_, _-_, _≤_, _<_}
 use mathlib.Core.Path.{_≡_}
 use mathlib.Core.Bool.{true, false, not}
@@ -44,10 +45,13 @@ use Rattle.table.specs.declared.Scanned.the-variants as scanned
 use Rattle.priority.specs.Numbering.{shortBuffer, numberOf, prioritiesAfter, chainAfter, Ready, Shared, priority, link}
 use Rattle.priority.specs.declared.Numbered.the-variants as numbered
 use Rattle.words.specs.Words.{zeros}
+use Rattle.hidden.specs.Hidden.{keptRows, keptOf, tableKept}
+use Rattle.hidden.specs.declared.Kept.the-variants as kept
 use Rattle.compile.specs.Compile.{noRoom, noScratch, wrongRate, room, compiledRows, answerOf, tableAfter}
 use Rattle.compile.specs.Compile.{scratchAfter}
 use Rattle.compile.specs.declared.Compiled.the-variants as compiled
 use Rattle.promises.specs.Told.{searchTold, readTold, actionTold, compileTold, checkTold, scanTold, numberTold}
+use Rattle.promises.specs.Told.{keptTold}
 use Rattle.promises.specs.Told.{between, Fixed}
 
 -- DEMAND 1. Every file, packet or table handed in, however broken, gets a result or one numbered refusal. Callers check
@@ -63,6 +67,7 @@ pub record EveryInput : Type 0 where
   pub check : (ws : List ℕ) → Fixed (between 15 16) (checkTold (checkOf ws))
   pub scan : (ws p : List ℕ) → Fixed (λ n. (n ≡ 11) ⊎ between 15 16 n) (scanTold (scanOf ws p))
   pub number : (ws : List ℕ) (p c : ℕ) → Fixed (between 15 17) (numberTold (numberOf ws p c))
+  pub hidden : (ws : List ℕ) → Fixed (between 15 16) (keptTold (keptOf ws))
 
 -- "The refusals, their order": which comes first where several could be given.
 pub record Order : Type 0 where
@@ -89,6 +94,8 @@ pub record Order : Type 0 where
       → numberOf ws p c ≡ numbered.Refused n i
   pub number-buffers : (ws : List ℕ) (p c : ℕ) → RightTable ws → (p < rowCount ws) ⊎ (c < rowCount ws)
       → numberOf ws p c ≡ numbered.Refused shortBuffer 0
+  -- hidden rows out: 15 or 16
+  pub hidden-table : (ws : List ℕ) (n i : ℕ) → checkOf ws ≡ checked.Wrong n i → keptOf ws ≡ kept.Refused n i
 
 -- "and the words left in each lent buffer are fixed": what they are after each answer.
 pub record WordsLeft : Type 0 where
@@ -110,6 +117,10 @@ pub record WordsLeft : Type 0 where
   pub number-beyond : (ws ps cs : List ℕ) (n : ℕ) → numberOf ws (length ps) (length cs) ≡ numbered.Priorities n
       → (drop (rowCount ws) (prioritiesAfter ws ps cs) ≡ drop (rowCount ws) ps)
       × (drop n (chainAfter ws ps cs) ≡ drop n cs)
+  -- where no hidden row is taken out because of a refusal, the table stays; else it is the rows that stay, then zeros
+  pub hidden-stays : (ws : List ℕ) (n i : ℕ) → keptOf ws ≡ kept.Refused n i → tableKept ws ≡ ws
+  pub hidden-rows : (ws : List ℕ) (n : ℕ) → keptOf ws ≡ kept.Rows n
+      → tableKept ws ≡ wordsOf (keptRows ws) ++ zeros (length ws - length (wordsOf (keptRows ws)))
 
 pub record Demand1 : Type 0 where
   pub every-input : EveryInput

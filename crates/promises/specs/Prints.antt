@@ -1,7 +1,8 @@
--- What the listing prints: for every input, however broken, its compiled rows with their priorities, or one refusal of
--- a fixed number.
+-- What the listing prints: for every input, however broken, those of its compiled rows that are not hidden, with their
+-- priorities, or one refusal of a fixed number.
 --
 --   PrintsRows b          the compile of the input's words answers rows, and the text has the head and a line for each
+--                         that is not hidden
 --   PrintsRefusal b       the text is one refusal, of number 1 to 10, 12 or 18
 --   EveryListing          every input has one of the two
 use Prim.Native.Nat.{ℕ}
@@ -14,15 +15,15 @@ use Rattle.row.specs.Row.{tableRows}
 use Rattle.compile.specs.Compile.{noRoom, answerOf, tableAfter}
 use Rattle.compile.specs.declared.Compiled.the-variants.{Rows}
 use Rattle.line.specs.Text.{refusal}
-use Rattle.text.specs.Listing.{wrongInput, rightInput, blank, fileText, listingOf, ListedRows}
+use Rattle.text.specs.Listing.{wrongInput, rightInput, blank, fileText, listingOf, ListedKept}
 use Rattle.promises.specs.Told.{between}
 
--- the rows that the compile answers, each with its priority
+-- of the rows that the compile answers those that are not hidden, each with its priority
 pub record PrintsRows (b : List ℕ) : Type 0 where
   pub right : rightInput b ≡ true
   pub count : ℕ
   pub compiled : answerOf (wordsIn b) blank blank ≡ Rows count
-  pub listed : ListedRows (wordsIn b) count (tableRows count (tableAfter (wordsIn b) blank blank))
+  pub listed : ListedKept (wordsIn b) (tableRows count (tableAfter (wordsIn b) blank blank))
   pub text : listingOf b ≡ fileText (wordsIn b)
 
 -- one refusal

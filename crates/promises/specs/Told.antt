@@ -9,6 +9,7 @@
 --   checkTold           of the check of a table
 --   scanTold            of the scan
 --   numberTold          of the numbering
+--   keptTold            of the pass that takes hidden rows out
 --   between a b         the numbers from a to b
 --   Fixed numbers t     what is told has one of the numbers, and its other values where it has no use for them
 use Prim.Native.Nat.{ℕ, _≤_}
@@ -31,6 +32,8 @@ use Rattle.table.specs.declared.Checked.the-variants.{Rows, Wrong}
 use Rattle.table.specs.declared.Scanned.{Scanned}
 use Rattle.priority.specs.Numbering.{answerNumber, answerPlace, answerCount}
 use Rattle.priority.specs.declared.Numbered.{Numbered}
+use Rattle.hidden.specs.Hidden.{keptNumber, keptPlace, keptCount}
+use Rattle.hidden.specs.declared.Kept.{Kept}
 use Rattle.compile.specs.Compile as compile
 use Rattle.compile.specs.declared.Compiled.{Compiled}
 
@@ -75,6 +78,10 @@ scanTold x = record { refusal = plain (scanNumber x) (scanPlace x); action = sca
 -- how many priorities there are
 abbrev pub numberTold : Numbered → Told
 numberTold x = record { refusal = plain (answerNumber x) (answerPlace x); action = DontCare; count = answerCount x }
+
+-- how many rows stay
+abbrev pub keptTold : Kept → Told
+keptTold x = record { refusal = plain (keptNumber x) (keptPlace x); action = DontCare; count = keptCount x }
 
 -- a number from a to b
 abbrev pub between : ℕ → ℕ → ℕ → Type 0

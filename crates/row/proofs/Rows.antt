@@ -1,11 +1,12 @@
 -- A row against its words: written, then read, and read, then written. Assumes nothing.
-use Prim.Native.Nat.{ℕ}
+use Prim.Native.Nat.{ℕ, _*_}
 use native.Mathlib.Omega.{arith}
 use mathlib.Core.Path.{_≡_, refl, sym, ap, ap₂, _∙_}
 use mathlib.Core.Bool.{true}
 use mathlib.Core.List.{List, [], _∷_, _++_}
 use lib.ListN.{getD, length, drop, drop-of-length-le}
 use lib.Seq.{drop-cons}
+use Rattle.words.proofs.Records.{length-flat}
 use Rattle.theory.specs.Rows.{Row}
 use Rattle.flow.specs.Match.{matchLength, matchOf, matchWords}
 use Rattle.flow.specs.declared.Match.{Match}
@@ -13,7 +14,7 @@ use Rattle.flow.proofs.Words.{match-read-words}
 use Rattle.action.specs.Action.{kindOf, rateOf, actionOf}
 use Rattle.action.specs.declared.Action.{Action}
 use Rattle.action.proofs.Words.{action-of-words, words-of-action}
-use Rattle.row.specs.Row.{rowLength, rowOf, rowAction, rowWords, kindPlace, ratePlace, rightRowAction}
+use Rattle.row.specs.Row.{rowLength, rowOf, rowAction, rowWords, wordsOf, kindPlace, ratePlace, rightRowAction}
 
 -- what is written is read again
 pub row-back : (r : Row Match Action) → rowOf (rowWords r) ≡ r
@@ -23,6 +24,10 @@ row-back r = ap (λ (a : Action). record { match = r .match; action = a }) (acti
 -- a row has its 11 words
 pub row-long : (r : Row Match Action) → length (rowWords r) ≡ rowLength
 row-long r = refl
+
+-- rows have so many words
+pub words-count : (N : List (Row Match Action)) → length (wordsOf N) ≡ length N * rowLength
+words-count N = length-flat rowLength rowOf (omega arith) rowWords row-long row-back N
 
 -- words with a right action are those of the row that they are
 pub words-back : (ws : List ℕ) → length ws ≡ rowLength → rightRowAction ws ≡ true → rowWords (rowOf ws) ≡ ws

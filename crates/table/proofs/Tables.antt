@@ -10,7 +10,7 @@ use lib.Seq.{drop-drop, take-at, drop-at, length-take-le}
 use borrow.Author.Tests.{eqb-true, eq-eqb, leb-true, le-leb, not-true, not-false}
 use Rattle.logic.proofs.Tests.{by-test, and-left, and-right, and-both}
 use Rattle.words.specs.Records.{records, rowsOf, flat}
-use Rattle.words.proofs.Records.{length-records, rows-flat, length-flat}
+use Rattle.words.proofs.Records.{length-records, rows-flat}
 use Rattle.theory.specs.Rows.{Row}
 use Rattle.theory.specs.Number.{FirstPlace}
 use Rattle.flow.specs.Match.{matchOf, isEmpty, rightMatch}
@@ -19,7 +19,7 @@ use Rattle.action.specs.Action.{kindOf, rateOf, actionOf, rightAction}
 use Rattle.action.specs.declared.Action.{Action}
 use Rattle.action.proofs.Words.{words-of-action, right-words}
 use Rattle.row.specs.Row.{rowLength, mostRows, kindPlace, ratePlace, rowOf, rowAction, rowWords, rightRow, rightRowMatch, rightRowAction, RightRow, rowsIn}
-use Rattle.row.proofs.Rows.{row-back, row-long, words-back}
+use Rattle.row.proofs.Rows.{row-back, row-long, words-count, words-back}
 use Rattle.table.specs.Table.{wrongTable, wrongRow, rowCount, past, rightLength, checkFrom, checkRows, checkOf, rowAt, RightTable}
 use Rattle.table.specs.Theorems.{CheckExactly, CheckFirst, TableRows, TableWords, RowsRead, RowsWritten}
 use Rattle.table.specs.declared.Checked.the-variants.{Rows, Wrong}
@@ -176,7 +176,7 @@ pub rows-read : RowsRead
 rows-read = rows-flat rowLength rowOf row-some rowWords row-long row-back
 
 -- row i of the words of rows
-flat-at : (N : List (Row Match Action)) (i : ℕ) → i < length N → rowAt (flat rowWords N) i ≡ rowWords (getD N i past)
+pub flat-at : (N : List (Row Match Action)) (i : ℕ) → i < length N → rowAt (flat rowWords N) i ≡ rowWords (getD N i past)
 flat-at [] i h = absurd (omega arith)
 flat-at (r ∷ N) zero h = take-at (rowWords r) (flat rowWords N) rowLength (row-long r)
 flat-at (r ∷ N) (suc i) h =
@@ -188,7 +188,7 @@ flat-at (r ∷ N) (suc i) h =
 
 pub table-words : TableWords
 table-words N f h =
-    let e : length (flat rowWords N) ≡ length N * rowLength = length-flat rowLength rowOf row-some rowWords row-long row-back N in
+    let e : length (flat rowWords N) ≡ length N * rowLength = words-count N in
     record {
       whole = rw e (omega arith);
       few = rw e (omega arith);

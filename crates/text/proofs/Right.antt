@@ -13,7 +13,7 @@ use Rattle.table.proofs.Tables.{check-exactly, table-words}
 use Rattle.compile.specs.Compile.{compiledRows, tableAfter}
 use Rattle.compile.specs.Theorems.{AnswerTells}
 use Rattle.compile.proofs.Answered.{answers-rows}
-use Rattle.compile.proofs.Settling.{words-count}
+use Rattle.row.proofs.Rows.{words-count}
 use Rattle.text.specs.Theorems.{TableRight}
 
 pub table-right : TableRight
