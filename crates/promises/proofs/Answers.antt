@@ -78,6 +78,7 @@ use Rattle.compile.proofs.compile.Reads as compile
 use Rattle.line.proofs.put_line.Reads as put-line
 use Rattle.line.proofs.put_head.Reads as put-head
 use Rattle.line.proofs.put_refusal.Reads as put-refusal
+use Rattle.sheet.proofs.list_table.Reads as list-table
 use Rattle.text.proofs.list.Reads as list
 use Rattle.text.proofs.list_whole.Reads as list-whole
 use Rattle.wire.proofs.low.Reads as low
@@ -335,6 +336,10 @@ put-head-one = fixed (λ κ a r s p. both (p .end) (p .bytes))
 
 put-refusal-one : OneAnswer put-refusal.Pre put-refusal.Post (λ κ r s. answerWith r (now (s .0)))
 put-refusal-one = fixed (λ κ a r s p. both (p .end) (p .bytes))
+
+-- sheet
+list-table-one : OneAnswer list-table.Pre list-table.Post (λ κ r s. answerWith r (now (s .1 .0)))
+list-table-one = fixed (λ κ a r s p. both (p .end) (p .bytes))
 
 -- text
 list-one : OneAnswer list.Pre list.Post (λ κ r s. answerWith r (now (s .1 .0)))

@@ -37,7 +37,8 @@ use Rattle.tree.specs.declared.Evaluated.the-variants as evaluated
 use Rattle.priority.specs.Numbering.{Ready}
 use Rattle.compile.specs.Compile.{noRoom, room, tableAfter}
 use Rattle.row.proofs.Rows.{words-count}
-use Rattle.text.specs.Listing.{listingRoom, blank, listingOf, rowsText}
+use Rattle.sheet.specs.Sheet.{listingRoom, rowsText}
+use Rattle.text.specs.Listing.{blank, listingOf}
 use Rattle.text.proofs.Lists.{lists-rows, lists-refused}
 use Rattle.promises.specs.Hidden.{rowIn, Inside, Hidden, Passed, PassRefused, PassListed, KeptObeysTree, HiddenRows}
 use Rattle.promises.proofs.Demand1.{demand-1}

@@ -16,7 +16,7 @@ use Rattle.compile.specs.Compile.{noRoom, room, compiledRows, answerOf}
 use Rattle.compile.specs.declared.Compiled.{Compiled}
 use Rattle.compile.specs.declared.Compiled.the-variants.{Rows, Refused}
 use Rattle.text.specs.Listing.{wrongInput, rightInput, blank, listingOf}
-use Rattle.text.specs.Listing as listing
+use Rattle.sheet.specs.Sheet.{listingRoom}
 use Rattle.text.proofs.Lists.{lists-rows, lists-refused, refused-input}
 use Rattle.promises.specs.Told.{between}
 use Rattle.promises.specs.Prints.{PrintsRows, PrintsRefusal, EveryListing}
@@ -36,7 +36,7 @@ scratch-number f t s r h q = by-reading f
 -- and so of a compile in the listing's buffers
 listed-number : (f : List ℕ) (r : Refusal) → answerOf f blank blank ≡ Refused r → between 1 10 (r .number) ⊎ (r .number ≡ noRoom)
 listed-number f r =
-    let k : length blank ≡ rowLength * listing.listingRoom = length-replicate {A = ℕ} (rowLength * listing.listingRoom) 0 in
+    let k : length blank ≡ rowLength * listingRoom = length-replicate {A = ℕ} (rowLength * listingRoom) 0 in
     scratch-number f blank blank r (omega arith)
 
 pub every-listing : EveryListing

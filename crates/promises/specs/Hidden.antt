@@ -41,7 +41,8 @@ use Rattle.priority.specs.Numbering.{priority}
 use Rattle.compile.specs.Compile.{noRoom, compiledRows, answerOf, tableAfter}
 use Rattle.compile.specs.declared.Compiled.the-variants as compiled
 use Rattle.line.specs.Text.{refusal}
-use Rattle.text.specs.Listing.{listingRoom, rightInput, blank, listingOf, rowsText}
+use Rattle.sheet.specs.Sheet.{listingRoom, rowsText}
+use Rattle.text.specs.Listing.{rightInput, blank, listingOf}
 
 -- row i of a table
 abbrev pub rowIn : List ℕ → ℕ → Row Match Action

@@ -6,9 +6,9 @@ use mathlib.Core.Bool.{Bool, true, not, _&&_}
 use mathlib.Core.List.{List, [], _∷_, _++_, map}
 use lib.Dec.{eqb, leb}
 use lib.ListN.{length, getD, take, drop, length-drop, length-map, take-append-drop, List·getD-map, List·getD-eq-default}
-use lib.Seq.{drop-drop, take-at, drop-at, length-take-le}
+use lib.Seq.{drop-drop, take-at, take-all, drop-at, length-take-le}
 use borrow.Author.Tests.{eqb-true, eq-eqb, leb-true, le-leb, not-true, not-false}
-use Rattle.logic.proofs.Tests.{by-test, and-left, and-right, and-both}
+use Rattle.logic.proofs.Tests.{by-test, by-le, and-left, and-right, and-both}
 use Rattle.words.specs.Records.{records, rowsOf, flat}
 use Rattle.words.proofs.Records.{length-records, rows-flat}
 use Rattle.theory.specs.Rows.{Row}
@@ -18,7 +18,7 @@ use Rattle.flow.specs.declared.Match.{Match}
 use Rattle.action.specs.Action.{kindOf, rateOf, actionOf, rightAction}
 use Rattle.action.specs.declared.Action.{Action}
 use Rattle.action.proofs.Words.{words-of-action, right-words}
-use Rattle.row.specs.Row.{rowLength, mostRows, kindPlace, ratePlace, rowOf, rowAction, rowWords, rightRow, rightRowMatch, rightRowAction, RightRow, rowsIn}
+use Rattle.row.specs.Row.{rowLength, mostRows, kindPlace, ratePlace, rowOf, rowAction, rowWords, rightRow, rightRowMatch, rightRowAction, RightRow, rowsIn, tableRows}
 use Rattle.row.proofs.Rows.{row-back, row-long, words-count, words-back}
 use Rattle.table.specs.Table.{wrongTable, wrongRow, rowCount, past, rightLength, checkFrom, checkRows, checkOf, rowAt, RightTable}
 use Rattle.table.specs.Theorems.{CheckExactly, CheckFirst, TableRows, TableWords, RowsRead, RowsWritten}
@@ -212,3 +212,11 @@ unfolding rowsOf
 rows-written ws t =
     let n : length (each ws) ≡ rowCount ws = length-records (rowCount ws) rowLength ws in
     words-again (rowCount ws) ws (omega (arith, t .whole)) (λ j h. right-each ws t j (omega arith))
+
+-- rows at the front of a table that are a right table fit into it
+pub rows-within : (n : ℕ) (t : List ℕ) → checkOf (tableRows n t) ≡ Rows n → n * rowLength ≤ length t
+rows-within n t e =
+    let q : n ≡ rowCount (tableRows n t) = check-exactly (tableRows n t) n .0 e .1 in
+    by-le (n * rowLength) (length t) (λ h. h) (λ h.
+    let z : n ≡ rowCount t = q ∙ ap rowCount (take-all (n * rowLength) t (omega arith)) in
+    absurd (omega arith))

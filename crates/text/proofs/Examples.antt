@@ -17,7 +17,8 @@ use Rattle.hidden.specs.Hidden.{keptWords, keptOf, tableKept}
 use Rattle.priority.specs.Numbering.{over, levelsOf, numberOf}
 use Rattle.compile.specs.Compile.{compiledRows, answerOf, tableAfter}
 use Rattle.line.specs.Text.{digits, decimal, number, value, address, matchText, actionText, line, head, refusal}
-use Rattle.text.specs.Listing.{rightInput, tableText, shownText, fileText, listingOf}
+use Rattle.sheet.specs.Sheet.{tableText}
+use Rattle.text.specs.Listing.{rightInput, shownText, fileText, listingOf}
 use Rattle.text.specs.Theorems.{ExamplesListed}
 
 pub examples-listed : ExamplesListed

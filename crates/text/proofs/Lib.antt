@@ -1,4 +1,3 @@
-pub mod Turns
 pub mod Right
 pub mod Listed
 pub mod Lists

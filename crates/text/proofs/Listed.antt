@@ -5,17 +5,14 @@ use mathlib.Core.Path.{_≡_, sym, ap, ap₂, subst, _∙_}
 use mathlib.Core.Bool.{true, false, and-eq-true-iff}
 use mathlib.Core.List.{List}
 use lib.ListN.{length, take}
-use lib.Seq.{take-all}
 use borrow.Author.Tests.{leb-true}
-use Rattle.logic.proofs.Tests.{by-le}
-use Rattle.words.specs.Words.{laid, copied}
+use Rattle.words.specs.Words.{copied}
 use Rattle.words.specs.Bytes.{wordBytes, wordsIn}
-use Rattle.words.proofs.Laid.{copied-fits, length-copied, length-laid, take-laid}
+use Rattle.words.proofs.Laid.{copied-fits, length-copied, take-laid}
 use Rattle.words.proofs.Bytes.{length-words}
-use Rattle.row.specs.Row.{rowLength, mostRows, rowsIn, tableRows}
-use Rattle.table.specs.Table.{rowCount, checkOf}
-use Rattle.table.specs.declared.Checked.the-variants as checked
-use Rattle.table.proofs.Tables.{check-exactly}
+use Rattle.row.specs.Row.{rowLength, mostRows, tableRows}
+use Rattle.table.specs.Table.{checkOf}
+use Rattle.table.proofs.Tables.{rows-within}
 use Rattle.hidden.specs.Hidden.{keptOf, tableKept}
 use Rattle.hidden.specs.Theorems.{KeptTells}
 use Rattle.hidden.specs.declared.Kept.{Kept}
@@ -28,15 +25,10 @@ use Rattle.compile.specs.declared.Compiled.{Compiled}
 use Rattle.compile.specs.declared.Compiled.the-variants.{Rows}
 use Rattle.compile.specs.declared.Compiled.the-variants as compiled
 use Rattle.compile.proofs.Answered.{answers-rows}
-use Rattle.priority.specs.Numbering.{prioritiesOf, numberOf, Answered, Ready}
-use Rattle.priority.specs.declared.Numbered.{Numbered}
-use Rattle.priority.specs.declared.Numbered.the-variants as numbered
-use Rattle.priority.proofs.After.{number-ready, priorities-left}
-use Rattle.priority.proofs.Whole.{priorities-many}
-use Rattle.line.specs.Text.{head, refusal}
+use Rattle.line.specs.Text.{refusal}
 use Rattle.line.specs.Puts.{Puts}
-use Rattle.line.proofs.Putting.{_then_}
-use Rattle.text.specs.Listing.{wrongInput, listingRoom, longestInput, rightInput, lines, blank, tableText, shownText, fileText}
+use Rattle.sheet.specs.Sheet.{tableText}
+use Rattle.text.specs.Listing.{wrongInput, longestInput, rightInput, blank, shownText, fileText}
 use Rattle.text.specs.Listing.{listingOf}
 use Rattle.text.proofs.Right.{table-right}
 
@@ -66,14 +58,6 @@ module _ (b : List ℕ) (right : rightInput b ≡ true) where
 pub input-refused : (b : List ℕ) {l m : List ℕ} {r : ℕ} → rightInput b ≡ false → Puts (refusal wrongInput 0) l 0 m r → Puts (listingOf b) l 0 m r
 unfolding listingOf
 input-refused b e p = rw e p
-
--- rows at the front of a table that are a right table fit into it
-rows-within : (n : ℕ) (t : List ℕ) → checkOf (tableRows n t) ≡ checked.Rows n → n * rowLength ≤ length t
-rows-within n t e =
-    let q : n ≡ rowCount (tableRows n t) = check-exactly (tableRows n t) n .0 e .1 in
-    by-le (n * rowLength) (length t) (λ h. h) (λ h.
-    let z : n ≡ rowCount t = q ∙ ap rowCount (take-all (n * rowLength) t (omega arith)) in
-    absurd (omega arith))
 
 -- the table of a file, where the compile answers rows
 module _ {f t s t′ s′ : List ℕ} {r : Compiled} (c : Compiles f t s t′ s′ r) where
@@ -118,36 +102,3 @@ module _ (t : List ℕ) {t′ : List ℕ} {r : Kept} (e : r ≡ keptOf t) (w : t
   pub kept-refused : {n j : ℕ} {l m : List ℕ} {i : ℕ} → r ≡ kept.Refused n j → Puts (refusal n j) l 0 m i → Puts (shownText t) l 0 m i
   unfolding shownText
   kept-refused {n} {j} q p = let z : keptOf t ≡ kept.Refused n j = sym e ∙ q in rw z p
-
--- the rows of a table, where the numbering answers a count
-module _ (t ps cs : List ℕ) {ps′ cs′ : List ℕ} {r : Numbered} (c : Answered t ps cs r ps′ cs′) where
-  module _ {l : ℕ} (e : r ≡ numbered.Priorities l) where
-    ready : Ready t ps cs
-    ready = number-ready t ps cs l (sym (c .0) ∙ e)
-
-    stored : ps′ ≡ laid 0 (prioritiesOf t) ps
-    stored = c .1 ∙ priorities-left t ps cs ready
-
-    pub table-within : rowCount t ≤ length ps′
-    table-within =
-        let k : length ps′ ≡ length ps = ap length stored ∙ length-laid 0 (prioritiesOf t) ps in
-        omega (arith, ready .priorities)
-
-    table-numbers : take (rowCount t) ps′ ≡ prioritiesOf t
-    table-numbers = ap (take (rowCount t)) stored ∙ take-laid (prioritiesOf t) ps (rowCount t) (priorities-many t) (ready .priorities)
-
-  module _ (np : length ps ≡ listingRoom) (nc : length cs ≡ listingRoom) where
-    answer-room : r ≡ numberOf t listingRoom listingRoom
-    answer-room = c .0 ∙ ap₂ (numberOf t) np nc
-
-    pub table-listed : {l : ℕ} {o o₁ o₂ : List ℕ} {a b : ℕ} → r ≡ numbered.Priorities l → Puts (head (rowCount t) l) o 0 o₁ a
-        → Puts (lines (take (rowCount t) ps′) (rowsIn t)) o₁ a o₂ b
-        → Puts (tableText t) o 0 o₂ b
-    unfolding tableText
-    table-listed {l} {o} {o₁} {o₂} {a} {b} e p q =
-        let k : numberOf t listingRoom listingRoom ≡ numbered.Priorities l = sym answer-room ∙ e in
-        rw k (p then subst (λ x. Puts (lines x (rowsIn t)) o₁ a o₂ b) (table-numbers e) q)
-
-    pub table-refused : {n i : ℕ} {o o₁ : List ℕ} {a : ℕ} → r ≡ numbered.Refused n i → Puts (refusal n i) o 0 o₁ a → Puts (tableText t) o 0 o₁ a
-    unfolding tableText
-    table-refused {n} {i} e p = let k : numberOf t listingRoom listingRoom ≡ numbered.Refused n i = sym answer-room ∙ e in rw k p

@@ -31,8 +31,9 @@ use Rattle.priority.specs.declared.Numbered.the-variants.{Priorities}
 use Rattle.priority.proofs.Whole.{priorities-many}
 use Rattle.line.specs.Text.{line, head, longestLine}
 use Rattle.line.specs.Puts.{stop, Puts}
-use Rattle.text.specs.Listing.{wrongInput, listingRoom, longestInput, rightInput, lines, blank, tableText, shownText, fileText}
-use Rattle.text.specs.Listing.{listingOf, ListsWhole, longestListing, rowsText, ListedRows}
+use Rattle.sheet.specs.Sheet.{listingRoom, lines, tableText, rowsText}
+use Rattle.text.specs.Listing.{wrongInput, longestInput, rightInput, blank, shownText, fileText}
+use Rattle.text.specs.Listing.{listingOf, ListsWhole, longestListing, ListedRows}
 use Rattle.text.specs.Theorems.{ListsRows, ListsRefused, RefusedInput, NeverCut, WrittenWhole, KnownByFirst}
 use Rattle.line.proofs.Lengths.{line-within, head-within, refusal-within}
 use Rattle.text.proofs.Right.{table-right}

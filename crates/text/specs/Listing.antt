@@ -1,31 +1,23 @@
 -- The listing: for every input, however broken, the one text that answers it. See docs/FORMAT.md, "The listing".
 --
 --   wrongInput          the number of an input that is no file
---   listingRoom                the rows that the listing has room for
 --   longestInput        the bytes of the longest file
 --   rightInput b        whole words, and not more than the longest file has
---   lines ps rs         rows, each with its priority
---   tableText t         the listing of a table
 --   shownText t         the listing of compiled rows, without the hidden ones
 --   fileText f          the listing of a policy file
 --   listingOf b         the listing of an input
 --   longestListing      no listing has more bytes
---   rowsText n t        the listing of a table t of n rows: the head, and a line for each row
 --   ListedRows f n t    the listing of the file f is that, and t has n rows and n priorities
 --   ListedKept f t      the listing of the file f has those of the rows t that are not hidden
 --   ListsWhole a n l m r   m is l with the listing at its start, up to r: whole, of every input that was read into a
 use Prim.Native.Nat.{ℕ, _+_, _*_, _%_, _≤_}
 use mathlib.Core.Path.{_≡_}
 use mathlib.Core.Bool.{Bool, cond, _&&_}
-use mathlib.Core.List.{List, [], _∷_, _++_}
+use mathlib.Core.List.{List}
 use lib.Dec.{eqb, leb}
 use lib.ListN.{length, replicate, take}
-use Rattle.theory.specs.Rows.{Row}
-use Rattle.flow.specs.declared.Match.{Match}
-use Rattle.action.specs.declared.Action.{Action}
 use Rattle.words.specs.Bytes.{wordBytes, wordsIn}
 use Rattle.row.specs.Row.{rowLength, rowsIn, tableRows}
-use Rattle.table.specs.Table.{rowCount}
 use Rattle.hidden.specs.Hidden.{keptOf, tableKept}
 use Rattle.hidden.specs.declared.Kept.{Kept}
 use Rattle.hidden.specs.declared.Kept.the-variants as kept
@@ -33,20 +25,14 @@ use Rattle.section.specs.Numbers.{longestFile}
 use Rattle.compile.specs.Compile.{answerOf, tableAfter}
 use Rattle.compile.specs.declared.Compiled.{Compiled}
 use Rattle.compile.specs.declared.Compiled.the-variants as compiled
-use Rattle.theory.specs.Number.{levelCount}
-use Rattle.priority.specs.Numbering.{levelsOf, numberOf, prioritiesOf}
-use Rattle.priority.specs.declared.Numbered.{Numbered}
-use Rattle.priority.specs.declared.Numbered.the-variants as numbered
-use Rattle.line.specs.Text.{longestLine, line, head, refusal}
+use Rattle.priority.specs.Numbering.{prioritiesOf}
+use Rattle.line.specs.Text.{longestLine, refusal}
 use Rattle.line.specs.Puts.{Puts}
+use Rattle.sheet.specs.Sheet.{listingRoom, tableText, rowsText}
 
 -- the number of an input that is not whole words, or too long
 abbrev pub wrongInput : ℕ
 wrongInput = 18
-
--- the rows that the listing has room for
-abbrev pub listingRoom : ℕ
-listingRoom = 1024
 
 -- the bytes of the longest file
 abbrev pub longestInput : ℕ
@@ -59,21 +45,6 @@ rightInput b = eqb (length b % wordBytes) 0 && leb (length b) longestInput
 -- the table, and the scratch, before the compile
 abbrev pub blank : List ℕ
 blank = replicate (rowLength * listingRoom) 0
-
--- rows in scan order, each with its priority
-abbrev pub lines : List ℕ → List (Row Match Action) → List ℕ
-lines [] rs = []
-lines (p ∷ ps) [] = []
-lines (p ∷ ps) (r ∷ rs) = line p r ++ lines ps rs
-
--- what is shown of a table, by what the numbering answers
-abbrev pub numberedText : List ℕ → Numbered → List ℕ
-numberedText t (numbered.Priorities l) = head (rowCount t) l ++ lines (prioritiesOf t) (rowsIn t)
-numberedText t (numbered.Refused n i) = refusal n i
-
--- the listing of a table
-unfoldable pub tableText : List ℕ → List ℕ
-tableText t = numberedText t (numberOf t listingRoom listingRoom)
 
 -- what is shown of compiled rows, by what the pass that takes hidden rows out answers and the table that it leaves
 abbrev pub keptText : List ℕ → Kept → List ℕ
@@ -107,10 +78,6 @@ pub record ListsWhole (array : List ℕ) (n : ℕ) (before after : List ℕ) (r 
 -- no listing is longer than so many lines: the head, and one for each row
 abbrev pub longestListing : ℕ
 longestListing = longestLine * (listingRoom + 1)
-
--- the head, and a line for each row with its priority
-abbrev pub rowsText : ℕ → List ℕ → List ℕ
-rowsText n t = head n (levelCount (levelsOf t)) ++ lines (prioritiesOf t) (rowsIn t)
 
 -- the text, and that no row and no priority is left over
 pub record ListedRows (f : List ℕ) (n : ℕ) (t : List ℕ) : Type 0 where

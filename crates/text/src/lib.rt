@@ -2,30 +2,22 @@
 ghost use mathlib.Core.Path.{_≡_};
 ghost use Prim.Native.Nat.{_≤_};
 ghost use lib.ListN.{length, take};
-ghost use Rattle.table.specs.Table.{rowCount};
 ghost use Rattle.line.specs.Puts.{Puts};
-ghost use Rattle.text.specs.Listing.{rightInput, lines, tableText, shownText, fileText, listingOf};
-ghost use Rattle.text.specs.Listing.{ListsWhole};
-ghost use Rattle.row.specs.Row.{rowsIn};
+ghost use Rattle.text.specs.Listing.{rightInput, shownText, fileText, listingOf, ListsWhole};
 use compile::Compiled;
 use compile::compile;
 use hidden::Kept;
 use hidden::drop_hidden;
-use line::put_head;
-use line::put_line;
 use line::put_refusal;
-use priority::Numbered;
-use priority::number;
 use row::ROW_WORDS;
 use section::LONGEST_FILE;
+use sheet::ROOM;
+use sheet::list_table;
 use words::WORD_BYTES;
 use words::from_bytes;
 
 // The number of the refusal: bytes that are not whole words, or too many.
 pub const WRONG_INPUT: u32 = 18;
-
-// The rows that the listing has room for.
-pub const ROOM: usize = 1024;
 
 // How many bytes the longest input has.
 pub const LONGEST_INPUT: usize = WORD_BYTES * LONGEST_FILE;
@@ -96,41 +88,6 @@ fn list_rows(table: &mut [u32], out: &mut [u8]) -> usize
         Kept::Rows(kept) => list_table(&table[..kept * ROW_WORDS], out),
         Kept::Refused { number, place } => put_refusal(out, number, place),
     }
-}
-
-// The listing of a table.
-fn list_table(table: &[u32], out: &mut [u8]) -> usize
-    ensures { λ r. ⌜ Puts (tableText (now (table .entry))) (now (out .entry)) 0 (now (out .exit)) r ⌝ }
-{
-    let mut priorities = [0u32; ROOM];
-    let mut chain = [0u32; ROOM];
-    let rows = table.len() / ROW_WORDS;
-    match number(table, &mut priorities, &mut chain) {
-        Numbered::Priorities(count) => {
-            let at = put_head(out, rows, count);
-            put_lines(out, at, &priorities[..rows], table)
-        }
-        Numbered::Refused { number, place } => put_refusal(out, number, place),
-    }
-}
-
-// A line for each row, with its priority.
-fn put_lines(out: &mut [u8], at: usize, priorities: &[u32], table: &[u32]) -> usize
-    requires { ⌜ length (now priorities) ≡ rowCount (now table) ⌝ }
-    ensures { λ r. ⌜ Puts (lines (now (priorities .entry)) (rowsIn (now (table .entry)))) (now (out .entry)) at
-        (now (out .exit)) r ⌝ }
-{
-    let mut to = at;
-    let mut from = 0;
-    let mut i = 0;
-    // The lines of the first i rows are put, as far as they fit; to is where the next one goes, from where its row is.
-    while i < priorities.len() {
-        let end = from + ROW_WORDS;
-        to = put_line(out, to, priorities[i], &table[from..end]);
-        from = end;
-        i += 1;
-    }
-    to
 }
 
 // Whether an input is whole words, and not longer than the longest file.

@@ -1,4 +1,4 @@
--- `text::put_lines` meets its contract: the lines still to be put, over what is there, are the whole.
+-- `sheet::put_lines` meets its contract: the lines still to be put, over what is there, are the whole.
 -- Assumes nothing.
 use borrow.Author.Needs.{needs}
 use native.Mathlib.Omega.{arith}
@@ -6,9 +6,9 @@ use Prim.Native.Nat.{_*_, _-_, _≤_}
 use mathlib.Core.Path.{_≡_}
 use lib.ListN.{length}
 use Rattle.row.specs.Row.{rowLength}
-use Rattle.text.proofs.Turns.{LinesAhead, lines-start, lines-turn, lines-end}
-use Rattle.text.proofs.put_lines.Statement.{statement}
-use Rattle.text.proofs.put_lines.Tie as tie
+use Rattle.sheet.proofs.Turns.{LinesAhead, lines-start, lines-turn, lines-end}
+use Rattle.sheet.proofs.put_lines.Statement.{statement}
+use Rattle.sheet.proofs.put_lines.Tie as tie
 
 abbrev Inv-loop : tie.InvT-loop
 Inv-loop out₀ at priorities table to₀ from₀ i₀ out to from i =

@@ -11,7 +11,7 @@ use Rattle.row.specs.Row.{rowLength, rowOf, rowsIn}
 use Rattle.line.specs.Text.{line}
 use Rattle.line.specs.Puts.{Puts}
 use Rattle.line.proofs.Putting.{Ahead, ahead-start, ahead-step, ahead-end}
-use Rattle.text.specs.Listing.{lines}
+use Rattle.sheet.specs.Sheet.{lines}
 
 -- lines are still to be put from row i on, whose words stand from a place on
 pub record LinesAhead (ps ws : List ℕ) (i from : ℕ) (m : List ℕ) (b : ℕ) (l : List ℕ) (a : ℕ) : Type 0 where

@@ -1,16 +1,16 @@
--- `text::list_table` meets its contract: the first line and the lines are the text of a table that is numbered.
+-- `sheet::list_table` meets its contract: the first line and the lines are the text of a table that is numbered.
 -- Assumes nothing.
 use Prim.Native.Nat.{ℕ}
 use mathlib.Core.Path.{refl, sym}
 use lib.Seq.{length-take-le}
-use Rattle.text.proofs.Listed.{table-within, table-listed, table-refused}
+use Rattle.sheet.proofs.Listed.{table-within, table-listed, table-refused}
 use borrow.Author.Needs.{needs}
 use mathlib.Core.List.{List}
 use denote.Ref.{now}
 use lib.ListN.{replicate}
-use Rattle.text.specs.Listing.{listingRoom}
-use Rattle.text.proofs.list_table.Statement.{statement}
-use Rattle.text.proofs.list_table.Tie as tie
+use Rattle.sheet.specs.Sheet.{listingRoom}
+use Rattle.sheet.proofs.list_table.Statement.{statement}
+use Rattle.sheet.proofs.list_table.Tie as tie
 
 -- both buffers before the numbering
 abbrev none : List ℕ
