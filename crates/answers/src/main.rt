@@ -2,10 +2,10 @@
 // What a call and its answer look like stands in tests/README.md.
 use calls::call_action;
 use calls::call_compile;
-use calls::call_hidden;
 use calls::call_number;
 use calls::call_read;
 use calls::call_scan;
+use passes::call_hidden;
 use text::LONGEST_LISTING;
 use wire::give_bytes;
 use wire::take_bytes;

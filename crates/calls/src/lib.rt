@@ -3,7 +3,6 @@
 // written.
 use replies::reply_action;
 use replies::reply_compile;
-use replies::reply_hidden;
 use replies::reply_number;
 use replies::reply_read;
 use replies::reply_scan;
@@ -62,13 +61,4 @@ pub fn call_number(table: &mut [u32], priorities: &mut [u32], chain: &mut [u32])
         &mut priorities[..t.second],
         &mut chain[..t.third],
     )
-}
-
-// Takes a table: the pass that takes its hidden rows out.
-pub fn call_hidden(table: &mut [u32]) -> bool {
-    let t = take_slice(table);
-    if !t.whole {
-        return false;
-    }
-    reply_hidden(&mut table[..t.count])
 }

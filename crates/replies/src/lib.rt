@@ -5,11 +5,9 @@
 ghost use mathlib.Core.Path.{_≡_};
 ghost use Rattle.compile.specs.Compile.{tableAfter, scratchAfter};
 ghost use Rattle.priority.specs.Numbering.{prioritiesAfter, chainAfter};
-ghost use Rattle.hidden.specs.Hidden.{tableKept};
 use action::Action;
 use action::Law;
 use compile::Compiled;
-use hidden::Kept;
 use policy::Reading;
 use priority::Numbered;
 use refusal::Refusal;
@@ -52,14 +50,6 @@ pub fn reply_number(table: &[u32], priorities: &mut [u32], chain: &mut [u32]) ->
 {
     let numbered = priority::number(table, priorities, chain);
     give_numbered(numbered) & give(priorities) & give(chain)
-}
-
-// Takes the hidden rows out of a table, which is written too.
-pub fn reply_hidden(table: &mut [u32]) -> bool
-    ensures { λ r. ⌜ now (table .exit) ≡ tableKept (now (table .entry)) ⌝ }
-{
-    let kept = hidden::drop_hidden(table);
-    give_kept(kept) & give(table)
 }
 
 // What was read of a file: its three counts.
@@ -106,14 +96,6 @@ fn give_numbered(numbered: Numbered) -> bool {
     match numbered {
         Numbered::Priorities(count) => give(&[0, 0, count]),
         Numbered::Refused { number, place } => give(&[number, low(place), 0]),
-    }
-}
-
-// How many rows stay.
-fn give_kept(kept: Kept) -> bool {
-    match kept {
-        Kept::Rows(rows) => give(&[0, 0, low(rows)]),
-        Kept::Refused { number, place } => give(&[number, low(place), 0]),
     }
 }
 

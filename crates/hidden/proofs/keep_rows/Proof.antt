@@ -22,7 +22,7 @@ loop-holds c = (omega arith, keeping-start _)
 slice-aggregate-inside-one : tie.Need-slice-aggregate-inside-one Inv-loop μ-loop
 slice-aggregate-inside-one c =
     let l = c .before .before .before .before .before .before .loop in
-    sym (length-take-le (l .to) (l .table) (omega arith))
+    sym (length-take-le _ (l .table) (omega arith))
 
 loop-less : tie.Need-loop-less Inv-loop μ-loop
 loop-less c = let same = same-after _ _ _ (c .before .before .copy .ensures) in omega arith
