@@ -48,11 +48,9 @@ fn keep_rows(table: &mut [u32]) -> usize
     // Of the rows before from, those that stay stand before to; the rows from there on are as they were.
     while ROW_WORDS <= table.len() - from {
         let end = from + ROW_WORDS;
-        let row = &table[from..end];
-        let m = read_match(row);
-        let a = row_action(row);
+        let m = read_match(&table[from..end]);
         if !inside_one(m, &table[..to]) {
-            let words = words_of_row(m, a);
+            let words = words_of_row(m, row_action(&table[from..end]));
             copy(table, to, &words);
             to += ROW_WORDS;
         }

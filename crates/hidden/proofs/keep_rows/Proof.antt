@@ -21,7 +21,7 @@ loop-holds c = (omega arith, keeping-start _)
 
 slice-aggregate-inside-one : tie.Need-slice-aggregate-inside-one Inv-loop μ-loop
 slice-aggregate-inside-one c =
-    let l = c .before .before .before .before .before .before .loop in
+    let l = c .before .before .before .before .before .loop in
     sym (length-take-le _ (l .table) (omega arith))
 
 loop-less : tie.Need-loop-less Inv-loop μ-loop
@@ -31,13 +31,13 @@ loop-again : tie.Need-loop-again Inv-loop μ-loop
 loop-again c =
     let copy = c .before .before .copy in
     let words = c .before .before .before .before .before .words-of-row in
-    let test = c .before .before .before .before .before .before in
+    let taken = c .before .before .before .before .before .before in
+    let test = taken .before .before .before in
     let asked = test .before in
     let read = asked .before .before in
-    let turn = read .before .before .before .before in
-    let l = turn .before .loop in (
+    let l = read .before .before .before .before .loop in (
       omega (arith, same-after _ _ _ (copy .ensures)),
-      keeping-stays (l .inv .1) (omega arith) _ (read .before .read-match .ensures) _ (asked .inside-one .ensures) _ (read .row-action .ensures)
+      keeping-stays (l .inv .1) (omega arith) _ (read .read-match .ensures) _ (asked .inside-one .ensures) _ (taken .row-action .ensures)
           _ (words .ensures) _ (copy .ensures) (test .if1 .taken),
     )
 
@@ -45,8 +45,8 @@ loop-again-2 : tie.Need-loop-again-2 Inv-loop μ-loop
 loop-again-2 c =
     let asked = c .before in
     let read = asked .before .before in
-    let l = read .before .before .before .before .before .loop in
-    (omega arith, keeping-goes (l .inv .1) (omega arith) _ (read .before .read-match .ensures) _ (asked .inside-one .ensures) (c .if1 .left))
+    let l = read .before .before .before .before .loop in
+    (omega arith, keeping-goes (l .inv .1) (omega arith) _ (read .read-match .ensures) _ (asked .inside-one .ensures) (c .if1 .left))
 
 same-length : tie.Need-same-length Inv-loop μ-loop
 same-length c = keeping-length (c .before .loop .inv .1)
@@ -58,5 +58,5 @@ pub keep-rows-spec : {M : Type 1} → statement M
 keep-rows-spec =
     tie.close
     (tie.spec Inv-loop μ-loop loop-holds (search needs) (search needs) (search needs) (search needs) (search needs) (search needs) (search needs)
-    (search needs) (search needs) slice-aggregate-inside-one (search needs) (search needs) (search needs) (search needs) (search needs)
-    loop-less loop-again (search needs) loop-again-2 same-length returns)
+    (search needs) slice-aggregate-inside-one (search needs) (search needs) (search needs) (search needs) (search needs) (search needs)
+    (search needs) (search needs) (search needs) (search needs) loop-less loop-again (search needs) loop-again-2 same-length returns)
