@@ -45,7 +45,8 @@ module _ (ws : List ℕ) (n : ℕ) (e : checkOf ws ≡ checked.Rows n) where
       let k : length (keptWords ws) ≡ length (keptRows ws) * rowLength = kept-long ws in
       let rest : List ℕ = zeros (length ws - length (keptWords ws)) in
       let after : tableKept ws ≡ keptWords ws ++ rest = ap (tableBy ws) e in
-      let front : tableRows (length (keptRows ws)) (tableKept ws) ≡ keptWords ws = ap (take (length (keptRows ws) * rowLength)) after ∙ take-at (keptWords ws) rest _ k in
+      let front : tableRows (length (keptRows ws)) (tableKept ws) ≡ keptWords ws =
+      ap (take (length (keptRows ws) * rowLength)) after ∙ take-at (keptWords ws) rest _ k in
       record {
         right = right;
         count = refl;

@@ -80,7 +80,8 @@ module _ (ws : List ℕ) (right : RightTable ws) where
 
     hidden-found : insideEarlier inside past (rowsIn ws) i ≡ true → Hidden ws i
     hidden-found e =
-        let s : InsideSome inside past (rowIn ws i .match) (take i (rowsIn ws)) = one-exactly Action inside past (rowIn ws i .match) (take i (rowsIn ws)) .0 e in
+        let s : InsideSome inside past (rowIn ws i .match) (take i (rowsIn ws)) =
+        one-exactly Action inside past (rowIn ws i .match) (take i (rowsIn ws)) .0 e in
         let b : s .place < i = omega (arith, s .within, before) in record {
           earlier = s .place;
           before = b;
@@ -219,7 +220,8 @@ pass-listed = record {
       let l = lists-rows (wordsIn b) n e in
       let same : l .count ≡ k = ap keptCount (sym (l .stay) ∙ q) in
       rw t (l .listed .text ∙ ap (λ m. rowsText m (tableRows m (tableKept (tableRows n (tableAfter (wordsIn b) blank blank))))) same);
-  room = λ b l t e h. rw t (lists-refused (wordsIn b) (plain noRoom 0) (demand-2 .for-room (wordsIn b) blank blank l e (omega (arith, blank-room)) .1 (omega (arith, blank-room))));
+  room = λ b l t e h. rw t (lists-refused (wordsIn b) (plain noRoom 0)
+      (demand-2 .for-room (wordsIn b) blank blank l e (omega (arith, blank-room)) .1 (omega (arith, blank-room))));
   in-room = λ b l t e h. demand-2 .compiles (wordsIn b) blank blank l e (omega (arith, blank-room)) (omega (arith, blank-room));
 }
 

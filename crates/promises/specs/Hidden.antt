@@ -99,7 +99,8 @@ pub record PassRefused : Type 0 where
 
 pub record PassListed : Type 0 where
   -- "The listing runs it before numbering;": of the compiled rows those that stay are numbered and listed
-  pub before-numbering : (b : List ℕ) (n k : ℕ) → rightInput b ≡ true → answerOf (wordsIn b) blank blank ≡ compiled.Rows n
+  pub before-numbering : (b : List ℕ) (n k : ℕ) → rightInput b ≡ true
+      → answerOf (wordsIn b) blank blank ≡ compiled.Rows n
       → let ws : List ℕ = tableRows n (tableAfter (wordsIn b) blank blank) in
       keptOf ws ≡ Rows k → listingOf b ≡ rowsText k (tableRows k (tableKept ws))
   -- "and refusal 12 still speaks of the rows before the pass.": given where these outnumber the room, and nowhere else

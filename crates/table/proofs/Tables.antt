@@ -18,7 +18,8 @@ use Rattle.flow.specs.declared.Match.{Match}
 use Rattle.action.specs.Action.{kindOf, rateOf, actionOf, rightAction}
 use Rattle.action.specs.declared.Action.{Action}
 use Rattle.action.proofs.Words.{words-of-action, right-words}
-use Rattle.row.specs.Row.{rowLength, mostRows, kindPlace, ratePlace, rowOf, rowAction, rowWords, rightRow, rightRowMatch, rightRowAction, RightRow, rowsIn, tableRows}
+use Rattle.row.specs.Row.{rowLength, mostRows, kindPlace, ratePlace, rowOf, rowAction, rowWords, rightRow, rightRowMatch, rightRowAction, RightRow}
+use Rattle.row.specs.Row.{rowsIn, tableRows}
 use Rattle.row.proofs.Rows.{row-back, row-long, words-count, words-back}
 use Rattle.table.specs.Table.{wrongTable, wrongRow, rowCount, past, rightLength, checkFrom, checkRows, checkOf, rowAt, RightTable}
 use Rattle.table.specs.Theorems.{CheckExactly, CheckFirst, TableRows, TableWords, RowsRead, RowsWritten}

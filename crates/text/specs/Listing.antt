@@ -7,7 +7,7 @@
 --   fileText f          the listing of a policy file
 --   listingOf b         the listing of an input
 --   longestListing      no listing has more bytes
---   ListedRows f n t    the listing of the file f is that, and t has n rows and n priorities
+--   ListedRows f n t    the listing of the file f is the text of the n rows t, and there are n priorities
 --   ListedKept f t      the listing of the file f has those of the rows t that are not hidden
 --   ListsWhole a n l m r   m is l with the listing at its start, up to r: whole, of every input that was read into a
 use Prim.Native.Nat.{ℕ, _+_, _*_, _%_, _≤_}

@@ -1,8 +1,8 @@
 -- What is proved of the listing. A law of the same name in proofs/ proves each statement: never-cut proves NeverCut.
 --
 --   TableRight                    the rows that the compile leaves pass the table's check, with as many rows
---   ListsRows                     where the compile answers rows, those that are not hidden are listed: neither the pass
---                                 nor the numbering refuses anything
+--   ListsRows                     where the compile answers rows, those that are not hidden are listed: neither the
+--                                 pass nor the numbering refuses anything
 --   ListsRefused                  where the compile refuses, its number and place are listed
 --   RefusedInput                  an input that is no file is 18 at place 0
 --   NeverCut                      no listing is longer than longestListing

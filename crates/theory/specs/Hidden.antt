@@ -1,5 +1,5 @@
--- Hidden rows: a row whose match lies inside one earlier row's match goes, the others stay in order. See docs/FORMAT.md,
--- "Hidden rows".
+-- Hidden rows: a row whose match lies inside one earlier row's match goes, the others stay in order. See
+-- docs/FORMAT.md, "Hidden rows".
 --
 --   insideOne          whether a match lies inside that of one of some rows
 --   stayingAfter       of rows that stand behind others, those that lie inside no row before them

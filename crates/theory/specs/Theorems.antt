@@ -14,9 +14,9 @@
 --   SwitchScan, SwitchPriorities           under a right numbering, so under ours, a switch does what the scan does
 --   SwitchFirst                            the first matching row may be obeyed
 --   ScanHidden                             without the hidden rows the scan is the same
---   HiddenExactly, OneExactly           which rows stay, by place, and what it is to lie inside one of some rows
+--   HiddenExactly, OneExactly              which rows stay, by place, and what it is to lie inside one of some rows
 --   HasWhere, WhereRises                   the places that pass a test are had and no other, each after the one before
---   NoneHidden, HiddenAgain                of what stays no row lies inside an earlier one: a second pass changes nothing
+--   NoneHidden, HiddenAgain                of what stays no row lies inside an earlier one, and all stay once more
 --   HiddenStep                             one row more, asking only the rows that stay
 --   HiddenLess, HiddenEvery                no more rows than before, each with what every row has
 use Prim.Native.Nat.{ℕ, suc, _+_, _*_, _≤_, _<_}

@@ -25,4 +25,6 @@ returns-2 c =
     (wrong-answer (now (g .table)) (check .ensures) wrong, wrong-table (now (g .table)) (check .ensures) wrong)
 
 pub drop-hidden-spec : {M : Type 1} → statement M
-drop-hidden-spec = tie.close (tie.spec (search needs) (search needs) (search needs) (search needs) (search needs) (search needs) returns (search needs) returns-2)
+drop-hidden-spec =
+    tie.close
+    (tie.spec (search needs) (search needs) (search needs) (search needs) (search needs) (search needs) returns (search needs) returns-2)

@@ -32,7 +32,8 @@ returns c =
     let answered = c .before .before .before .before .before .before in
     let pass = answered .before .before .before .before in
     let g = pass .before .before .before .before .args in
-    kept-listed (now (g .table)) (pass .drop-hidden .ensures .0) (pass .drop-hidden .ensures .1) (answered .kept .given .1) (c .before .before .list-table .ensures)
+    kept-listed (now (g .table)) (pass .drop-hidden .ensures .0) (pass .drop-hidden .ensures .1) (answered .kept .given .1)
+    (c .before .before .list-table .ensures)
 
 returns-2 : tie.Need-returns-2
 returns-2 c =
