@@ -45,7 +45,7 @@ fn keep_rows(table: &mut [u32]) -> usize
 {
     let mut from = 0;
     let mut to = 0;
-    // Of the rows before from, those that stay stand before to; the rows from there on are as they were.
+    // Of the rows before from, those that stay stand before to. The rows not yet looked at are as they were.
     while ROW_WORDS <= table.len() - from {
         let end = from + ROW_WORDS;
         let m = read_match(&table[from..end]);
