@@ -37,7 +37,7 @@ module _ {M A : Type 0} (inside : M → M → Bool) where
   abbrev pub insideEarlier : Row M A → List (Row M A) → ℕ → Bool
   insideEarlier d N i = insideOne (getD N i d .match) (take i N)
 
-  -- Row j of the table, whose match m lies inside.
+  -- A row of the table whose match m lies inside, by its place.
   pub record InsideSome (d : Row M A) (m : M) (N : List (Row M A)) : Type 0 where
     pub place : ℕ
     pub within : place < length N
