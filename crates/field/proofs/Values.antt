@@ -56,6 +56,26 @@ value-trans true v true v′ true v″ h k = eq-eqb v″ v (eqb-true v″ v′ k
 value-trans false v true v′ true v″ h k = absurd (false≢true h)
 value-trans on v false v′ true v″ h k = absurd (false≢true k)
 
+-- where one value lies inside another, it is constrained if the other is
+pub value-on : (on : Bool) (v : ℕ) (on′ : Bool) (v′ : ℕ) → valueInside on v on′ v′ ≡ true → on′ ≡ true → on ≡ true
+unfolding valueInside
+value-on true v on′ v′ h e = refl
+value-on false v true v′ h e = h
+value-on false v false v′ h e = e
+
+-- two numbers tell that a value lies inside another: x, which it is where it is constrained, and y, which meets it too where it is not
+pub value-told : (on : Bool) (v : ℕ) (on′ : Bool) (v′ x y : ℕ) → (on ≡ true → x ≡ v) → (on ≡ false → ¬ (x ≡ y))
+    → meetsValue on′ v′ x ≡ true → (on ≡ false → meetsValue on′ v′ y ≡ true) → valueInside on v on′ v′ ≡ true
+unfolding valueInside meetsValue
+value-told on v false v′ x y own apart f g = refl
+value-told true v true v′ x y own apart f g = eq-eqb v′ v (eqb-true v′ x f ∙ own refl)
+value-told false v true v′ x y own apart f g = absurd (apart refl (sym (eqb-true v′ x f) ∙ eqb-true v′ y (g refl)))
+
+-- every number meets a value that is not constrained
+pub meets-free : (on : Bool) (v x : ℕ) → on ≡ false → meetsValue on v x ≡ true
+unfolding meetsValue
+meets-free on v x e = rw e
+
 -- a number other than v, below two
 abbrev other : ℕ → ℕ
 other zero = 1
@@ -71,12 +91,9 @@ other-below (suc v) = omega arith
 
 -- ONE VALUE LIES INSIDE ANOTHER exactly when what meets it meets the other: v itself does, and if v is unconstrained another number too
 pub value-inside-exactly : ValueInsideExactly
-unfolding valueInside meetsValue
-value-inside-exactly limit on v on′ v′ two below = (λ e x h m. value-meets on v on′ v′ x e m, found on on′)
+value-inside-exactly limit on v on′ v′ two below = (λ e x h m. value-meets on v on′ v′ x e m, found)
   where
-    found : (on on′ : Bool) → ((x : ℕ) → x < limit → meetsValue on v x ≡ true → meetsValue on′ v′ x ≡ true) → valueInside on v on′ v′ ≡ true
-    found on false f = refl
-    found true true f = f v below (meets-own-value true v)
-    found false true f =
-        let near : other v < limit = omega (arith, other-below v) in
-        absurd (other-differs v (sym (eqb-true v′ v (f v below refl)) ∙ eqb-true v′ (other v) (f (other v) near refl)))
+    found : ((x : ℕ) → x < limit → meetsValue on v x ≡ true → meetsValue on′ v′ x ≡ true) → valueInside on v on′ v′ ≡ true
+    found f =
+        value-told on v on′ v′ v (other v) (λ _. refl) (λ _. other-differs v) (f v below (meets-own-value on v))
+        (λ e. f (other v) (omega (arith, other-below v)) (meets-free on v (other v) e))

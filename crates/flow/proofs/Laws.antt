@@ -1,32 +1,35 @@
 -- Laws of matches, field by field from the laws of prefixes and values: a conjunction of tests joins part by part. Assumes nothing.
-use mathlib.Core.Path.{_≡_, refl, sym, ap, ap₂, _∙_}
-use mathlib.Core.Bool.{Bool, true, false, cond, not, _&&_, _||_, and-eq-true-iff, or-true}
+use mathlib.Core.Path.{_≡_, refl, sym, ap, _∙_}
+use mathlib.Core.Bool.{Bool, true, false, cond, not, _&&_, _||_, and-eq-true-iff, or-true, false≢true}
 use mathlib.Core.Logic.{⊎-elim}
-use Prim.Native.Nat.{_^_, _≤_, _<_}
+use Prim.Native.Nat.{ℕ, _^_, _≤_, _<_}
 use native.Mathlib.Omega.{arith}
 use lib.Bits.{bitAnd}
 use lib.Dec.{eqb}
-use borrow.Author.Tests.{ltb-true, leb-true, eqb-true, lt-ltb, not-true}
+use borrow.Author.Tests.{ltb-true, leb-true, eqb-true, lt-ltb, not-true, not-false}
 use Rattle.field.specs.Prefix.{addressBits, rightPrefix}
-use Rattle.field.specs.Value.{rightValue}
+use Rattle.field.specs.Value.{meetsValue, rightValue}
 use Rattle.field.proofs.Prefixes.{prefix-joins, in-own, longer-right, longer-within}
-use Rattle.field.proofs.Values.{meets-own-value, common-value-below}
+use Rattle.field.proofs.Values.{meets-own-value, meets-free, common-value-below}
 use Rattle.flow.specs.Packet.{portLimit, protocolLimit, rightPacket}
-use Rattle.flow.specs.Match.{inportFlag, protocolFlag, sourceportFlag, destinationportFlag, knownFlags, emptyFlag, flagged, constrains}
-use Rattle.flow.specs.Match.{isEmpty, isNone, isPlain, rightMatch, meets, overlap, both, none, common, SharedPacket}
-use Rattle.flow.specs.Theorems.{MeetsCommon, MeetsEmpty, OverlapExactly, MeetsOverlap, MetExactly, CommonRight, CommonEmpty}
+use Rattle.flow.specs.Match.{inportFlag, protocolFlag, sourceportFlag, destinationportFlag, portFlags, knownFlags, emptyFlag, flagged, constrains}
+use Rattle.flow.specs.Match.{tcp, hasPorts, meetsPorts, unmet, isEmpty, isNone, isPlain, rightMatch, meets, agree, overlap, both, none, common}
+use Rattle.flow.specs.Match.{SharedPacket}
+use Rattle.flow.specs.Theorems.{MeetsCommon, OverlapExactly, MeetsOverlap, MetExactly, EmptyExactly, CommonRight, CommonEmpty, CommonNone}
 use Rattle.flow.specs.declared.Match.{Match}
 use Rattle.flow.specs.declared.Packet.{Packet}
-use Rattle.flow.proofs.Flags.{flag-or, unset-joins, flagged-joins, flagged-right, known-right, unknown-unset}
+use Rattle.flow.proofs.Flags.{flag-or, unset-joins, ports-join, flagged-joins, flagged-right, known-right}
+use Rattle.flow.proofs.Tests.{tested, met-lives, meets-empty}
 use Rattle.logic.specs.Tests.{Joins, Keeps}
-use Rattle.logic.proofs.Tests.{by-test, and-left, and-right, and-both, or-split, same-test, joins-and, keeps-and}
+use Rattle.logic.proofs.Tests.{by-test, and-left, and-right, and-both, and-under, or-split, same-test, joins-and, keeps-and}
 
--- a packet meets both matches exactly where they overlap and it meets both together
-meets-both : (a b : Match) (p : Packet) → Joins (meets a p) (meets b p) (overlap a b) (meets (both a b) p)
-unfolding meets overlap both isEmpty
-meets-both a b p =
-    joins-and (joins-and (joins-and (joins-and (joins-and (joins-and
+-- a packet meets both matches exactly where they agree and it meets both together
+meets-agree : (a b : Match) (p : Packet) → Joins (meets a p) (meets b p) (agree a b) (meets (both a b) p)
+unfolding meets both
+meets-agree a b p =
+    joins-and (joins-and (joins-and (joins-and (joins-and (joins-and (joins-and
     (unset-joins emptyFlag (a .flags) (b .flags))
+    (ports-join portFlags (a .flags) (b .flags) (p .protocol)))
     (flagged-joins inportFlag (a .flags) (b .flags) (a .inport) (b .inport) (p .inport)))
     (flagged-joins protocolFlag (a .flags) (b .flags) (a .protocol) (b .protocol) (p .protocol)))
     (flagged-joins sourceportFlag (a .flags) (b .flags) (a .sourceport) (b .sourceport) (p .sourceport)))
@@ -34,8 +37,18 @@ meets-both a b p =
     (prefix-joins addressBits (a .source) (a .sourcelength) (b .source) (b .sourcelength) (p .source)))
     (prefix-joins addressBits (a .destination) (a .destinationlength) (b .destination) (b .destinationlength) (p .destination))
 
+-- where they overlap, since none meets both together if that is empty
+meets-both : (a b : Match) (p : Packet) → Joins (meets a p) (meets b p) (overlap a b) (meets (both a b) p)
+unfolding overlap
+meets-both a b p = record { eq = meets-agree a b p .eq ∙ go (agree a b) (isEmpty (both a b)) (meets (both a b) p) (meets-empty (both a b) p) }
+  where
+    go : (f x t : Bool) → (x ≡ true → t ≡ false) → (f && t) ≡ ((f && not x) && t)
+    go true true t h = h refl
+    go true false t h = refl
+    go false x t h = refl
+
 meets-none : (p : Packet) → meets none p ≡ false
-unfolding meets isEmpty
+unfolding meets
 meets-none p = refl
 
 -- A PACKET MEETS THE COMMON MATCH exactly where it meets both
@@ -47,12 +60,12 @@ meets-common a b p = go (overlap a b) ∙ sym (meets-both a b p .eq)
     go true = refl
     go false = meets-none p
 
-pub meets-empty : MeetsEmpty
-unfolding meets
-meets-empty m p e = rw e
-
 pub meets-overlap : MeetsOverlap
 meets-overlap a b p e f = and-left (overlap a b) (meets (both a b) p) (sym (meets-both a b p .eq) ∙ and-both e f)
+
+-- a match's own protocol: where it is not constrained, one that has ports
+abbrev pub ownProtocol : Match → ℕ
+ownProtocol m = cond (constrains protocolFlag m) (m .protocol) tcp
 
 -- the packet of a match's own values
 abbrev ownPacket : Match → Packet
@@ -60,23 +73,51 @@ ownPacket m = record {
   inport = m .inport;
   source = m .source;
   destination = m .destination;
-  protocol = m .protocol;
+  protocol = ownProtocol m;
   sourceport = m .sourceport;
   destinationport = m .destinationport;
 }
 
--- it meets the match, unless that is empty
+-- a match that is not empty has not flag 16
+pub unflagged : (m : Match) → isEmpty m ≡ false → constrains emptyFlag m ≡ false
+unfolding isEmpty unmet
+unflagged m live = go (constrains emptyFlag m) _ live
+  where
+    go : (x y : Bool) → (x || y) ≡ false → x ≡ false
+    go true y e = e
+    go false y e = refl
+
+-- its own protocol meets it, and passes its ports
+pub own-protocol-met : (m : Match) → meetsValue (constrains protocolFlag m) (m .protocol) (ownProtocol m) ≡ true
+own-protocol-met m = go (constrains protocolFlag m)
+  where
+    go : (on : Bool) → meetsValue on (m .protocol) (cond on (m .protocol) tcp) ≡ true
+    go true = meets-own-value true (m .protocol)
+    go false = meets-free false (m .protocol) tcp refl
+
+pub own-protocol-ports : (m : Match) → isEmpty m ≡ false → meetsPorts (constrains portFlags m) (ownProtocol m) ≡ true
+unfolding isEmpty unmet meetsPorts
+own-protocol-ports m live = go (constrains emptyFlag m) (constrains portFlags m) (constrains protocolFlag m) live
+  where
+    go : (x on c : Bool) → (x || (on && c && not (hasPorts (m .protocol)))) ≡ false → (not on || hasPorts (cond c (m .protocol) tcp)) ≡ true
+    go x false c e = refl
+    go x true false e = refl
+    go true true true e = absurd (false≢true (sym e))
+    go false true true e = not-false (hasPorts (m .protocol)) e
+
+-- the own packet meets the match, unless that is empty
 meets-own : (m : Match) → isEmpty m ≡ false → meets m (ownPacket m) ≡ true
-unfolding meets
-meets-own m e =
-    and-both (and-both (and-both (and-both (and-both (and-both
-    (ap not e)
-    (meets-own-value (constrains inportFlag m) (m .inport)))
-    (meets-own-value (constrains protocolFlag m) (m .protocol)))
-    (meets-own-value (constrains sourceportFlag m) (m .sourceport)))
-    (meets-own-value (constrains destinationportFlag m) (m .destinationport)))
-    (in-own addressBits (m .source) (m .sourcelength)))
-    (in-own addressBits (m .destination) (m .destinationlength))
+meets-own m live =
+    tested m (ownPacket m) (record {
+      unflagged = ap not (unflagged m live);
+      ports = own-protocol-ports m live;
+      inport = meets-own-value (constrains inportFlag m) (m .inport);
+      protocol = own-protocol-met m;
+      sourceport = meets-own-value (constrains sourceportFlag m) (m .sourceport);
+      destinationport = meets-own-value (constrains destinationportFlag m) (m .destinationport);
+      source = in-own addressBits (m .source) (m .sourcelength);
+      destination = in-own addressBits (m .destination) (m .destinationlength);
+    })
 
 -- the values of a right match are in a packet's ranges, its prefixes no longer than an address
 pub record Ranges (m : Match) : Type 0 where
@@ -97,6 +138,10 @@ ranges m e =
     (λ n. let h = simp and-eq-true-iff at n in omega (arith, ltb-true, leb-true))
     (or-split (isNone m) (isPlain m) e)
 
+-- and so is the own protocol of a match whose protocol is in range
+pub own-protocol-below : (m : Match) → m .protocol < protocolLimit → ownProtocol m < protocolLimit
+own-protocol-below m h = common-value-below (constrains protocolFlag m) protocolLimit (m .protocol) tcp h (omega arith)
+
 -- the own packet of two right matches together is in range
 own-right : (a b : Match) → Ranges a → Ranges b → rightPacket (ownPacket (both a b)) ≡ true
 unfolding rightPacket both
@@ -105,23 +150,16 @@ own-right a b r s =
     (lt-ltb _ _ (longer-within addressBits (a .source) (a .sourcelength) (b .source) (b .sourcelength) (r .source) (s .source)))
     (lt-ltb _ _ (longer-within addressBits (a .destination) (a .destinationlength) (b .destination) (b .destinationlength) (r .destination) (s .destination))))
     (lt-ltb _ _ (common-value-below (constrains inportFlag a) portLimit (a .inport) (b .inport) (r .inport) (s .inport))))
-    (lt-ltb _ _ (common-value-below (constrains protocolFlag a) protocolLimit (a .protocol) (b .protocol) (r .protocol) (s .protocol))))
+    (lt-ltb _ _
+    (own-protocol-below (both a b) (common-value-below (constrains protocolFlag a) protocolLimit (a .protocol) (b .protocol) (r .protocol) (s .protocol)))))
     (lt-ltb _ _ (common-value-below (constrains sourceportFlag a) portLimit (a .sourceport) (b .sourceport) (r .sourceport) (s .sourceport))))
     (lt-ltb _ _
     (common-value-below (constrains destinationportFlag a) portLimit (a .destinationport) (b .destinationport) (r .destinationport) (s .destinationport)))
 
--- neither of two matches that overlap is empty
-overlap-lives : (a b : Match) → overlap a b ≡ true → (isEmpty a ≡ false) × (isEmpty b ≡ false)
-unfolding overlap
-overlap-lives a b e =
-    let l : isEmpty a ≡ false = by-test (isEmpty a) (λ t. cc) (λ f. f) in
-    (l, by-test (isEmpty b) (λ t. cc) (λ f. f))
-
+-- two matches that overlap are not empty together
 both-lives : (a b : Match) → overlap a b ≡ true → isEmpty (both a b) ≡ false
-unfolding both isEmpty
-both-lives a b e =
-    let l = overlap-lives a b e in
-    flag-or emptyFlag (a .flags) (b .flags) ∙ ap₂ (λ (x y : Bool). x || y) (l .0) (l .1)
+unfolding overlap
+both-lives a b e = not-true (isEmpty (both a b)) (and-right (agree a b) _ e)
 
 -- RIGHT MATCHES OVERLAP exactly where a packet in range meets both: the own packet of both together does
 pub overlap-exactly : OverlapExactly
@@ -139,33 +177,37 @@ overlap-exactly a b ra rb = (shown, λ s. meets-overlap a b (s .packet) (s .left
 
 -- A RIGHT MATCH IS NOT EMPTY exactly where a packet in range meets it
 pub met-exactly : MetExactly
-unfolding rightMatch
 met-exactly m r = (
-  λ e. overlap-exactly m m r r .0 (meets-overlap m m (ownPacket m) (meets-own m e) (meets-own m e)),
-  λ s. overlap-lives m m
-      (meets-overlap m m (s .packet) (s .left) (s .right)) .0,
+  λ live. overlap-exactly m m r r .0 (meets-overlap m m (ownPacket m) (meets-own m live) (meets-own m live)),
+  λ s. met-lives m (s .packet) (s .left),
 )
 
--- a right match that is not empty is plain
-plain : (m : Match) → rightMatch m ≡ true → isEmpty m ≡ false → isPlain m ≡ true
-unfolding rightMatch isNone isEmpty
-plain m e l =
+-- AND EMPTY exactly where none does
+pub empty-exactly : EmptyExactly
+empty-exactly m r = (λ e p h. meets-empty m p e, λ missed. by-test (isEmpty m) (λ e. e) (λ live. absurd (met (met-exactly m r .0 live) missed)))
+  where
+    met : SharedPacket m m → ((p : Packet) → rightPacket p ≡ true → meets m p ≡ false) → ⊥
+    met s missed = false≢true (sym (missed (s .packet) (s .inRange)) ∙ s .left)
+
+-- a right match without flag 16 is plain
+plain : (m : Match) → rightMatch m ≡ true → constrains emptyFlag m ≡ false → isPlain m ≡ true
+unfolding rightMatch isNone
+plain m e u =
     ⊎-elim
-    (λ n. let h = simp and-eq-true-iff at n in let t : isEmpty m ≡ true = ap (flagged emptyFlag) (eqb-true (m .flags) emptyFlag (h .1)) in cc)
+    (λ n. let h = simp and-eq-true-iff at n in
+    let t : constrains emptyFlag m ≡ true = ap (flagged emptyFlag) (eqb-true (m .flags) emptyFlag (h .1)) in
+    cc)
     (λ n. n)
     (or-split (isNone m) (isPlain m) e)
 
-plain-lives : (m : Match) → isPlain m ≡ true → isEmpty m ≡ false
-unfolding isPlain isEmpty
-plain-lives m e = unknown-unset knownFlags emptyFlag (m .flags) (by-test (eqb (bitAnd (m .flags) knownFlags) (m .flags)) (λ t. t) (λ f. cc)) refl
-
--- the plain matches are the right ones that are not empty
-pub plain-exactly : (m : Match) → isPlain m ≡ (rightMatch m && not (isEmpty m))
+-- the right matches that are not empty are the plain ones that are not
+pub plain-exactly : (m : Match) → (isPlain m && not (isEmpty m)) ≡ (rightMatch m && not (isEmpty m))
 unfolding rightMatch
 plain-exactly m =
-    same-test (isPlain m) (rightMatch m && not (isEmpty m))
-    (λ e. and-both (ap (λ (t : Bool). isNone m || t) e ∙ or-true (isNone m)) (ap not (plain-lives m e)))
-    (λ e. plain m (and-left (rightMatch m) (not (isEmpty m)) e) (not-true (isEmpty m) (and-right (rightMatch m) (not (isEmpty m)) e)))
+    and-under (isPlain m) (rightMatch m) (not (isEmpty m))
+    (λ live. same-test (isPlain m) (rightMatch m)
+    (λ e. ap (λ (t : Bool). isNone m || t) e ∙ or-true (isNone m))
+    (λ e. plain m e (unflagged m (not-true (isEmpty m) live))))
 
 both-plain : (a b : Match) → Keeps (isPlain a) (isPlain b) (isPlain (both a b))
 unfolding both isPlain
@@ -179,6 +221,15 @@ both-plain a b =
     (longer-right addressBits (a .source) (a .sourcelength) (b .source) (b .sourcelength)))
     (longer-right addressBits (a .destination) (a .destinationlength) (b .destination) (b .destinationlength))
 
+-- two matches without flag 16 together have it neither
+unflagged-both : (a b : Match) → constrains emptyFlag (both a b) ≡ false → (constrains emptyFlag a ≡ false) × (constrains emptyFlag b ≡ false)
+unfolding both
+unflagged-both a b u = go (constrains emptyFlag a) (constrains emptyFlag b) (sym (flag-or emptyFlag (a .flags) (b .flags)) ∙ u)
+  where
+    go : (x y : Bool) → (x || y) ≡ false → (x ≡ false) × (y ≡ false)
+    go true y e = absurd (false≢true (sym e))
+    go false y e = (refl, e)
+
 -- THE COMMON MATCH OF RIGHT MATCHES IS RIGHT
 pub common-right : CommonRight
 unfolding common rightMatch isNone
@@ -186,15 +237,20 @@ common-right a b p q = go (overlap a b) refl
   where
     go : (t : Bool) → overlap a b ≡ t → rightMatch (cond t (both a b) none) ≡ true
     go true e =
-        let l = overlap-lives a b e in
-        ap (λ (t : Bool). isNone (both a b) || t) (both-plain a b .gives (plain a p (l .0)) (plain b q (l .1))) ∙ or-true (isNone (both a b))
+        let u = unflagged-both a b (unflagged (both a b) (both-lives a b e)) in
+        ap (λ (t : Bool). isNone (both a b) || t) (both-plain a b .gives (plain a p (u .0)) (plain b q (u .1))) ∙ or-true (isNone (both a b))
     go false e = refl
 
 -- and empty exactly where the two do not overlap
 pub common-empty : CommonEmpty
-unfolding common isEmpty
+unfolding common isEmpty unmet
 common-empty a b = go (overlap a b) refl
   where
     go : (t : Bool) → overlap a b ≡ t → isEmpty (cond t (both a b) none) ≡ not t
     go true e = both-lives a b e
     go false e = refl
+
+-- then it is flag 16 alone
+pub common-none : CommonNone
+unfolding common
+common-none a b p q apart = by-test (overlap a b) (λ e. absurd (apart (overlap-exactly a b p q .0 e))) (λ e. rw e)

@@ -1,17 +1,23 @@
 -- A match: nine words, in this order: the six values of a packet, source prefix length, destination prefix length,
 -- flags. The flags say which of in-port, protocol, source port and destination port are constrained; the addresses are
--- constrained by their prefixes. Flag 16 is the empty match. See docs/FORMAT.md, "Matches".
+-- constrained by their prefixes. A port is met only by packets of a protocol that has ports. Flag 16 is an empty match.
+-- See docs/FORMAT.md, "Matches".
 --
 --   matchOf, matchWords   the match that some words are, and its words
+--   portFlags             the flags of the two ports
 --   knownFlags            the flags that may stand together
 --   flagged k f           a flag of k is among the flags f; constrains k m: among those of m
---   none, isNone m        the empty match in its only right form, and that m's words are its words
---   isPlain m             m is right in any other form
---   rightMatch m          the words are right: those of the empty match, or of a plain match
+--   hasPorts q            the protocol q has ports
+--   meetsPorts on q       no port is constrained, or the protocol q has ports
+--   unmet f q             no packet meets a match with the flags f and the protocol q
 --   isEmpty m             no packet meets m
+--   none, isNone m        the empty match of flag 16 in its only right form, and that m's words are its words
+--   isPlain m             m is right without flag 16
+--   rightMatch m          the words are right: those of none, or of a plain match
 --   meets m p             the packet p meets the match m
+--   agree a b             no field of the two keeps a packet from meeting both
+--   both a b              the two together
 --   overlap a b           some packet meets both
---   both a b              the two together, where they overlap
 --   common a b            the match that exactly the packets meet that meet both
 --   inside a b            every packet that meets a meets b
 --   SharedPacket a b      a packet in range that meets both
@@ -49,11 +55,15 @@ sourceportFlag = 4
 abbrev pub destinationportFlag : ℕ
 destinationportFlag = 8
 
+-- a port is constrained
+abbrev pub portFlags : ℕ
+portFlags = sourceportFlag + destinationportFlag
+
 -- the flags that may stand together: a value is constrained
 abbrev pub knownFlags : ℕ
-knownFlags = inportFlag + protocolFlag + sourceportFlag + destinationportFlag
+knownFlags = inportFlag + protocolFlag + portFlags
 
--- the match is empty; this flag stands alone
+-- no packet meets the match; this flag stands alone
 abbrev pub emptyFlag : ℕ
 emptyFlag = 16
 
@@ -85,7 +95,7 @@ matchWords m =
     ∷ m .flags
     ∷ []
 
--- the empty match: eight zeros, and its flag
+-- the empty match of flag 16: eight zeros, and the flag
 abbrev pub none : Match
 none = matchOf (replicate (matchLength - 1) 0 ++ emptyFlag ∷ [])
 
@@ -97,9 +107,27 @@ flagged k f = not (eqb (bitAnd f k) 0)
 abbrev pub constrains : ℕ → Match → Bool
 constrains k m = flagged k (m .flags)
 
--- the match is empty
+-- the protocols that have ports
+abbrev pub tcp : ℕ
+tcp = 6
+
+abbrev pub udp : ℕ
+udp = 17
+
+abbrev pub hasPorts : ℕ → Bool
+hasPorts q = eqb q tcp || eqb q udp
+
+-- a packet of the protocol q passes the ports of a match, whatever their values: none is constrained, or q has ports
+unfoldable pub meetsPorts : Bool → ℕ → Bool
+meetsPorts on q = not on || hasPorts q
+
+-- no packet meets a match with the flags f and the protocol q: it has flag 16, or a port and a protocol without ports
+unfoldable pub unmet : ℕ → ℕ → Bool
+unmet f q = flagged emptyFlag f || (flagged portFlags f && flagged protocolFlag f && not (hasPorts q))
+
+-- no packet meets the match
 unfoldable pub isEmpty : Match → Bool
-isEmpty m = constrains emptyFlag m
+isEmpty m = unmet (m .flags) (m .protocol)
 
 -- the test t, and the words F are the words G one by one
 abbrev pub sameWords : Bool → List ℕ → List ℕ → Bool
@@ -108,7 +136,7 @@ sameWords t [] (y ∷ G) = false
 sameWords t (x ∷ F) [] = false
 sameWords t (x ∷ F) (y ∷ G) = sameWords (t && eqb x y) F G
 
--- the words are those of the empty match
+-- the words are those of none
 unfoldable pub isNone : Match → Bool
 isNone m = sameWords true (matchWords m) (matchWords none)
 
@@ -127,10 +155,12 @@ isPlain m =
 unfoldable pub rightMatch : Match → Bool
 rightMatch m = isNone m || isPlain m
 
--- the packet p meets the match m: m is not empty, each constrained value is p's, and p's addresses lie in the prefixes
+-- the packet p meets the match m: m has not flag 16, p's protocol has ports where one is constrained, each constrained
+-- value is p's, and p's addresses lie in the prefixes
 unfoldable pub meets : Match → Packet → Bool
 meets m p =
-    not (isEmpty m)
+    not (constrains emptyFlag m)
+    && meetsPorts (constrains portFlags m) (p .protocol)
     && meetsValue (constrains inportFlag m) (m .inport) (p .inport)
     && meetsValue (constrains protocolFlag m) (m .protocol) (p .protocol)
     && meetsValue (constrains sourceportFlag m) (m .sourceport) (p .sourceport)
@@ -138,12 +168,10 @@ meets m p =
     && inPrefix addressBits (m .source) (m .sourcelength) (p .source)
     && inPrefix addressBits (m .destination) (m .destinationlength) (p .destination)
 
--- a and b overlap: neither is empty, and they agree in each field
-unfoldable pub overlap : Match → Match → Bool
-overlap a b =
-    not (isEmpty a)
-    && not (isEmpty b)
-    && valuesMeet (constrains inportFlag a) (a .inport) (constrains inportFlag b) (b .inport)
+-- a and b agree in each field
+abbrev pub agree : Match → Match → Bool
+agree a b =
+    valuesMeet (constrains inportFlag a) (a .inport) (constrains inportFlag b) (b .inport)
     && valuesMeet (constrains protocolFlag a) (a .protocol) (constrains protocolFlag b) (b .protocol)
     && valuesMeet (constrains sourceportFlag a) (a .sourceport) (constrains sourceportFlag b) (b .sourceport)
     && valuesMeet (constrains destinationportFlag a) (a .destinationport) (constrains destinationportFlag b)
@@ -165,7 +193,11 @@ both a b = record {
   flags = bitOr (a .flags) (b .flags);
 }
 
--- the common match: both together where they overlap, else the empty match
+-- a and b overlap: they agree in each field, and both together are not empty
+unfoldable pub overlap : Match → Match → Bool
+overlap a b = agree a b && not (isEmpty (both a b))
+
+-- the common match: both together where they overlap, else none
 unfoldable pub common : Match → Match → Match
 common a b = cond (overlap a b) (both a b) none
 

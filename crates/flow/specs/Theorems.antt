@@ -1,9 +1,11 @@
 -- What is proved of matches and packets. Each statement is proved in proofs/ under the name given behind it.
 --
---   MeetsCommon, MeetsEmpty                               who meets the common match, and the empty one
+--   MeetsCommon, MeetsEmpty                               who meets the common match, and an empty one
+--   PortsMet                                              who meets a match with a port
 --   OverlapExactly, MeetsOverlap                          when matches overlap, right ones and all
---   MetExactly                                            when some packet meets a right match
---   CommonRight, CommonEmpty                              when the common match is right, and when it is empty
+--   MetExactly, EmptyExactly                              when some packet meets a right match, and when none does
+--   CommonRight, CommonEmpty, CommonNone                  when the common match is right, when it is empty, and which
+--                                                         of the empty ones it is then
 --   InsideMeets, InsideTrans                              what lying inside gives, and that it goes on
 --   InsideExactly                                         when a right match lies inside another
 --   MatchWordsRead, MatchReadWords, MatchWrittenRead      the words of a match, read and written
@@ -15,9 +17,9 @@ use mathlib.Core.List.{List, _++_}
 use mathlib.Core.Logic.{_↔_}
 use lib.ListN.{length, drop}
 use Rattle.words.specs.Words.{copied}
-use Rattle.flow.specs.Packet.{packetLength, packetOf, packetWords}
-use Rattle.flow.specs.Match.{matchLength, matchOf, matchWords, isEmpty, rightMatch, meets, overlap, common}
-use Rattle.flow.specs.Match.{inside, SharedPacket, LiesIn}
+use Rattle.flow.specs.Packet.{packetLength, packetOf, packetWords, rightPacket}
+use Rattle.flow.specs.Match.{matchLength, matchOf, matchWords, portFlags, constrains, hasPorts, isEmpty}
+use Rattle.flow.specs.Match.{rightMatch, meets, overlap, none, common, inside, SharedPacket, LiesIn}
 use Rattle.flow.specs.declared.Match.{Match}
 use Rattle.flow.specs.declared.Packet.{Packet}
 
@@ -28,6 +30,10 @@ MeetsCommon = (a b : Match) (p : Packet) → meets (common a b) p ≡ (meets a p
 -- no packet meets an empty match (meets-empty)
 abbrev pub MeetsEmpty : Type 0
 MeetsEmpty = (m : Match) (p : Packet) → isEmpty m ≡ true → meets m p ≡ false
+
+-- a packet that meets a match with a port has a protocol with ports, for all matches (ports-met)
+abbrev pub PortsMet : Type 0
+PortsMet = (m : Match) (p : Packet) → constrains portFlags m ≡ true → meets m p ≡ true → hasPorts (p .protocol) ≡ true
 
 -- right matches overlap exactly when some packet in range meets both (overlap-exactly)
 abbrev pub OverlapExactly : Type 0
@@ -41,6 +47,11 @@ MeetsOverlap = (a b : Match) (p : Packet) → meets a p ≡ true → meets b p �
 abbrev pub MetExactly : Type 0
 MetExactly = (m : Match) → rightMatch m ≡ true → (isEmpty m ≡ false) ↔ SharedPacket m m
 
+-- a right match is empty exactly when no packet in range meets it (empty-exactly)
+abbrev pub EmptyExactly : Type 0
+EmptyExactly = (m : Match) → rightMatch m ≡ true
+    → (isEmpty m ≡ true) ↔ ((p : Packet) → rightPacket p ≡ true → meets m p ≡ false)
+
 -- the common match of right matches is right (common-right)
 abbrev pub CommonRight : Type 0
 CommonRight = (a b : Match) → rightMatch a ≡ true → rightMatch b ≡ true → rightMatch (common a b) ≡ true
@@ -48,6 +59,10 @@ CommonRight = (a b : Match) → rightMatch a ≡ true → rightMatch b ≡ true 
 -- the common match is empty exactly when the two do not overlap, for all matches (common-empty)
 abbrev pub CommonEmpty : Type 0
 CommonEmpty = (a b : Match) → isEmpty (common a b) ≡ not (overlap a b)
+
+-- where no packet in range meets two right matches both, their common match is flag 16 alone (common-none)
+abbrev pub CommonNone : Type 0
+CommonNone = (a b : Match) → rightMatch a ≡ true → rightMatch b ≡ true → ¬ SharedPacket a b → common a b ≡ none
 
 -- where a lies inside b, a packet that meets a meets b, for all matches (inside-meets)
 abbrev pub InsideMeets : Type 0

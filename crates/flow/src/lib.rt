@@ -32,7 +32,7 @@ pub type MatchWords = [u32; MATCH_WORDS];
 // The number of the refusal for words that are no packet.
 pub const WRONG_PACKET: u32 = 11;
 
-// The flags: which values of a match are constrained, and the empty match.
+// The flags: which values of a match are constrained, and that no packet meets it.
 pub const IN_PORT: u32 = 1;
 
 pub const PROTOCOL: u32 = 2;
@@ -43,13 +43,21 @@ pub const DESTINATION_PORT: u32 = 8;
 
 const EMPTY: u32 = 16;
 
+// The flags of the two ports.
+const PORTS: u32 = SOURCE_PORT + DESTINATION_PORT;
+
 // The flags that may stand together.
-const KNOWN_FLAGS: u32 = IN_PORT + PROTOCOL + SOURCE_PORT + DESTINATION_PORT;
+const KNOWN_FLAGS: u32 = IN_PORT + PROTOCOL + PORTS;
 
 // In-ports and ports are below the one, protocols below the other.
 const PORT_LIMIT: u32 = 65536;
 
 const PROTOCOL_LIMIT: u32 = 256;
+
+// The protocols that have ports.
+const TCP: u32 = 6;
+
+const UDP: u32 = 17;
 
 pub struct Packet {
     pub inport: u32,
@@ -73,7 +81,7 @@ pub struct Match {
 }
 
 impl Match {
-    // The empty match.
+    // The empty match of flag 16.
     pub const NONE: Match = Match {
         inport: 0,
         source: 0,

@@ -3,8 +3,8 @@
 ghost use mathlib.Core.Path.{_≡_};
 ghost use Rattle.field.specs.Value.{valuesMeet, valueInside};
 ghost use Rattle.words.specs.Words.{copied};
-ghost use Rattle.flow.specs.Match.{matchOf, matchWords, constrains, isEmpty, isNone, isPlain, rightMatch};
-ghost use Rattle.flow.specs.Match.{meets, overlap, inside, both, common};
+ghost use Rattle.flow.specs.Match.{matchOf, matchWords, constrains, hasPorts, meetsPorts, unmet, isEmpty};
+ghost use Rattle.flow.specs.Match.{isNone, isPlain, rightMatch, meets, overlap, inside, both, common};
 use crate::DESTINATION_PORT;
 use crate::EMPTY;
 use crate::IN_PORT;
@@ -12,10 +12,13 @@ use crate::KNOWN_FLAGS;
 use crate::Match;
 use crate::MatchWords;
 use crate::PORT_LIMIT;
+use crate::PORTS;
 use crate::PROTOCOL;
 use crate::PROTOCOL_LIMIT;
 use crate::Packet;
 use crate::SOURCE_PORT;
+use crate::TCP;
+use crate::UDP;
 use field::common_value;
 use field::in_prefix;
 use field::longer_address;
@@ -40,7 +43,8 @@ pub fn meets(m: Match, p: Packet) -> bool
     if !in_prefix(m.source, m.sourcelength, p.source) {
         return false;
     }
-    !is_empty(m)
+    !constrains(m, EMPTY)
+        & meets_ports(constrains(m, PORTS), p.protocol)
         & meets_value(constrains(m, IN_PORT), m.inport, p.inport)
         & meets_value(constrains(m, PROTOCOL), m.protocol, p.protocol)
         & meets_value(constrains(m, SOURCE_PORT), m.sourceport, p.sourceport)
@@ -72,10 +76,12 @@ pub fn overlap(a: Match, b: Match) -> bool
     if !agree_in(a, b, SOURCE_PORT, a.sourceport, b.sourceport) {
         return false;
     }
-    !is_empty(a)
-        & !is_empty(b)
-        & agree_in(a, b, IN_PORT, a.inport, b.inport)
+    agree_in(a, b, IN_PORT, a.inport, b.inport)
         & agree_in(a, b, PROTOCOL, a.protocol, b.protocol)
+        & !unmet(
+            a.flags | b.flags,
+            common_value(constrains(a, PROTOCOL), a.protocol, b.protocol),
+        )
 }
 
 // Whether every packet that meets the first match meets the second. The addresses are tested first, as in overlap.
@@ -122,7 +128,7 @@ pub fn common(a: Match, b: Match) -> Match
 pub fn is_empty(m: Match) -> bool
     ensures { λ r. ⌜ r ≡ isEmpty m ⌝ }
 {
-    constrains(m, EMPTY)
+    unmet(m.flags, m.protocol)
 }
 
 // Whether a match has a flag; of several flags together, whether it has any of them.
@@ -142,7 +148,7 @@ pub fn right_match(m: Match) -> bool
     is_none(m)
 }
 
-// Whether a match is right and is not the empty match.
+// Whether a match is right and has not flag 16.
 pub fn is_plain(m: Match) -> bool
     ensures { λ r. ⌜ r ≡ isPlain m ⌝ }
 {
@@ -215,6 +221,30 @@ fn inside_in(a: Match, b: Match, flag: u32, v: u32, w: u32) -> bool
     value_inside(constrains(a, flag), v, constrains(b, flag), w)
 }
 
+// Whether a packet of a protocol passes the ports of a match, whatever their values: `on` says whether one is
+// constrained.
+fn meets_ports(on: bool, protocol: u32) -> bool
+    ensures { λ r. ⌜ r ≡ meetsPorts on protocol ⌝ }
+{
+    !on | has_ports(protocol)
+}
+
+// Whether no packet meets a match with these flags and this protocol: a protocol without ports and a port exclude each
+// other.
+fn unmet(flags: u32, protocol: u32) -> bool
+    ensures { λ r. ⌜ r ≡ unmet flags protocol ⌝ }
+{
+    ((flags & EMPTY) != 0)
+        | (((flags & PORTS) != 0) & ((flags & PROTOCOL) != 0) & !has_ports(protocol))
+}
+
+// Whether a protocol has ports.
+fn has_ports(protocol: u32) -> bool
+    ensures { λ r. ⌜ r ≡ hasPorts protocol ⌝ }
+{
+    (protocol == TCP) | (protocol == UDP)
+}
+
 // Both matches together, where they overlap: what either constrains, and the longer prefixes.
 fn both(a: Match, b: Match) -> Match
     ensures { λ r. ⌜ r ≡ both a b ⌝ }
@@ -241,7 +271,7 @@ fn both(a: Match, b: Match) -> Match
     }
 }
 
-// Whether a match is the empty match in its only right form.
+// Whether a match is the empty match of flag 16 in its only right form.
 fn is_none(m: Match) -> bool
     ensures { λ r. ⌜ r ≡ isNone m ⌝ }
 {

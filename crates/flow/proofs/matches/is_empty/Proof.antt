@@ -1,4 +1,4 @@
--- `flow::matches::is_empty` meets its contract: it is one flag.
+-- `flow::matches::is_empty` meets its contract: its flags and its protocol tell.
 -- Assumes nothing.
 use borrow.Author.Needs.{needs}
 use Rattle.flow.specs.Match.{isEmpty}
@@ -7,7 +7,7 @@ use Rattle.flow.proofs.matches.is_empty.Tie as tie
 
 returns : tie.Need-returns
 unfolding isEmpty
-returns c = c .constrains .ensures
+returns c = c .unmet .ensures
 
 pub is-empty-spec : {M : Type 1} → statement M
 is-empty-spec = tie.close (tie.spec (search needs) returns)

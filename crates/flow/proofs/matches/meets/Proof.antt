@@ -21,23 +21,26 @@ returns-3 c =
     let sourceport = c .before .before in
     let protocol = sourceport .before .before in
     let inport = protocol .before .before in
-    let values = inport .before .before in
-    let source = values .before .before .in-prefix2 in
-    let destination = values .before .before .before .before .in-prefix in
+    let ports = inport .before .before in
+    let flag = ports .before .before in
+    let source = flag .before .before .in-prefix2 in
+    let destination = flag .before .before .before .before .in-prefix in
     rw (
       c .meets-value4 .ensures,
-      c .before .constrains4 .ensures,
+      c .before .constrains6 .ensures,
       sourceport .meets-value3 .ensures,
-      sourceport .before .constrains3 .ensures,
+      sourceport .before .constrains5 .ensures,
       protocol .meets-value2 .ensures,
-      protocol .before .constrains2 .ensures,
+      protocol .before .constrains4 .ensures,
       inport .meets-value .ensures,
-      inport .before .constrains .ensures,
-      values .is-empty .ensures,
+      inport .before .constrains3 .ensures,
+      ports .meets-ports .ensures,
+      ports .before .constrains2 .ensures,
+      flag .constrains .ensures,
       ← source .ensures,
-      not-false (source .result) (values .before .if2 .left),
+      not-false (source .result) (flag .before .if2 .left),
       ← destination .ensures,
-      not-false (destination .result) (values .before .before .before .if1 .left),
+      not-false (destination .result) (flag .before .before .before .if1 .left),
       and-true,
       and-true,
     )
@@ -46,4 +49,4 @@ pub meets-spec : {M : Type 1} → statement M
 meets-spec =
     tie.close
     (tie.spec (search needs) returns (search needs) returns-2 (search needs) (search needs) (search needs)
-    (search needs) (search needs) (search needs) (search needs) (search needs) (search needs) returns-3)
+    (search needs) (search needs) (search needs) (search needs) (search needs) (search needs) (search needs) (search needs) returns-3)

@@ -3,7 +3,7 @@
 use mathlib.Core.Bool.{and-false, and-true}
 use borrow.Author.Needs.{needs}
 use borrow.Author.Tests.{not-true, not-false}
-use Rattle.flow.specs.Match.{overlap}
+use Rattle.flow.specs.Match.{overlap, both, isEmpty}
 use Rattle.flow.proofs.matches.overlap.Statement.{statement}
 use Rattle.flow.proofs.matches.overlap.Tie as tie
 
@@ -24,19 +24,22 @@ unfolding overlap
 returns-4 c = rw (← c .before .agree-in2 .ensures, not-true (c .before .agree-in2 .result) (c .if4 .taken), and-false)
 
 returns-5 : tie.Need-returns-5
-unfolding overlap
+unfolding overlap both isEmpty
 returns-5 c =
-    let passed = c .before .before .before .before in
+    let flags = c .before .before .before in
+    let fields = flags .before .before in
+    let passed = fields .before .before in
     let sourceport = passed .before .agree-in2 in
     let destinationport = passed .before .before .before .agree-in in
     let addresses = passed .before .before .before .before in
     let source = addresses .before .prefixes-meet2 in
     let destination = addresses .before .before .before .prefixes-meet in
     rw (
-      c .agree-in4 .ensures,
-      c .before .agree-in3 .ensures,
-      c .before .before .is-empty2 .ensures,
-      c .before .before .before .is-empty .ensures,
+      c .unmet .ensures,
+      c .before .common-value .ensures,
+      c .before .before .constrains .ensures,
+      fields .agree-in4 .ensures,
+      fields .before .agree-in3 .ensures,
       ← sourceport .ensures,
       not-false (sourceport .result) (passed .if4 .left),
       ← destinationport .ensures,
@@ -55,4 +58,4 @@ pub overlap-spec : {M : Type 1} → statement M
 overlap-spec =
     tie.close
     (tie.spec (search needs) returns (search needs) returns-2 (search needs) returns-3 (search needs) returns-4
-    (search needs) (search needs) (search needs) (search needs) returns-5)
+    (search needs) (search needs) (search needs) (search needs) (search needs) returns-5)
