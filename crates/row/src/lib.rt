@@ -8,6 +8,7 @@ use action::rate;
 use action::right_action;
 use flow::MATCH_WORDS;
 use flow::Match;
+use flow::is_empty;
 use flow::is_plain;
 use flow::read_match;
 use flow::right_match;
@@ -57,7 +58,8 @@ pub fn words_of_row(m: Match, a: Action) -> RowWords
 pub fn right_row(row: &[u32]) -> bool
     ensures { λ r. ⌜ r ≡ rightRow (now (row .entry)) ⌝ }
 {
-    is_plain(read_match(row)) & right_row_action(row)
+    let m = read_match(row);
+    is_plain(m) & !is_empty(m) & right_row_action(row)
 }
 
 // Whether the match of an atom or a row is right.
