@@ -9,7 +9,8 @@ use Rattle.theory.proofs.Compile.{scan-compile}
 use Rattle.flow.specs.Packet.{packetOf, rightPacketWords}
 use Rattle.flow.specs.Match.{isEmpty, common, meets}
 use Rattle.flow.specs.declared.Packet.{Packet}
-use Rattle.flow.proofs.Laws.{meets-common, meets-empty}
+use Rattle.flow.proofs.Laws.{meets-common}
+use Rattle.flow.proofs.Tests.{meets-empty}
 use Rattle.action.specs.Operator as operator
 use Rattle.action.specs.declared.Action.the-variants.{DontCare}
 use Rattle.action.proofs.Joined.{identity}
