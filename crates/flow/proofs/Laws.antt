@@ -1,6 +1,6 @@
 -- Laws of matches, field by field from the laws of prefixes and values: a conjunction of tests joins part by part. Assumes nothing.
 use mathlib.Core.Path.{_≡_, refl, sym, ap, _∙_}
-use mathlib.Core.Bool.{Bool, true, false, cond, not, _&&_, _||_, and-eq-true-iff, or-true, false≢true}
+use mathlib.Core.Bool.{Bool, true, false, cond, not, _&&_, _||_, and-eq-true-iff, and-true, or-true, false≢true}
 use mathlib.Core.Logic.{⊎-elim}
 use Prim.Native.Nat.{ℕ, _^_, _≤_, _<_}
 use native.Mathlib.Omega.{arith}
@@ -26,16 +26,19 @@ use Rattle.logic.proofs.Tests.{by-test, and-left, and-right, and-both, and-unde
 -- a packet meets both matches exactly where they agree and it meets both together
 meets-agree : (a b : Match) (p : Packet) → Joins (meets a p) (meets b p) (agree a b) (meets (both a b) p)
 unfolding meets both
-meets-agree a b p =
-    joins-and (joins-and (joins-and (joins-and (joins-and (joins-and (joins-and
-    (unset-joins emptyFlag (a .flags) (b .flags))
-    (ports-join portFlags (a .flags) (b .flags) (p .protocol)))
-    (flagged-joins inportFlag (a .flags) (b .flags) (a .inport) (b .inport) (p .inport)))
-    (flagged-joins protocolFlag (a .flags) (b .flags) (a .protocol) (b .protocol) (p .protocol)))
-    (flagged-joins sourceportFlag (a .flags) (b .flags) (a .sourceport) (b .sourceport) (p .sourceport)))
-    (flagged-joins destinationportFlag (a .flags) (b .flags) (a .destinationport) (b .destinationport) (p .destinationport)))
-    (prefix-joins addressBits (a .source) (a .sourcelength) (b .source) (b .sourcelength) (p .source)))
-    (prefix-joins addressBits (a .destination) (a .destinationlength) (b .destination) (b .destinationlength) (p .destination))
+meets-agree a b p = record { eq = joined .eq ∙ ap (λ (t : Bool). t && meets (both a b) p) (and-true (agree a b)) }
+  where
+    joined : Joins (meets a p) (meets b p) (agree a b && true) (meets (both a b) p)
+    joined =
+        joins-and (joins-and (joins-and (joins-and (joins-and (joins-and (joins-and
+        (unset-joins emptyFlag (a .flags) (b .flags))
+        (flagged-joins inportFlag (a .flags) (b .flags) (a .inport) (b .inport) (p .inport)))
+        (flagged-joins protocolFlag (a .flags) (b .flags) (a .protocol) (b .protocol) (p .protocol)))
+        (flagged-joins sourceportFlag (a .flags) (b .flags) (a .sourceport) (b .sourceport) (p .sourceport)))
+        (flagged-joins destinationportFlag (a .flags) (b .flags) (a .destinationport) (b .destinationport) (p .destinationport)))
+        (prefix-joins addressBits (a .source) (a .sourcelength) (b .source) (b .sourcelength) (p .source)))
+        (prefix-joins addressBits (a .destination) (a .destinationlength) (b .destination) (b .destinationlength) (p .destination)))
+        (ports-join portFlags (a .flags) (b .flags) (p .protocol))
 
 -- where they overlap, since none meets both together if that is empty
 meets-both : (a b : Match) (p : Packet) → Joins (meets a p) (meets b p) (overlap a b) (meets (both a b) p)

@@ -16,33 +16,33 @@ use Rattle.logic.proofs.Tests.{by-test, and-both}
 -- the tests that a packet passes which meets a match, by name
 pub record Tests (m : Match) (p : Packet) : Type 0 where
   pub unflagged : not (constrains emptyFlag m) ≡ true
-  pub ports : meetsPorts (constrains portFlags m) (p .protocol) ≡ true
   pub inport : meetsValue (constrains inportFlag m) (m .inport) (p .inport) ≡ true
   pub protocol : meetsValue (constrains protocolFlag m) (m .protocol) (p .protocol) ≡ true
   pub sourceport : meetsValue (constrains sourceportFlag m) (m .sourceport) (p .sourceport) ≡ true
   pub destinationport : meetsValue (constrains destinationportFlag m) (m .destinationport) (p .destinationport) ≡ true
   pub source : inPrefix addressBits (m .source) (m .sourcelength) (p .source) ≡ true
   pub destination : inPrefix addressBits (m .destination) (m .destinationlength) (p .destination) ≡ true
+  pub ports : meetsPorts (constrains portFlags m) (p .protocol) ≡ true
 
 pub tests : (m : Match) (p : Packet) → meets m p ≡ true → Tests m p
 unfolding meets
 tests m p e =
     let h = simp and-eq-true-iff at e in record {
       unflagged = h .0 .0 .0 .0 .0 .0 .0;
-      ports = h .0 .0 .0 .0 .0 .0 .1;
-      inport = h .0 .0 .0 .0 .0 .1;
-      protocol = h .0 .0 .0 .0 .1;
-      sourceport = h .0 .0 .0 .1;
-      destinationport = h .0 .0 .1;
-      source = h .0 .1;
-      destination = h .1;
+      inport = h .0 .0 .0 .0 .0 .0 .1;
+      protocol = h .0 .0 .0 .0 .0 .1;
+      sourceport = h .0 .0 .0 .0 .1;
+      destinationport = h .0 .0 .0 .1;
+      source = h .0 .0 .1;
+      destination = h .0 .1;
+      ports = h .1;
     }
 
 pub tested : (m : Match) (p : Packet) → Tests m p → meets m p ≡ true
 unfolding meets
 tested m p t =
-    and-both (and-both (and-both (and-both (and-both (and-both (and-both (t .unflagged) (t .ports)) (t .inport)) (t .protocol)) (t .sourceport))
-    (t .destinationport)) (t .source)) (t .destination)
+    and-both (and-both (and-both (and-both (and-both (and-both (and-both (t .unflagged) (t .inport)) (t .protocol)) (t .sourceport)) (t .destinationport))
+    (t .source)) (t .destination)) (t .ports)
 
 -- A PACKET THAT MEETS A MATCH WITH A PORT has a protocol with ports
 pub ports-met : PortsMet

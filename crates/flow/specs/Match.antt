@@ -14,6 +14,7 @@
 --   none, isNone m        the empty match of flag 16 in its only right form, and that m's words are its words
 --   isPlain m             m is right without flag 16
 --   rightMatch m          the words are right: those of none, or of a plain match
+--   fits m p              p meets m if every packet is taken to have ports
 --   meets m p             the packet p meets the match m
 --   agree a b             no field of the two keeps a packet from meeting both
 --   both a b              the two together
@@ -155,18 +156,21 @@ isPlain m =
 unfoldable pub rightMatch : Match → Bool
 rightMatch m = isNone m || isPlain m
 
--- the packet p meets the match m: m has not flag 16, p's protocol has ports where one is constrained, each constrained
--- value is p's, and p's addresses lie in the prefixes
-unfoldable pub meets : Match → Packet → Bool
-meets m p =
+-- the packet p fits the match m field by field: m has not flag 16, each constrained value is p's, and p's addresses lie
+-- in the prefixes
+abbrev pub fits : Match → Packet → Bool
+fits m p =
     not (constrains emptyFlag m)
-    && meetsPorts (constrains portFlags m) (p .protocol)
     && meetsValue (constrains inportFlag m) (m .inport) (p .inport)
     && meetsValue (constrains protocolFlag m) (m .protocol) (p .protocol)
     && meetsValue (constrains sourceportFlag m) (m .sourceport) (p .sourceport)
     && meetsValue (constrains destinationportFlag m) (m .destinationport) (p .destinationport)
     && inPrefix addressBits (m .source) (m .sourcelength) (p .source)
     && inPrefix addressBits (m .destination) (m .destinationlength) (p .destination)
+
+-- the packet p meets the match m: it fits in each field, and its protocol has ports where one is constrained
+unfoldable pub meets : Match → Packet → Bool
+meets m p = fits m p && meetsPorts (constrains portFlags m) (p .protocol)
 
 -- a and b agree in each field
 abbrev pub agree : Match → Match → Bool

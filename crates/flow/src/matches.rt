@@ -44,7 +44,6 @@ pub fn meets(m: Match, p: Packet) -> bool
         return false;
     }
     !constrains(m, EMPTY)
-        & meets_ports(constrains(m, PORTS), p.protocol)
         & meets_value(constrains(m, IN_PORT), m.inport, p.inport)
         & meets_value(constrains(m, PROTOCOL), m.protocol, p.protocol)
         & meets_value(constrains(m, SOURCE_PORT), m.sourceport, p.sourceport)
@@ -53,6 +52,7 @@ pub fn meets(m: Match, p: Packet) -> bool
             m.destinationport,
             p.destinationport,
         )
+        & meets_ports(constrains(m, PORTS), p.protocol)
 }
 
 // Whether some packet meets both matches. The addresses are tested first: most that do not overlap differ there.

@@ -10,7 +10,7 @@ use Rattle.logic.proofs.Tests.{by-test, and-both, or-split}
 use Rattle.field.specs.Value.{rightValue}
 use Rattle.flow.specs.Packet.{protocolLimit}
 use Rattle.flow.specs.Match.{sourceportFlag, destinationportFlag, protocolFlag, portFlags, emptyFlag, constrains, flagged, hasPorts, meetsPorts, matchOf}
-use Rattle.flow.specs.Match.{unmet, isEmpty, isNone, isPlain, rightMatch, meets}
+use Rattle.flow.specs.Match.{unmet, isEmpty, isNone, isPlain, rightMatch, fits, meets}
 use Rattle.flow.specs.declared.Match.{Match}
 use Rattle.flow.specs.declared.Packet.{Packet}
 use Rattle.flow.proofs.Flags.{flag-either}
@@ -18,7 +18,7 @@ use Rattle.flow.proofs.Tests.{ports-met}
 use Rattle.flow.proofs.Laws.{meets-common, overlap-exactly, empty-exactly, common-none}
 use Rattle.row.specs.Row.{rightRow}
 use Rattle.table.proofs.Tables.{check-first}
-use Rattle.promises.specs.Ports.{TcpOrUdp, byFields, PortMet, spoken, CountsAsEmpty, Follows, PortsOnly}
+use Rattle.promises.specs.Ports.{TcpOrUdp, PortMet, spoken, CountsAsEmpty, Follows, PortsOnly}
 use Rattle.promises.proofs.Cases.{port-cases}
 use Rattle.promises.proofs.Demand2.{demand-2}
 use Rattle.promises.proofs.Demand3.{demand-3}
@@ -41,7 +41,7 @@ neither : (m : Match) → constrains sourceportFlag m ≡ false → constrains d
 neither m s d = either m ∙ rw (s, d)
 
 -- where a packet passes the ports, the fields decide
-passed : (m : Match) (p : Packet) → meetsPorts (constrains portFlags m) (p .protocol) ≡ true → meets m p ≡ byFields m p
+passed : (m : Match) (p : Packet) → meetsPorts (constrains portFlags m) (p .protocol) ≡ true → meets m p ≡ fits m p
 unfolding meets
 passed m p e = rw (e, and-true)
 

@@ -2,7 +2,6 @@
 -- contracts cite; demands 2 and 3 and what is said of hidden rows are the same statements as before, over the same names,
 -- which have the new meaning.
 --
---   byFields m p      p meets m as if every packet had ports: by flag 16, the values and the prefixes
 --   TcpOrUdp p        its protocol is 6 or 17
 --   PortMet           by which packets a port is met
 --   spoken q m        the match m with the protocol q
@@ -11,18 +10,16 @@
 --   portCases         worked cases: calls, and what they give
 use Prim.Native.Nat.{ℕ, _<_}
 use mathlib.Core.Path.{_≡_}
-use mathlib.Core.Bool.{Bool, true, false, not, _&&_}
+use mathlib.Core.Bool.{true, false}
 use mathlib.Core.List.{List, [], _∷_, _++_}
 use mathlib.Core.Logic.{_⊎_}
 use Rattle.words.specs.Words.{zeros}
 use Rattle.words.specs.Records.{flat}
 use Rattle.words.specs.Bytes.{bytesOf}
 use Rattle.theory.specs.Rows.{Row, kept}
-use Rattle.field.specs.Prefix.{addressBits, inPrefix}
-use Rattle.field.specs.Value.{meetsValue}
 use Rattle.flow.specs.Packet.{protocolLimit}
-use Rattle.flow.specs.Match.{inportFlag, protocolFlag, sourceportFlag, destinationportFlag, emptyFlag, constrains}
-use Rattle.flow.specs.Match.{matchOf, isEmpty, rightMatch, meets}
+use Rattle.flow.specs.Match.{protocolFlag, sourceportFlag, destinationportFlag, constrains, matchOf, isEmpty}
+use Rattle.flow.specs.Match.{rightMatch, fits, meets}
 use Rattle.flow.specs.Theorems.{MeetsCommon, CommonNone, OverlapExactly, EmptyExactly}
 use Rattle.flow.specs.declared.Match.{Match}
 use Rattle.flow.specs.declared.Packet.{Packet}
@@ -46,17 +43,7 @@ use Rattle.promises.specs.Cases.{Case, k, Hold, lent, rowsLeft}
 use Rattle.promises.specs.Demands.{Demand2, Demand3}
 use Rattle.promises.specs.Hidden.{Passed}
 
--- p meets m as if every packet had ports
-abbrev pub byFields : Match → Packet → Bool
-byFields m p =
-    not (constrains emptyFlag m)
-    && meetsValue (constrains inportFlag m) (m .inport) (p .inport)
-    && meetsValue (constrains protocolFlag m) (m .protocol) (p .protocol)
-    && meetsValue (constrains sourceportFlag m) (m .sourceport) (p .sourceport)
-    && meetsValue (constrains destinationportFlag m) (m .destinationport) (p .destinationport)
-    && inPrefix addressBits (m .source) (m .sourcelength) (p .source)
-    && inPrefix addressBits (m .destination) (m .destinationlength) (p .destination)
-
+-- its protocol is 6 or 17
 abbrev pub TcpOrUdp : Packet → Type 0
 TcpOrUdp p = (p .protocol ≡ 6) ⊎ (p .protocol ≡ 17)
 
@@ -64,10 +51,10 @@ TcpOrUdp p = (p .protocol ≡ 6) ⊎ (p .protocol ≡ 17)
 pub record PortMet : Type 0 where
   pub source : (m : Match) (p : Packet) → constrains sourceportFlag m ≡ true → meets m p ≡ true → TcpOrUdp p
   pub destination : (m : Match) (p : Packet) → constrains destinationportFlag m ≡ true → meets m p ≡ true → TcpOrUdp p
-  -- of these packets, and of matches without such a constraint, nothing else is asked than before
-  pub of-these : (m : Match) (p : Packet) → TcpOrUdp p → meets m p ≡ byFields m p
+  -- of these packets, and of matches without such a constraint, nothing is asked but the fields, as before
+  pub of-these : (m : Match) (p : Packet) → TcpOrUdp p → meets m p ≡ fits m p
   pub without : (m : Match) (p : Packet) → constrains sourceportFlag m ≡ false
-      → constrains destinationportFlag m ≡ false → meets m p ≡ byFields m p
+      → constrains destinationportFlag m ≡ false → meets m p ≡ fits m p
 
 -- the match m with the protocol q
 abbrev pub spoken : ℕ → Match → Match

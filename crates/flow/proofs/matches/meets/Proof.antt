@@ -18,24 +18,24 @@ returns-2 c = rw (← c .before .in-prefix2 .ensures, not-true (c .before .in-pr
 returns-3 : tie.Need-returns-3
 unfolding meets
 returns-3 c =
-    let sourceport = c .before .before in
+    let destinationport = c .before .before in
+    let sourceport = destinationport .before .before in
     let protocol = sourceport .before .before in
     let inport = protocol .before .before in
-    let ports = inport .before .before in
-    let flag = ports .before .before in
+    let flag = inport .before .before in
     let source = flag .before .before .in-prefix2 in
     let destination = flag .before .before .before .before .in-prefix in
     rw (
-      c .meets-value4 .ensures,
+      c .meets-ports .ensures,
       c .before .constrains6 .ensures,
+      destinationport .meets-value4 .ensures,
+      destinationport .before .constrains5 .ensures,
       sourceport .meets-value3 .ensures,
-      sourceport .before .constrains5 .ensures,
+      sourceport .before .constrains4 .ensures,
       protocol .meets-value2 .ensures,
-      protocol .before .constrains4 .ensures,
+      protocol .before .constrains3 .ensures,
       inport .meets-value .ensures,
-      inport .before .constrains3 .ensures,
-      ports .meets-ports .ensures,
-      ports .before .constrains2 .ensures,
+      inport .before .constrains2 .ensures,
       flag .constrains .ensures,
       ← source .ensures,
       not-false (source .result) (flag .before .if2 .left),
