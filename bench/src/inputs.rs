@@ -3,7 +3,7 @@
 use crate::action::{self, ALLOW, GMB};
 use crate::flow::{
     DESTINATION, DESTINATION_PORT, FLAGS, IN_PORT, KIND, PACKET_WORDS, PREFIXES, PROTOCOL, Packet, RATE, ROW_WORDS,
-    Row, SOURCE, SOURCE_PORT, VALUES,
+    Row, SOURCE, SOURCE_PORT, TCP, UDP, VALUES,
 };
 use crate::policy::{CHILDREN, HEADER, INNER, NODE_WORDS, OWN, PARENT, SIBLING};
 
@@ -68,7 +68,7 @@ pub fn overlapping(count: usize) -> Vec<Row> {
 }
 
 /// The protocols of the mixed rows. A ping has no ports: its rows constrain none.
-const PROTOCOLS: [u32; 3] = [PING, 6, 17];
+const PROTOCOLS: [u32; 3] = [PING, TCP, UDP];
 const PING: u32 = 1;
 
 /// Rows as in an access list: prefixes of several lengths in a few networks, some protocols and ports.
