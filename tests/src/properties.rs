@@ -9,7 +9,7 @@ use crate::model::fields::Packet;
 use crate::model::record::RawRow;
 use crate::numberings::{action_words, meets, numbering_fault};
 use crate::passes::pass_fault;
-use crate::policies::Size;
+use crate::policies::{Draft, Size};
 use crate::program::{Difference, Program};
 use crate::random::Random;
 use crate::tables::table_words;
@@ -19,7 +19,7 @@ use crate::world::World;
 /// A table, the packets that can tell its rows apart, and its policy if it has one.
 pub struct Subject {
     pub world: World,
-    file: Option<Vec<u32>>,
+    policy: Option<Draft>,
     pub rows: Vec<RawRow>,
 }
 
@@ -55,33 +55,34 @@ fn compiled(
     tally: &mut Tally,
 ) -> Result<Vec<Subject>, Difference> {
     let mut worlds = Vec::new();
-    let mut files = Vec::new();
+    let mut drafts = Vec::new();
     for _ in 0..policies {
         let world = World::tiny(&mut maker.random);
         let mut size = Size::small(&mut maker.random);
         size.deepest = size.deepest.min(DEEPEST);
         size.operators = size.operators.min(MOST_OPERATORS);
-        files.push(maker.draft(&world, size).words());
+        drafts.push(maker.draft(&world, size));
         worlds.push(world);
     }
-    let calls: Vec<Call> = files
+    let calls: Vec<Call> = drafts
         .iter()
-        .map(|file| Call::Compile {
-            file: file.clone(),
+        .map(|draft| Call::Compile {
+            file: draft.words(),
             table: maker.random.words(ROW_WORDS * ROOM),
             scratch: maker.random.words(ROW_WORDS * ROOM),
         })
         .collect();
     let answers = ask(program, &calls, tally)?;
     let mut subjects = Vec::new();
-    for (((world, file), answer), call) in worlds.into_iter().zip(files).zip(answers).zip(calls) {
+    let policies = worlds.into_iter().zip(drafts);
+    for (((world, draft), answer), call) in policies.zip(answers).zip(calls) {
         if answer[0] != 0 {
             return Err(broken(call, "a right policy was refused"));
         }
         subjects.push(Subject {
             world,
             rows: compiled_rows(&answer),
-            file: Some(file),
+            policy: Some(draft),
         });
     }
     Ok(subjects)
@@ -110,7 +111,7 @@ fn drawn(maker: &mut Maker, tables: usize) -> Vec<Subject> {
         };
         subjects.push(Subject {
             world,
-            file: None,
+            policy: None,
             rows,
         });
     }
@@ -135,9 +136,9 @@ fn scans_agree(
                 table: table_words(&subject.rows),
                 packet: packet.words(NEWEST),
             });
-            calls.push(match &subject.file {
-                Some(file) => Call::Action {
-                    file: file.clone(),
+            calls.push(match &subject.policy {
+                Some(draft) => Call::Action {
+                    file: draft.words(),
                     packet: packet.words(NEWEST),
                 },
                 None => calls[calls.len() - 1].clone(),
@@ -168,8 +169,21 @@ fn scan_agrees(
     if scan[PLACED_WORDS..TRIED_AT] != action || scan[TRIED_AT] as usize != tried {
         return Err(broken(calls[0].clone(), "the scan is not the first match"));
     }
-    if subject.file.is_some() && tree[REFUSAL_WORDS..] != action {
+    let Some(draft) = &subject.policy else {
+        return Ok(());
+    };
+    if tree[REFUSAL_WORDS..] != action {
         let what = "the tree's action is not the compiled table's";
+        return Err(broken(calls[1].clone(), what));
+    }
+    let mut met = draft.atoms.iter().filter(|atom| meets(atom, packet));
+    let single = match (met.next(), met.next()) {
+        (None, _) => [DONT_CARE, 0],
+        (Some(atom), None) => action_words(atom),
+        _ => return Ok(()),
+    };
+    if action != single {
+        let what = "the tree's action is not that of the one atom that is met";
         return Err(broken(calls[1].clone(), what));
     }
     Ok(())
