@@ -43,7 +43,7 @@ pub fn cases() -> Vec<Known> {
 }
 
 /// A table of which the rows at these places stay.
-fn pass(name: &'static str, rows: &[RawRow], stay: &[usize]) -> Known {
+pub fn pass(name: &'static str, rows: &[RawRow], stay: &[usize]) -> Known {
     let left: Vec<RawRow> = stay.iter().map(|place| rows[*place]).collect();
     let mut table = table_words(&left);
     table.resize(ROW_WORDS * rows.len(), 0);

@@ -2,6 +2,7 @@
 
 mod hidden;
 mod limits;
+mod ports;
 mod worked;
 
 use crate::calls::{words_of_bytes, Call, PLACED_WORDS, REFUSAL_WORDS};
@@ -22,6 +23,7 @@ pub fn known() -> Vec<Known> {
     let mut cases = worked::cases();
     cases.extend(limits::cases());
     cases.extend(hidden::cases());
+    cases.extend(ports::cases());
     cases
 }
 
