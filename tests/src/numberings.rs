@@ -1,5 +1,6 @@
 //! What a numbering must be, by the packets that the rows of a world can be told
-//! apart by. Nothing here asks the model what a row meets.
+//! apart by. What a row meets is read from its words, and the model's tests are held
+//! against that.
 
 use crate::model::action::ACTION_WORDS;
 use crate::model::fields::{Fields, Kind, Packet, KINDS, WITH_PORTS};
@@ -78,11 +79,9 @@ fn model_meets(table: &[Row], packets: &[Packet], meeting: &[Vec<u64>]) -> bool 
 }
 
 fn model_agrees(table: &[Row], overlaps: impl Fn(usize, usize) -> bool) -> bool {
-    let places = 0..table.len();
-    let agrees = |one: usize, two: usize| overlap(&table[one], &table[two]) == overlaps(one, two);
-    places
-        .clone()
-        .all(|one| places.clone().all(|two| agrees(one, two)))
+    (0..table.len()).all(|one| {
+        (0..table.len()).all(|two| overlap(&table[one], &table[two]) == overlaps(one, two))
+    })
 }
 
 /// The most rows in a chain of overlapping rows, each from a row downwards:

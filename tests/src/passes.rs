@@ -55,8 +55,9 @@ fn earlier(place: usize) -> Rows {
 /// Values by which rows can be told apart. If a row does not lie inside another
 /// then some value of it suits the one and not the other, and one is among these:
 /// where the other is written with a number, that of the row or one that no row is
-/// written with; of the protocols those with ports too; where the other has a prefix, the row's own address if that lies
-/// outside, else the address that differs in the prefix's last bit.
+/// written with, and for a row that wants a port a protocol that has ports; where
+/// the other has a prefix, the row's own address if that lies outside, else the
+/// address that differs in the prefix's last bit.
 fn telling_values(rows: &[RawRow]) -> Values {
     std::array::from_fn(|place| {
         let mut values = match *KINDS.list()[place] {

@@ -6,10 +6,12 @@ use crate::cases::Maker;
 use crate::model::action::DONT_CARE;
 use crate::model::edition::{DEEPEST, MOST_OPERATORS, NEWEST, ROW_WORDS};
 use crate::model::fields::Packet;
+use crate::model::numbers::WRONG_ROW;
 use crate::model::record::RawRow;
 use crate::numberings::{action_words, meets, numbering_fault};
 use crate::passes::pass_fault;
 use crate::policies::{Draft, Size};
+use crate::ports::contradicted;
 use crate::program::{Difference, Program};
 use crate::random::Random;
 use crate::tables::table_words;
@@ -36,7 +38,8 @@ pub fn check(
     subjects.extend(drawn(maker, policies));
     scans_agree(program, &mut maker.random, &subjects, tally)?;
     numberings_hold(program, &subjects, tally)?;
-    passes_hold(program, &subjects, tally)
+    passes_hold(program, &subjects, tally)?;
+    contradictions_refused(program, &mut maker.random, &subjects[policies..], tally)
 }
 
 fn ask(program: &Program, calls: &[Call], tally: &mut Tally) -> Result<Vec<Vec<u32>>, Difference> {
@@ -250,6 +253,49 @@ fn passes_hold(
         let count = answer[PLACED_WORDS] as usize;
         if ROW_WORDS * count != table.len() || answer[ROWS_AT..] != table[..] {
             return Err(broken(call, "a second pass takes rows out"));
+        }
+        tally.properties += 1;
+    }
+    Ok(())
+}
+
+/// Tables of which one row, the first, the last or any, contradicts itself. The three
+/// functions that read a table take turns.
+fn contradictions_refused(
+    program: &Program,
+    random: &mut Random,
+    subjects: &[Subject],
+    tally: &mut Tally,
+) -> Result<(), Difference> {
+    let mut calls = Vec::new();
+    let mut places = Vec::new();
+    for subject in subjects {
+        let mut rows = subject.rows.clone();
+        if rows.is_empty() {
+            rows.push(RawRow::default());
+        }
+        let last = rows.len() - 1;
+        let place = [0, last, random.within(0, last)][random.below(3)];
+        rows[place] = contradicted(random, &rows[place]);
+        let table = table_words(&rows);
+        calls.push(match calls.len() % 3 {
+            0 => Call::Scan {
+                table,
+                packet: subject.world.packet(random).words(NEWEST),
+            },
+            1 => Call::Number {
+                table,
+                priorities: vec![0; rows.len()],
+                chain: vec![0; rows.len()],
+            },
+            _ => Call::Hidden { table },
+        });
+        places.push(place as u32);
+    }
+    let answers = ask(program, &calls, tally)?;
+    for ((place, answer), call) in places.into_iter().zip(answers).zip(calls) {
+        if answer[..PLACED_WORDS] != [WRONG_ROW, place] {
+            return Err(broken(call, "a row that contradicts itself is not refused"));
         }
         tally.properties += 1;
     }

@@ -13,8 +13,8 @@ use crate::model::record::RawRow;
 use crate::ports::{contradictory_atoms, contradicts};
 
 /// Every refusal that can be reached must be met this often; the two of a table
-/// by each function that reads one. So must matches that contradict themselves, in
-/// atoms, and in rows at each kind of place.
+/// by each function that reads one. So must matches that contradict themselves: in
+/// atoms, in rows by each of these functions, and in rows at each kind of place.
 const LEAST: usize = 100;
 const OF_TABLES: [usize; 2] = [NOT_A_TABLE as usize, WRONG_ROW as usize];
 const READ_TABLES: [&str; 3] = ["scan", "number", "hidden"];
@@ -67,8 +67,7 @@ impl Tally {
             }
         }
         if number == 0 {
-            self.contradictory_atoms +=
-                lent_file(call).map_or(0, |file| contradictory_atoms(&file));
+            self.contradictory_atoms += atoms_that_contradict(call);
             let size = size(call, answer);
             self.sized[function] += usize::from(size > 0);
             self.largest[function] = self.largest[function].max(size);
@@ -134,10 +133,14 @@ impl Tally {
             seldom.push("contradictory atoms".to_string());
         }
         for (name, places) in NAMES.iter().zip(&self.contradictory_rows) {
-            for (place, times) in PLACES.iter().zip(places) {
-                if READ_TABLES.contains(name) && *times < LEAST {
-                    seldom.push(format!("contradictory rows, {place}, of {name}"));
-                }
+            if READ_TABLES.contains(name) && places.iter().sum::<usize>() < LEAST {
+                seldom.push(format!("contradictory rows of {name}"));
+            }
+        }
+        for (kind, place) in PLACES.iter().enumerate() {
+            let by_function = self.contradictory_rows.iter().map(|places| places[kind]);
+            if by_function.sum::<usize>() < LEAST {
+                seldom.push(format!("contradictory rows, {place}"));
             }
         }
         seldom
@@ -188,14 +191,14 @@ impl Tally {
     }
 }
 
-/// The file of a call that has one.
-fn lent_file(call: &Call) -> Option<Vec<u32>> {
+/// Atoms that contradict themselves in the right file of a call that has one.
+fn atoms_that_contradict(call: &Call) -> usize {
     match call {
         Call::Read { file } | Call::Action { file, .. } | Call::Compile { file, .. } => {
-            Some(file.clone())
+            contradictory_atoms(file)
         }
-        Call::Listing { bytes } => Some(to_words(bytes)),
-        _ => None,
+        Call::Listing { bytes } => contradictory_atoms(&to_words(bytes)),
+        _ => 0,
     }
 }
 

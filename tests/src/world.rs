@@ -205,7 +205,7 @@ fn some(random: &mut Random, values: &[u32], count: usize) -> Vec<u32> {
     (0..count).map(|_| random.pick(values)).collect()
 }
 
-/// So many of the values, no place of them twice.
+/// So many of the values, each at most once.
 fn different(random: &mut Random, values: &[u32], count: usize) -> Vec<u32> {
     let mut left = values.to_vec();
     let mut taken = |_| left.swap_remove(random.below(left.len()));
