@@ -1,7 +1,7 @@
 //! Known cases of ports, which packets of protocols 6 and 17 have and no others.
 
 use super::hidden::pass;
-use super::{case, chain_of_nodes, listing, one_node, open, refused, success, Known};
+use super::{action, case, chain_of_nodes, listing, one_node, open, refused, success, Known};
 use crate::calls::{to_bytes, Call, READ_COUNTS};
 use crate::model::action::Action::{self, Allow, Deny, DontCare};
 use crate::model::action::ACTION_WORDS;
@@ -57,6 +57,7 @@ pub fn cases() -> Vec<Known> {
     cases
 }
 
+/// A protocol alone, a source port alone and a destination port alone.
 fn of(protocol: u32) -> Match {
     let (protocol, open) = (Prefix::exactly(protocol), Match::default());
     Match { protocol, ..open }
@@ -70,6 +71,7 @@ fn to_port(destination_port: u32) -> Match {
     Match::default().and_to(destination_port)
 }
 
+/// A port besides, which may contradict the protocol.
 impl Match {
     fn and_from(self, source_port: u32) -> Match {
         let source_port = Prefix::exactly(source_port);
@@ -88,25 +90,22 @@ impl Match {
     }
 }
 
-fn packet(protocol: u32, source_port: u32, destination_port: u32) -> Vec<u32> {
-    let packet = Packet {
+fn packet(protocol: u32, source_port: u32, destination_port: u32) -> Packet {
+    Packet {
         protocol,
         source_port,
         destination_port,
         ..Packet::default()
-    };
-    packet.words(NEWEST)
+    }
 }
 
-fn action(name: &'static str, file: Vec<u32>, packet: Vec<u32>, action: Action) -> Known {
-    let call = Call::Action { file, packet };
-    case(name, call, success(&action.words()))
-}
-
-fn scan(name: &'static str, rows: &[RawRow], packet: Vec<u32>, found: (Action, u32)) -> Known {
-    let table = table_words(rows);
+/// A scan that finds an action after so many rows.
+fn scan(name: &'static str, rows: &[RawRow], packet: Packet, found: (Action, u32)) -> Known {
     let ([kind, rate], tried) = (found.0.words(), found.1);
-    let call = Call::Scan { table, packet };
+    let call = Call::Scan {
+        table: table_words(rows),
+        packet: packet.words(NEWEST),
+    };
     case(name, call, vec![0, 0, kind, rate, tried])
 }
 
@@ -152,8 +151,7 @@ fn port_0() -> Vec<Known> {
     packets.extend(OTHERS.map(|protocol| (packet(protocol, 0, 0), DontCare)));
     let mut cases = vec![compile("port 0 compiled", file.clone(), &[row])];
     for (packet, found) in packets {
-        let tree = action("port 0, the tree", file.clone(), packet.clone(), found);
-        cases.push(tree);
+        cases.push(action("port 0, the tree", file.clone(), packet, found));
         cases.push(scan("port 0, the scan", &[row], packet, (found, 1)));
     }
     cases
@@ -170,16 +168,15 @@ fn compiles() -> Vec<Known> {
         cases.push(numbering("one priority", &apart, &[1, 1], &[0]));
         let from = of(protocol).and_from(0);
         for none in [from, of(protocol).and_to(5), from.and_to(5)] {
-            let [before, behind] = [[none.raw(Deny), wide], [wide, none.raw(Deny)]].map(|atoms| {
+            let none = none.raw(Deny);
+            for atoms in [[none, wide], [wide, none]] {
                 let file = one_node(&atoms);
                 let read = Call::Read { file: file.clone() };
-                cases.push(case("a ping's port, read", read, success(&[1, 2, 1])));
-                file
-            });
-            cases.push(compile("a ping's port before all", before.clone(), &[wide]));
-            cases.push(compile("a ping's port behind all", behind, &[wide]));
-            let met = packet(protocol, 0, 5);
-            cases.push(action("a ping's port, the tree", before, met, Allow));
+                let (name, met) = ("contradictory atom", packet(protocol, 0, 5));
+                cases.push(case(name, read, success(&[1, 2, 1])));
+                cases.push(compile(name, file.clone(), &[wide]));
+                cases.push(action(name, file, met, Allow));
+            }
         }
     }
     for protocol in [TCP, UDP] {
@@ -230,7 +227,7 @@ fn refused_tables(name: &'static str, rows: &[RawRow], place: u32) -> Vec<Known>
     let table = table_words(rows);
     let scan = Call::Scan {
         table: table.clone(),
-        packet: packet(TCP, 0, 5),
+        packet: packet(TCP, 0, 5).words(NEWEST),
     };
     let number = Call::Number {
         table: table.clone(),
@@ -250,19 +247,22 @@ fn refused_tables(name: &'static str, rows: &[RawRow], place: u32) -> Vec<Known>
 
 /// Ports with a protocol that has them, and with none.
 fn right_rows() -> Vec<Known> {
+    let (found, missed) = ((Allow, 1), (Deny, 2));
+    let rows_and_scans = [
+        (Match::default(), found, found),
+        (of(TCP), found, missed),
+        (of(UDP), missed, found),
+    ];
     let mut cases = Vec::new();
-    let met = |protocol| packet(protocol, 0, 5);
-    for matching in [Match::default(), of(TCP), of(UDP)] {
+    for (matching, by_tcp, by_udp) in rows_and_scans {
         for matching in [matching.and_from(0), matching.and_to(5)] {
             let rows = [matching.raw(Allow), open(Deny)];
+            let scan = |name, protocol, found| scan(name, &rows, packet(protocol, 0, 5), found);
             cases.push(pass("a right row with a port", &rows, &[0, 1]));
             cases.push(numbering("a right row numbered", &rows, &[2, 1], &[0, 1]));
-            for protocol in [TCP, UDP] {
-                let suits = matching.protocol.covers(protocol);
-                let found = if suits { (Allow, 1) } else { (Deny, 2) };
-                cases.push(scan("a right row scanned", &rows, met(protocol), found));
-            }
-            cases.push(scan("a right row, a ping", &rows, met(PING), (Deny, 2)));
+            cases.push(scan("a right row, TCP", TCP, by_tcp));
+            cases.push(scan("a right row, UDP", UDP, by_udp));
+            cases.push(scan("a right row, a ping", PING, missed));
         }
     }
     cases
@@ -277,8 +277,8 @@ fn contradictory_rows() -> Vec<Known> {
         for matching in [from, of(protocol).and_to(5), from.and_to(5)] {
             let wrong = matching.raw(Deny);
             let (first, last) = ([wrong, wide, wrong], [wide, wide, wrong]);
-            cases.extend(refused_tables("a ping's port first", &first, 0));
-            cases.extend(refused_tables("a ping's port last", &last, 2));
+            cases.extend(refused_tables("contradictory row first", &first, 0));
+            cases.extend(refused_tables("contradictory row last", &last, 2));
         }
     }
     cases
@@ -389,6 +389,7 @@ fn wrong_packets() -> Vec<Known> {
         ),
     ];
     for packet in [packet(PING, over, 0), packet(PING, 0, over)] {
+        let packet = packet.words(NEWEST);
         let tree = Call::Action {
             file: one_node(&rows),
             packet: packet.clone(),
