@@ -9,8 +9,9 @@ use crate::model::matches::{Match, Prefix};
 use crate::model::record::RawRow;
 use crate::random::Random;
 
-/// Some protocols without ports: the limits, pings, and those next to one with ports.
-pub const WITHOUT_PORTS: [u32; 8] = [0, 1, 5, 7, 16, 18, MOST_PROTOCOL - 1, MOST_PROTOCOL];
+/// Some protocols without ports: the limits, pings, those next to one with ports, and
+/// one that has ports elsewhere.
+pub const WITHOUT_PORTS: [u32; 9] = [0, 1, 5, 7, 16, 18, 132, MOST_PROTOCOL - 1, MOST_PROTOCOL];
 
 const OF_PORTS: [Kind; 2] = [KINDS.source_port, KINDS.destination_port];
 
@@ -35,7 +36,7 @@ pub fn contradicts(row: &RawRow) -> bool {
 pub fn contradicted(random: &mut Random, row: &RawRow) -> RawRow {
     let mut row = *row;
     if !wants_no_ports(&row) {
-        row.values.protocol = random.pick(&WITHOUT_PORTS);
+        row.values.protocol = without_ports(random);
         row.flags |= KINDS.protocol.flag();
     }
     if !constrains_port(&row) {
@@ -43,6 +44,15 @@ pub fn contradicted(random: &mut Random, row: &RawRow) -> RawRow {
         row.flags |= random.pick(&[source, destination, source | destination]);
     }
     row
+}
+
+/// One of those above, or any other.
+fn without_ports(random: &mut Random) -> u32 {
+    let any = random.word() % (MOST_PROTOCOL + 1);
+    if random.percent(50) || WITH_PORTS.contains(&any) {
+        return random.pick(&WITHOUT_PORTS);
+    }
+    any
 }
 
 /// The match, or one that does not contradict itself: without its protocol, without

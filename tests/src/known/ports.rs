@@ -16,8 +16,8 @@ use crate::tables::table_words;
 const PING: u32 = 1;
 const TCP: u32 = 6;
 const UDP: u32 = 17;
-/// Protocols without ports.
-const OTHERS: [u32; 7] = [0, PING, 5, 7, 16, 18, 255];
+/// Protocols without ports, SCTP (132) among them.
+const OTHERS: [u32; 8] = [0, PING, 5, 7, 16, 18, 132, 255];
 
 /// Source port 0 is denied and pings are allowed, in the first edition word for
 /// word. The last atom asks for a ping with source port 0.
