@@ -24,18 +24,26 @@ pub type Packet = [u32; PACKET_WORDS];
 /// Where a value stands, the flag that says it is constrained, and its limit.
 pub const VALUES: [(usize, u32, u32); 4] = [
     (IN_PORT, 1, PORTS),
-    (PROTOCOL, 2, PROTOCOLS),
-    (SOURCE_PORT, 4, PORTS),
-    (DESTINATION_PORT, 8, PORTS),
+    (PROTOCOL, OF_PROTOCOL, PROTOCOLS),
+    (SOURCE_PORT, OF_SOURCE_PORT, PORTS),
+    (DESTINATION_PORT, OF_DESTINATION_PORT, PORTS),
 ];
+const OF_PROTOCOL: u32 = 2;
+const OF_SOURCE_PORT: u32 = 4;
+const OF_DESTINATION_PORT: u32 = 8;
+const OF_A_PORT: u32 = OF_SOURCE_PORT | OF_DESTINATION_PORT;
 const PORTS: u32 = 65536;
 const PROTOCOLS: u32 = 256;
+
+/// The protocols that have ports.
+pub const TCP: u32 = 6;
+pub const UDP: u32 = 17;
 
 /// Where an address stands, and where its prefix length.
 pub const PREFIXES: [(usize, usize); 2] = [(SOURCE, SOURCE_LENGTH), (DESTINATION, DESTINATION_LENGTH)];
 const ADDRESS_BITS: u32 = 32;
 
-/// The flag of the empty match, and those of the values together.
+/// The flag that empties a match by itself, and those of the values together.
 const EMPTY: u32 = 16;
 const CONSTRAINED: u32 = {
     let (mut flags, mut i) = (0, 0);
@@ -46,26 +54,37 @@ const CONSTRAINED: u32 = {
     flags
 };
 
+fn has_ports(protocol: u32) -> bool {
+    matches!(protocol, TCP | UDP)
+}
+
+/// Whether a protocol that has ports suits the match.
+fn leaves_ports(m: &Row) -> bool {
+    m[FLAGS] & OF_PROTOCOL == 0 || has_ports(m[PROTOCOL])
+}
+
+/// Whether no packet meets a right match.
 pub fn is_empty(m: &Row) -> bool {
-    m[FLAGS] & EMPTY != 0
+    m[FLAGS] & EMPTY != 0 || m[FLAGS] & OF_A_PORT != 0 && !leaves_ports(m)
 }
 
 pub fn meets(m: &Row, p: &Packet) -> bool {
-    !is_empty(m)
+    m[FLAGS] & EMPTY == 0
         && in_prefix(m[DESTINATION], m[DESTINATION_LENGTH], p[DESTINATION])
         && in_prefix(m[SOURCE], m[SOURCE_LENGTH], p[SOURCE])
         && VALUES
             .iter()
             .all(|&(at, flag, _)| m[FLAGS] & flag == 0 || m[at] == p[at])
+        && (m[FLAGS] & OF_A_PORT == 0 || has_ports(p[PROTOCOL]))
 }
 
 pub fn overlap(a: &Row, b: &Row) -> bool {
-    let both = a[FLAGS] & b[FLAGS];
-    !is_empty(a)
-        && !is_empty(b)
+    let (either, both) = (a[FLAGS] | b[FLAGS], a[FLAGS] & b[FLAGS]);
+    either & EMPTY == 0
         && prefixes_meet(a, b, DESTINATION, DESTINATION_LENGTH)
         && prefixes_meet(a, b, SOURCE, SOURCE_LENGTH)
         && VALUES.iter().all(|&(at, flag, _)| both & flag == 0 || a[at] == b[at])
+        && (either & OF_A_PORT == 0 || leaves_ports(a) && leaves_ports(b))
 }
 
 /// Whether a's match lies wholly inside b's; neither is empty.

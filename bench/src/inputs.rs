@@ -3,7 +3,7 @@
 use crate::action::{self, ALLOW, GMB};
 use crate::flow::{
     DESTINATION, DESTINATION_PORT, FLAGS, IN_PORT, KIND, PACKET_WORDS, PREFIXES, PROTOCOL, Packet, RATE, ROW_WORDS,
-    Row, SOURCE, SOURCE_PORT, VALUES,
+    Row, SOURCE, SOURCE_PORT, TCP, UDP, VALUES,
 };
 use crate::policy::{CHILDREN, HEADER, INNER, NODE_WORDS, OWN, PARENT, SIBLING};
 
@@ -67,6 +67,10 @@ pub fn overlapping(count: usize) -> Vec<Row> {
     (1..=count as u32).map(|rate| Made::open().action(GMB, rate)).collect()
 }
 
+/// The protocols of the mixed rows. A ping has no ports: its rows constrain none.
+const PROTOCOLS: [u32; 3] = [PING, TCP, UDP];
+const PING: u32 = 1;
+
 /// Rows as in an access list: prefixes of several lengths in a few networks, some protocols and ports.
 pub fn mixed(count: usize) -> Vec<Row> {
     let mut dice = Dice::new();
@@ -80,9 +84,19 @@ fn mixed_row(dice: &mut Dice) -> Row {
         let address = 10 << 24 | dice.below(8) << 16 | dice.below(16) << 8 | dice.below(64);
         row = row.prefix(at, address, bits);
     }
-    for (at, limit) in [(IN_PORT, 16), (PROTOCOL, 3), (SOURCE_PORT, 8), (DESTINATION_PORT, 32)] {
+    for (at, limit) in [
+        (IN_PORT, 16),
+        (PROTOCOL, PROTOCOLS.len() as u32),
+        (SOURCE_PORT, 8),
+        (DESTINATION_PORT, 32),
+    ] {
         if dice.below(3) == 0 {
-            row = row.value(at, dice.below(limit));
+            let value = dice.below(limit);
+            row = match at {
+                PROTOCOL => row.value(at, PROTOCOLS[value as usize]),
+                SOURCE_PORT | DESTINATION_PORT if row.0[PROTOCOL] == PING => row,
+                _ => row.value(at, value),
+            };
         }
     }
     let kind = ALLOW + dice.below(3);

@@ -113,7 +113,8 @@ fn spoil_some_atom(random: &mut Random, draft: &mut Draft) {
     }
 }
 
-/// A wrong match, a wrong action, or a word at a limit.
+/// A wrong match, a wrong action, or a word at a limit. A match that contradicts
+/// itself is wrong in tables only, and is made there.
 pub fn spoil_row(random: &mut Random, row: &mut RawRow, edition: Edition) {
     let (place, flag, most) = random.pick(&numbers(edition));
     let (flags, kinds) = (edition.flags(), edition.kinds() as u32);
@@ -173,7 +174,7 @@ fn either<'a>(random: &mut Random, one: &'a mut u32, two: &'a mut u32) -> &'a mu
     }
 }
 
-/// The empty match, but for one of its words before the flags.
+/// Zeros and the flag of the empty match, but for one word before the flags.
 fn spoil_empty(random: &mut Random, row: &mut RawRow, edition: Edition) {
     let mut words = row.emptied().words(edition);
     let word = random.pick(&[0, 1, 32]);

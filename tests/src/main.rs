@@ -10,6 +10,7 @@ mod model;
 mod numberings;
 mod passes;
 mod policies;
+mod ports;
 mod program;
 mod properties;
 mod random;
@@ -122,7 +123,7 @@ fn test(program: &Program, options: &Options) -> bool {
     }
     let seldom = tally.too_seldom();
     if !seldom.is_empty() {
-        println!("FAILED: refusals met too seldom: {}", seldom.join(", "));
+        println!("FAILED: met too seldom: {}", seldom.join("; "));
         return false;
     }
     println!("all answers as expected");

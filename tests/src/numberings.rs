@@ -1,12 +1,14 @@
 //! What a numbering must be, by the packets that the rows of a world can be told
-//! apart by. Nothing here asks the model what a row meets.
+//! apart by. What a row meets is read from its words, and the model's tests are held
+//! against that.
 
 use crate::model::action::ACTION_WORDS;
-use crate::model::fields::{Fields, Kind, Packet, KINDS};
+use crate::model::fields::{Fields, Kind, Packet, KINDS, WITH_PORTS};
 use crate::model::matches::WORD_BITS;
 use crate::model::priorities::overlap;
-use crate::model::record::RawRow;
-use crate::model::rows::read_table;
+use crate::model::record::{RawRow, EMPTY};
+use crate::model::rows::{read_table, Row};
+use crate::ports::constrains_port;
 use crate::properties::Subject;
 use crate::tables::table_words;
 
@@ -22,7 +24,14 @@ pub fn numbering_fault(
     let meeting: Vec<Vec<u64>> = rows.iter().map(|row| packets_met(row, &packets)).collect();
     let overlaps = |one: usize, two: usize| common_packet(&meeting[one], &meeting[two]);
 
-    if !model_agrees(rows, overlaps) {
+    let table = match read_table(&table_words(rows)) {
+        Ok(table) if meeting.iter().all(|met| common_packet(met, met)) => table,
+        _ => return Some("a row is wrong, or no packet meets it"),
+    };
+    if !model_meets(&table, &packets, &meeting) {
+        return Some("the model's test of a packet is not the one by words");
+    }
+    if !model_agrees(&table, overlaps) {
         return Some("the model's overlap test is not the one by packets");
     }
     if priorities.iter().any(|p| *p == 0 || *p as usize > levels) {
@@ -35,8 +44,8 @@ pub fn numbering_fault(
             }
         }
     }
-    let obeys = |packet| switch_obeys_scan(rows, priorities, packet);
-    if !packets.iter().all(obeys) {
+    let obeys = |packet| switch_obeys_scan(rows, priorities, |row| is_met(&meeting[row], packet));
+    if !(0..packets.len()).all(obeys) {
         return Some("a switch does not do what the scan does");
     }
     if longest_chain(rows.len(), overlaps) != levels {
@@ -61,10 +70,17 @@ fn chain_fault(
     None
 }
 
-fn model_agrees(rows: &[RawRow], overlaps: impl Fn(usize, usize) -> bool) -> bool {
-    let table = read_table(&table_words(rows)).expect("right rows");
-    (0..rows.len()).all(|one| {
-        (0..rows.len()).all(|two| overlap(&table[one], &table[two]) == overlaps(one, two))
+/// Whether the model has each row met by exactly the packets of its bits.
+fn model_meets(table: &[Row], packets: &[Packet], meeting: &[Vec<u64>]) -> bool {
+    table.iter().zip(meeting).all(|(row, bits)| {
+        let mut places = packets.iter().enumerate();
+        places.all(|(place, packet)| row.matching.meets(packet) == is_met(bits, place))
+    })
+}
+
+fn model_agrees(table: &[Row], overlaps: impl Fn(usize, usize) -> bool) -> bool {
+    (0..table.len()).all(|one| {
+        (0..table.len()).all(|two| overlap(&table[one], &table[two]) == overlaps(one, two))
     })
 }
 
@@ -83,10 +99,8 @@ fn longest_chain(rows: usize, overlaps: impl Fn(usize, usize) -> bool) -> usize 
 }
 
 /// Every matching row of highest priority has the first matching row's action.
-fn switch_obeys_scan(rows: &[RawRow], priorities: &[u32], packet: &Packet) -> bool {
-    let matching: Vec<usize> = (0..rows.len())
-        .filter(|row| meets(&rows[*row], packet))
-        .collect();
+fn switch_obeys_scan(rows: &[RawRow], priorities: &[u32], meets: impl Fn(usize) -> bool) -> bool {
+    let matching: Vec<usize> = (0..rows.len()).filter(|row| meets(*row)).collect();
     let Some(highest) = matching.iter().map(|row| priorities[*row]).max() else {
         return true;
     };
@@ -107,6 +121,10 @@ fn packets_met(row: &RawRow, packets: &[Packet]) -> Vec<u64> {
     bits
 }
 
+fn is_met(bits: &[u64], packet: usize) -> bool {
+    bits[packet / 64] >> (packet % 64) & 1 != 0
+}
+
 fn common_packet(one: &[u64], two: &[u64]) -> bool {
     one.iter().zip(two).any(|(a, b)| a & b != 0)
 }
@@ -115,18 +133,22 @@ pub fn action_words(row: &RawRow) -> [u32; ACTION_WORDS] {
     [row.kind, row.rate]
 }
 
-/// Whether a packet meets a row, straight from what is written and bit by bit.
+/// Whether a packet meets a row or an atom, straight from what is written and bit by bit.
 pub fn meets(row: &RawRow, packet: &Packet) -> bool {
     let mut values = packet.list().into_iter().enumerate();
-    values.all(|(place, value)| suits(row, place, *value))
+    row.flags != EMPTY && values.all(|(place, value)| suits(row, place, *value))
 }
 
-/// Whether one value of a packet is as a row wants it.
+/// Whether one value of a packet is as a row wants it. Who wants a port wants a
+/// protocol that has ports.
 pub fn suits(row: &RawRow, place: usize, value: u32) -> bool {
     let given = *row.values.list()[place];
     let bit = |word: u32, place: u32| word >> (WORD_BITS - 1 - place) & 1;
     match *KINDS.list()[place] {
-        Kind::Number { flag, .. } => row.flags & flag == 0 || given == value,
+        Kind::Number { flag, .. } => {
+            let without_ports = flag == KINDS.protocol.flag() && !WITH_PORTS.contains(&value);
+            (row.flags & flag == 0 || given == value) && !(without_ports && constrains_port(row))
+        }
         Kind::Address => {
             let length = *lengths(row).list()[place];
             (0..length).all(|place| bit(given, place) == bit(value, place))

@@ -2,7 +2,7 @@
 //! whether a row lies inside another. Nothing here asks the model what a row meets.
 
 use crate::model::action::{ACTION_WORDS, DONT_CARE};
-use crate::model::fields::{Kind, FIELD_COUNT, KINDS};
+use crate::model::fields::{Kind, FIELD_COUNT, KINDS, WITH_PORTS};
 use crate::model::hidden::inside;
 use crate::model::matches::WORD_BITS;
 use crate::model::record::RawRow;
@@ -55,8 +55,9 @@ fn earlier(place: usize) -> Rows {
 /// Values by which rows can be told apart. If a row does not lie inside another
 /// then some value of it suits the one and not the other, and one is among these:
 /// where the other is written with a number, that of the row or one that no row is
-/// written with; where the other has a prefix, the row's own address if that lies
-/// outside, else the address that differs in the prefix's last bit.
+/// written with, and for a row that wants a port a protocol that has ports; where
+/// the other has a prefix, the row's own address if that lies outside, else the
+/// address that differs in the prefix's last bit.
 fn telling_values(rows: &[RawRow]) -> Values {
     std::array::from_fn(|place| {
         let mut values = match *KINDS.list()[place] {
@@ -69,10 +70,14 @@ fn telling_values(rows: &[RawRow]) -> Values {
     })
 }
 
-/// The numbers that rows are constrained to, and one that none is.
+/// The numbers that rows are constrained to, the protocols with ports, and one that
+/// is none of these.
 fn telling_numbers(rows: &[RawRow], place: usize, flag: u32) -> Vec<u32> {
     let constrained = rows.iter().filter(|row| row.flags & flag != 0);
     let mut numbers: Vec<u32> = constrained.map(|row| *row.values.list()[place]).collect();
+    if flag == KINDS.protocol.flag() {
+        numbers.extend(WITH_PORTS);
+    }
     numbers.extend((0..).find(|number| !numbers.contains(number)));
     numbers
 }

@@ -6,10 +6,12 @@ use crate::cases::Maker;
 use crate::model::action::DONT_CARE;
 use crate::model::edition::{DEEPEST, MOST_OPERATORS, NEWEST, ROW_WORDS};
 use crate::model::fields::Packet;
+use crate::model::numbers::WRONG_ROW;
 use crate::model::record::RawRow;
 use crate::numberings::{action_words, meets, numbering_fault};
 use crate::passes::pass_fault;
-use crate::policies::Size;
+use crate::policies::{Draft, Size};
+use crate::ports::contradicted;
 use crate::program::{Difference, Program};
 use crate::random::Random;
 use crate::tables::table_words;
@@ -19,7 +21,7 @@ use crate::world::World;
 /// A table, the packets that can tell its rows apart, and its policy if it has one.
 pub struct Subject {
     pub world: World,
-    file: Option<Vec<u32>>,
+    policy: Option<Draft>,
     pub rows: Vec<RawRow>,
 }
 
@@ -36,7 +38,8 @@ pub fn check(
     subjects.extend(drawn(maker, policies));
     scans_agree(program, &mut maker.random, &subjects, tally)?;
     numberings_hold(program, &subjects, tally)?;
-    passes_hold(program, &subjects, tally)
+    passes_hold(program, &subjects, tally)?;
+    contradictions_refused(program, &mut maker.random, &subjects[policies..], tally)
 }
 
 fn ask(program: &Program, calls: &[Call], tally: &mut Tally) -> Result<Vec<Vec<u32>>, Difference> {
@@ -55,33 +58,34 @@ fn compiled(
     tally: &mut Tally,
 ) -> Result<Vec<Subject>, Difference> {
     let mut worlds = Vec::new();
-    let mut files = Vec::new();
+    let mut drafts = Vec::new();
     for _ in 0..policies {
         let world = World::tiny(&mut maker.random);
         let mut size = Size::small(&mut maker.random);
         size.deepest = size.deepest.min(DEEPEST);
         size.operators = size.operators.min(MOST_OPERATORS);
-        files.push(maker.draft(&world, size).words());
+        drafts.push(maker.draft(&world, size));
         worlds.push(world);
     }
-    let calls: Vec<Call> = files
+    let calls: Vec<Call> = drafts
         .iter()
-        .map(|file| Call::Compile {
-            file: file.clone(),
+        .map(|draft| Call::Compile {
+            file: draft.words(),
             table: maker.random.words(ROW_WORDS * ROOM),
             scratch: maker.random.words(ROW_WORDS * ROOM),
         })
         .collect();
     let answers = ask(program, &calls, tally)?;
     let mut subjects = Vec::new();
-    for (((world, file), answer), call) in worlds.into_iter().zip(files).zip(answers).zip(calls) {
+    let policies = worlds.into_iter().zip(drafts);
+    for (((world, draft), answer), call) in policies.zip(answers).zip(calls) {
         if answer[0] != 0 {
             return Err(broken(call, "a right policy was refused"));
         }
         subjects.push(Subject {
             world,
             rows: compiled_rows(&answer),
-            file: Some(file),
+            policy: Some(draft),
         });
     }
     Ok(subjects)
@@ -110,7 +114,7 @@ fn drawn(maker: &mut Maker, tables: usize) -> Vec<Subject> {
         };
         subjects.push(Subject {
             world,
-            file: None,
+            policy: None,
             rows,
         });
     }
@@ -135,9 +139,9 @@ fn scans_agree(
                 table: table_words(&subject.rows),
                 packet: packet.words(NEWEST),
             });
-            calls.push(match &subject.file {
-                Some(file) => Call::Action {
-                    file: file.clone(),
+            calls.push(match &subject.policy {
+                Some(draft) => Call::Action {
+                    file: draft.words(),
                     packet: packet.words(NEWEST),
                 },
                 None => calls[calls.len() - 1].clone(),
@@ -168,8 +172,21 @@ fn scan_agrees(
     if scan[PLACED_WORDS..TRIED_AT] != action || scan[TRIED_AT] as usize != tried {
         return Err(broken(calls[0].clone(), "the scan is not the first match"));
     }
-    if subject.file.is_some() && tree[REFUSAL_WORDS..] != action {
+    let Some(draft) = &subject.policy else {
+        return Ok(());
+    };
+    if tree[REFUSAL_WORDS..] != action {
         let what = "the tree's action is not the compiled table's";
+        return Err(broken(calls[1].clone(), what));
+    }
+    let mut met = draft.atoms.iter().filter(|atom| meets(atom, packet));
+    let single = match (met.next(), met.next()) {
+        (None, _) => [DONT_CARE, 0],
+        (Some(atom), None) => action_words(atom),
+        _ => return Ok(()),
+    };
+    if action != single {
+        let what = "the tree's action is not that of the one atom that is met";
         return Err(broken(calls[1].clone(), what));
     }
     Ok(())
@@ -236,6 +253,49 @@ fn passes_hold(
         let count = answer[PLACED_WORDS] as usize;
         if ROW_WORDS * count != table.len() || answer[ROWS_AT..] != table[..] {
             return Err(broken(call, "a second pass takes rows out"));
+        }
+        tally.properties += 1;
+    }
+    Ok(())
+}
+
+/// Tables of which one row, the first, the last or any, contradicts itself. The three
+/// functions that read a table take turns.
+fn contradictions_refused(
+    program: &Program,
+    random: &mut Random,
+    subjects: &[Subject],
+    tally: &mut Tally,
+) -> Result<(), Difference> {
+    let mut calls = Vec::new();
+    let mut places = Vec::new();
+    for subject in subjects {
+        let mut rows = subject.rows.clone();
+        if rows.is_empty() {
+            rows.push(RawRow::default());
+        }
+        let last = rows.len() - 1;
+        let place = [0, last, random.within(0, last)][random.below(3)];
+        rows[place] = contradicted(random, &rows[place]);
+        let table = table_words(&rows);
+        calls.push(match calls.len() % 3 {
+            0 => Call::Scan {
+                table,
+                packet: subject.world.packet(random).words(NEWEST),
+            },
+            1 => Call::Number {
+                table,
+                priorities: vec![0; rows.len()],
+                chain: vec![0; rows.len()],
+            },
+            _ => Call::Hidden { table },
+        });
+        places.push(place as u32);
+    }
+    let answers = ask(program, &calls, tally)?;
+    for ((place, answer), call) in places.into_iter().zip(answers).zip(calls) {
+        if answer[..PLACED_WORDS] != [WRONG_ROW, place] {
+            return Err(broken(call, "a row that contradicts itself is not refused"));
         }
         tally.properties += 1;
     }

@@ -6,6 +6,7 @@ use crate::cases::Maker;
 use crate::damage::spoil_row;
 use crate::model::edition::{NEWEST, ROW_WORDS};
 use crate::model::record::RawRow;
+use crate::ports::contradicted;
 use crate::world::World;
 
 /// The words of a table.
@@ -50,14 +51,16 @@ impl Maker<'_> {
             return;
         }
         for _ in 0..self.random.within(1, 2) {
-            let row = match self.random.below(4) {
-                0 => rows.len() - 1,
+            let row = match self.random.below(6) {
+                0 => 0,
+                1 | 2 => rows.len() - 1,
                 _ => self.random.below(rows.len()),
             };
-            if self.random.percent(15) {
-                rows[row] = rows[row].emptied();
-            } else {
-                spoil_row(&mut self.random, &mut rows[row], NEWEST);
+            let row = &mut rows[row];
+            match self.random.below(8) {
+                0 => *row = row.emptied(),
+                1 | 2 => *row = contradicted(&mut self.random, row),
+                _ => spoil_row(&mut self.random, row, NEWEST),
             }
         }
     }

@@ -3,14 +3,18 @@
 use std::collections::HashSet;
 
 use crate::calls::{
-    text_of_answer, Call, ATOMS_AT, FUNCTIONS, LAW_AT, NAMES, PLACED_WORDS, REFUSAL_WORDS, TRIED_AT,
+    text_of_answer, to_words, Call, ATOMS_AT, FUNCTIONS, LAW_AT, NAMES, PLACED_WORDS,
+    REFUSAL_WORDS, TRIED_AT,
 };
 use crate::model::action::DONT_CARE;
-use crate::model::edition::ROW_WORDS;
+use crate::model::edition::{NEWEST, ROW_WORDS};
 use crate::model::numbers::{BROKEN_LAW, LAST, NOT_A_TABLE, RATE_OUTSIDE, WRONG_ROW};
+use crate::model::record::RawRow;
+use crate::ports::{contradictory_atoms, contradicts};
 
 /// Every refusal that can be reached must be met this often; the two of a table
-/// by each function that reads one.
+/// by each function that reads one. So must matches that contradict themselves: in
+/// atoms, in rows by each of these functions, and in rows at each kind of place.
 const LEAST: usize = 100;
 const OF_TABLES: [usize; 2] = [NOT_A_TABLE as usize, WRONG_ROW as usize];
 const READ_TABLES: [&str; 3] = ["scan", "number", "hidden"];
@@ -18,6 +22,8 @@ const NUMBERS: usize = LAST as usize;
 const UNREACHABLE: usize = RATE_OUTSIDE as usize;
 /// No law, commutativity and associativity.
 const LAWS: usize = 3;
+/// Kinds of places in a table.
+const PLACES: [&str; 3] = ["first", "last", "between"];
 
 #[derive(Default)]
 pub struct Tally {
@@ -34,6 +40,10 @@ pub struct Tally {
     /// Rows that stayed without the hidden ones, and hidden ones that went.
     stayed: usize,
     went: usize,
+    /// Matches that contradict themselves: atoms of right files, and rows that were
+    /// refused, by call and by the kind of their place.
+    contradictory_atoms: usize,
+    contradictory_rows: [[usize; PLACES.len()]; FUNCTIONS],
     pub properties: usize,
 }
 
@@ -51,7 +61,13 @@ impl Tally {
         if number == BROKEN_LAW as usize && of_file {
             self.laws[answer[LAW_AT] as usize % LAWS] += 1;
         }
+        if let (WRONG_ROW, Some(table)) = (number as u32, lent_table(call)) {
+            if let Some(kind) = contradictory_place(table, place as usize) {
+                self.contradictory_rows[function][kind] += 1;
+            }
+        }
         if number == 0 {
+            self.contradictory_atoms += atoms_that_contradict(call);
             let size = size(call, answer);
             self.sized[function] += usize::from(size > 0);
             self.largest[function] = self.largest[function].max(size);
@@ -73,6 +89,9 @@ impl Tally {
             for number in 0..=NUMBERS {
                 self.numbers[function][number] += other.numbers[function][number];
             }
+            for kind in 0..PLACES.len() {
+                self.contradictory_rows[function][kind] += other.contradictory_rows[function][kind];
+            }
             self.sized[function] += other.sized[function];
             self.largest[function] = self.largest[function].max(other.largest[function]);
         }
@@ -85,6 +104,7 @@ impl Tally {
         self.most_priorities = self.most_priorities.max(other.most_priorities);
         self.stayed += other.stayed;
         self.went += other.went;
+        self.contradictory_atoms += other.contradictory_atoms;
         self.properties += other.properties;
     }
 
@@ -96,7 +116,8 @@ impl Tally {
         self.numbers.iter().map(|function| function[number]).sum()
     }
 
-    /// Refusals that were met too seldom to say that they were tested.
+    /// What was met too seldom to say that it was tested: refusals by their numbers,
+    /// and matches that contradict themselves.
     pub fn too_seldom(&self) -> Vec<String> {
         let all = (1..=NUMBERS).filter(|number| *number != UNREACHABLE);
         let seldom = all.filter(|number| self.met(*number) < LEAST);
@@ -106,6 +127,20 @@ impl Tally {
                 if READ_TABLES.contains(name) && numbers[number] < LEAST {
                     seldom.push(format!("{number} of {name}"));
                 }
+            }
+        }
+        if self.contradictory_atoms < LEAST {
+            seldom.push("contradictory atoms".to_string());
+        }
+        for (name, places) in NAMES.iter().zip(&self.contradictory_rows) {
+            if READ_TABLES.contains(name) && places.iter().sum::<usize>() < LEAST {
+                seldom.push(format!("contradictory rows of {name}"));
+            }
+        }
+        for (kind, place) in PLACES.iter().enumerate() {
+            let by_function = self.contradictory_rows.iter().map(|places| places[kind]);
+            if by_function.sum::<usize>() < LEAST {
+                seldom.push(format!("contradictory rows, {place}"));
             }
         }
         seldom
@@ -142,9 +177,50 @@ impl Tally {
         );
         text += &format!("most priorities in a numbering: {}\n", self.most_priorities);
         text += &format!("hidden rows: {} went, {} stayed\n", self.went, self.stayed);
+        text += &format!("contradictory atoms: {}\n", self.contradictory_atoms);
+        for (name, places) in NAMES.iter().zip(&self.contradictory_rows) {
+            if READ_TABLES.contains(name) {
+                let places = PLACES.iter().zip(places);
+                let times = places.map(|(place, times)| format!(" {times} {place}"));
+                let times: Vec<String> = times.collect();
+                text += &format!("contradictory rows of {name}:{}\n", times.join(","));
+            }
+        }
         text += &format!("{} properties checked\n", self.properties);
         text
     }
+}
+
+/// Atoms that contradict themselves in the right file of a call that has one.
+fn atoms_that_contradict(call: &Call) -> usize {
+    match call {
+        Call::Read { file } | Call::Action { file, .. } | Call::Compile { file, .. } => {
+            contradictory_atoms(file)
+        }
+        Call::Listing { bytes } => contradictory_atoms(&to_words(bytes)),
+        _ => 0,
+    }
+}
+
+fn lent_table(call: &Call) -> Option<&[u32]> {
+    match call {
+        Call::Scan { table, .. } | Call::Number { table, .. } | Call::Hidden { table } => {
+            Some(table)
+        }
+        _ => None,
+    }
+}
+
+/// The kind of this place, if the row there contradicts itself.
+fn contradictory_place(table: &[u32], place: usize) -> Option<usize> {
+    let rows: Vec<&[u32]> = table.chunks(ROW_WORDS).collect();
+    let row = RawRow::from_words(rows.get(place)?, NEWEST);
+    let kind = match place {
+        0 => 0,
+        _ if place + 1 == rows.len() => 1,
+        _ => 2,
+    };
+    contradicts(&row).then_some(kind)
 }
 
 /// A listing's refusal is read from its text.

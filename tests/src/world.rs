@@ -1,11 +1,15 @@
 //! A world is a few values for each field. Rows and packets drawn from one world
-//! are near each other, so that matches nest, overlap and miss.
+//! are near each other, so that matches nest, overlap and miss. Every world has the
+//! protocols with ports, and others beside them.
 
 use crate::model::action::{Action, MOST_RATE};
-use crate::model::fields::{Fields, Kind, Packet, FIELD_COUNT, KINDS, MOST_PORT, MOST_PROTOCOL};
+use crate::model::fields::{
+    Fields, Kind, Packet, FIELD_COUNT, KINDS, MOST_PORT, MOST_PROTOCOL, WITH_PORTS,
+};
 use crate::model::matches::{Match, Prefix, WORD_BITS};
 use crate::model::record::RawRow;
 use crate::model::rows::Row;
+use crate::ports::{contradicted, reconciled, WITHOUT_PORTS};
 use crate::random::Random;
 
 pub struct World {
@@ -20,12 +24,12 @@ impl World {
     pub fn tiny(random: &mut Random) -> World {
         World {
             pools: Fields {
-                in_port: some(random, &[0, 1, 2, MOST_PORT - 1, MOST_PORT], 2),
+                in_port: different(random, &[0, 1, 2, MOST_PORT - 1, MOST_PORT], 2),
                 source: near_addresses(random, 3),
                 destination: near_addresses(random, 4),
-                protocol: some(random, &[0, 1, 6, 17, MOST_PROTOCOL - 1, MOST_PROTOCOL], 2),
-                source_port: some(random, &[0, 1, 80, MOST_PORT - 1, MOST_PORT], 2),
-                destination_port: some(random, &[0, 22, 80, 443, MOST_PORT], 2),
+                protocol: [&WITH_PORTS[..], &different(random, &WITHOUT_PORTS, 2)].concat(),
+                source_port: different(random, &[0, 1, 80, MOST_PORT - 1, MOST_PORT], 2),
+                destination_port: different(random, &[0, 22, 80, 443, MOST_PORT], 2),
             },
             lengths: some_lengths(random),
             rates: some_rates(random),
@@ -71,17 +75,19 @@ impl World {
                 matching = matching.with(place, Prefix::exactly(random.pick(pool)));
             }
         }
+        let matching = reconciled(random, matching);
         let action = self.action(random);
         Row { matching, action }
     }
 
-    /// A right atom: a row, or sometimes the empty match.
+    /// A right atom: a row, or sometimes an empty match of either kind.
     pub fn atom(&self, random: &mut Random) -> RawRow {
         let atom = self.row(random).raw();
-        if random.percent(4) {
-            return atom.emptied();
+        match random.below(25) {
+            0 => atom.emptied(),
+            1 | 2 => contradicted(random, &atom),
+            _ => atom,
         }
-        atom
     }
 
     pub fn rows(&self, random: &mut Random, count: usize) -> Vec<RawRow> {
@@ -116,6 +122,7 @@ impl World {
             };
             matching = matching.with(place, new);
         }
+        let matching = reconciled(random, matching);
         let action = self.action(random);
         Row { matching, action }
     }
@@ -176,8 +183,9 @@ impl World {
     }
 
     /// Every packet of the world's values. Two rows of a tiny world overlap
-    /// exactly if one of these meets both: a constrained value is in its pool,
-    /// and the longer of two nested prefixes was cut from an address in its pool.
+    /// exactly if one of these meets both: a constrained value is in its pool, the
+    /// protocols with ports are in theirs, and the longer of two nested prefixes was
+    /// cut from an address in its pool.
     pub fn packets(&self) -> Vec<Packet> {
         let mut packets = vec![Packet::default()];
         for (place, pool) in self.pools.list().into_iter().enumerate() {
@@ -195,6 +203,13 @@ fn cut(address: u32, length: u32) -> u32 {
 
 fn some(random: &mut Random, values: &[u32], count: usize) -> Vec<u32> {
     (0..count).map(|_| random.pick(values)).collect()
+}
+
+/// So many of the values, each at most once.
+fn different(random: &mut Random, values: &[u32], count: usize) -> Vec<u32> {
+    let mut left = values.to_vec();
+    let mut taken = |_| left.swap_remove(random.below(left.len()));
+    (0..count).map(&mut taken).collect()
 }
 
 /// Addresses that differ from each other in a bit or two.

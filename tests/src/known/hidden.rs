@@ -4,7 +4,7 @@ use super::{case, open, to, Known};
 use crate::calls::Call;
 use crate::model::action::Action::{Allow, Deny, DontCare, Gmb};
 use crate::model::edition::ROW_WORDS;
-use crate::model::fields::{Kind, FIELD_COUNT, KINDS, MOST_PORT, MOST_PROTOCOL};
+use crate::model::fields::{Kind, FIELD_COUNT, KINDS, MOST_PORT};
 use crate::model::matches::{Match, Prefix};
 use crate::model::numbers::{NOT_A_TABLE, WRONG_ROW};
 use crate::model::record::RawRow;
@@ -24,7 +24,7 @@ const OTHER: Match = Match {
     in_port: Prefix::exactly(MOST_PORT),
     source: prefix(11, 0, 0, 0, 8),
     destination: prefix(10, 6, 0, 0, 16),
-    protocol: Prefix::exactly(MOST_PROTOCOL),
+    protocol: Prefix::exactly(17),
     source_port: Prefix::exactly(0),
     destination_port: Prefix::exactly(442),
 };
@@ -43,7 +43,7 @@ pub fn cases() -> Vec<Known> {
 }
 
 /// A table of which the rows at these places stay.
-fn pass(name: &'static str, rows: &[RawRow], stay: &[usize]) -> Known {
+pub fn pass(name: &'static str, rows: &[RawRow], stay: &[usize]) -> Known {
     let left: Vec<RawRow> = stay.iter().map(|place| rows[*place]).collect();
     let mut table = table_words(&left);
     table.resize(ROW_WORDS * rows.len(), 0);

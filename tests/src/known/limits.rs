@@ -16,6 +16,7 @@ const LARGEST_ROOM: usize = ROW_WORDS * MOST_ROWS;
 pub fn cases() -> Vec<Known> {
     let mut cases = doubling();
     cases.extend(full_rooms());
+    cases.push(most_priorities());
     cases.extend(large_sums());
     cases
 }
@@ -91,6 +92,20 @@ fn full_rooms() -> Vec<Known> {
         ),
         case("4097 rows", in_largest_room(file(12, &three), more), over),
     ]
+}
+
+/// The most rows, which all overlap, have as many priorities.
+fn most_priorities() -> Known {
+    let most = MOST_ROWS as u32;
+    let priorities: Vec<u32> = (1..=most).rev().collect();
+    let chain: Vec<u32> = (0..most).collect();
+    let call = Call::Number {
+        table: table_words(&vec![open(Deny); MOST_ROWS]),
+        priorities: vec![9; MOST_ROWS],
+        chain: vec![9; MOST_ROWS],
+    };
+    let answer = [&[0, 0, most][..], &priorities, &chain].concat();
+    case("4096 priorities", call, answer)
 }
 
 /// Own-atom counts whose sum is a round number in binary, and no atoms.

@@ -2,11 +2,13 @@
 
 mod hidden;
 mod limits;
+mod ports;
 mod worked;
 
 use crate::calls::{words_of_bytes, Call, PLACED_WORDS, REFUSAL_WORDS};
 use crate::model::action::Action;
 use crate::model::edition::{Edition, NEWEST};
+use crate::model::fields::Packet;
 use crate::model::matches::{Match, Prefix};
 use crate::model::operator::Cells;
 use crate::model::record::{Node, RawRow};
@@ -22,6 +24,7 @@ pub fn known() -> Vec<Known> {
     let mut cases = worked::cases();
     cases.extend(limits::cases());
     cases.extend(hidden::cases());
+    cases.extend(ports::cases());
     cases
 }
 
@@ -38,6 +41,16 @@ fn success(value: &[u32]) -> Vec<u32> {
 fn refused(number: u32, place: u32, value_words: usize) -> Vec<u32> {
     let zeros = REFUSAL_WORDS - PLACED_WORDS + value_words;
     [&[number, place][..], &vec![0; zeros]].concat()
+}
+
+/// The tree's action for a packet.
+fn action(name: &'static str, file: Vec<u32>, packet: Packet, action: Action) -> Known {
+    let packet = packet.words(NEWEST);
+    case(
+        name,
+        Call::Action { file, packet },
+        success(&action.words()),
+    )
 }
 
 /// A node with these operators: inner and sibling the first, parent the second or the first.

@@ -1,6 +1,6 @@
 //! The worked cases of the scope.
 
-use super::{case, chain_of_nodes, listing, one_node, open, refused, success, to, Known};
+use super::{action, case, chain_of_nodes, listing, one_node, open, refused, success, to, Known};
 use crate::calls::{to_bytes, Call, READ_COUNTS};
 use crate::model::action::Action::{self, Allow, Deny, DontCare, Gmb};
 use crate::model::edition::{Edition, NEWEST, ROW_WORDS};
@@ -86,15 +86,6 @@ fn written_as_it_must_be() {
         from_port.raw(Deny),
     ];
     assert_eq!(rows.map(|row| row.words(Edition::First)), ROWS);
-}
-
-fn action(name: &'static str, file: Vec<u32>, packet: Packet, action: Action) -> Known {
-    let packet = packet.words(NEWEST);
-    case(
-        name,
-        Call::Action { file, packet },
-        success(&action.words()),
-    )
 }
 
 fn operators() -> Vec<Known> {

@@ -7,6 +7,10 @@ pub const FIELD_COUNT: usize = 6;
 pub const MOST_PORT: u32 = 65_535;
 pub const MOST_PROTOCOL: u32 = 255;
 
+/// The protocols that have ports: where a match constrains a port, no packet of
+/// another protocol meets it.
+pub const WITH_PORTS: [u32; 2] = [6, 17];
+
 /// One of something for each value of a packet.
 #[derive(Clone, Copy, PartialEq, Eq, Debug, Default)]
 pub struct Fields<T> {

@@ -17,7 +17,7 @@ use super::record::{Node, RawRow};
 use super::tree::Tree;
 use super::{refusal, Refusal};
 
-/// An atom; `None` is the empty match.
+/// An atom; `None` is an empty match of either kind.
 #[derive(Clone, Copy, Debug)]
 pub struct Atom {
     pub matching: Option<Match>,

@@ -3,7 +3,7 @@
 
 use super::action::Action;
 use super::edition::Edition;
-use super::fields::{Fields, Kind, Packet, KINDS};
+use super::fields::{Fields, Kind, Packet, KINDS, WITH_PORTS};
 use super::record::RawRow;
 use super::Wrong;
 
@@ -19,8 +19,8 @@ pub struct Prefix {
     pub length: u32,
 }
 
-/// A match that some packet meets. The empty match is the `None` around it, and
-/// the default constrains nothing.
+/// A match that some packet meets. An empty match of either kind is the `None`
+/// around it, and the default constrains nothing.
 pub type Match = Fields<Prefix>;
 
 impl Packet {
@@ -94,6 +94,7 @@ impl Prefix {
 }
 
 impl Match {
+    /// The match of right words, which is `None` if no packet meets it.
     pub fn read(raw: &RawRow, edition: Edition) -> Result<Option<Match>, Wrong> {
         if *raw == raw.emptied() {
             return Ok(None);
@@ -105,7 +106,7 @@ impl Match {
         let mut parts = KINDS.pairs(&read);
         let right = parts.all(|(kind, prefix)| kind.right(prefix.value) && prefix.right());
         if right {
-            Ok(Some(read))
+            Ok(read.met())
         } else {
             Err(Wrong)
         }
@@ -131,19 +132,33 @@ impl Match {
         }
     }
 
+    fn constrains_port(&self) -> bool {
+        self.source_port.constrains() || self.destination_port.constrains()
+    }
+
+    /// The match, unless it wants a port and a protocol that has none.
+    fn met(self) -> Option<Match> {
+        let has_ports = WITH_PORTS.iter().any(|one| self.protocol.covers(*one));
+        (has_ports || !self.constrains_port()).then_some(self)
+    }
+
     pub fn meets(&self, packet: &Packet) -> bool {
-        self.pairs(packet)
-            .all(|(prefix, value)| prefix.covers(*value))
+        let mut pairs = self.pairs(packet);
+        let covered = pairs.all(|(prefix, value)| prefix.covers(*value));
+        covered && (WITH_PORTS.contains(&packet.protocol) || !self.constrains_port())
     }
 
     /// The match of exactly the packets that meet both, or `None` if there are none.
     pub fn common(&self, other: &Match) -> Option<Match> {
         let mut pairs = self.pairs(other);
         let meet = pairs.all(|(one, two)| one.meets(*two));
-        meet.then(|| self.both(other, Prefix::longer))
+        let common = meet.then(|| self.both(other, Prefix::longer));
+        common.and_then(Match::met)
     }
 
-    /// Whether every packet that meets the other meets this one.
+    /// Whether every packet that meets the other meets this one. Of matches that
+    /// some packet meets the values decide it one by one: where this one wants a
+    /// port, the other wants the same.
     pub fn holds(&self, other: &Match) -> bool {
         self.pairs(other).all(|(one, two)| one.holds(*two))
     }

@@ -4,7 +4,7 @@
 use super::edition::{Edition, NODE_WORDS};
 use super::fields::Packet;
 
-/// The flag of the empty match, which stands alone.
+/// The flag that makes a match empty and stands alone.
 pub const EMPTY: u32 = 16;
 
 /// An atom or a row.
@@ -66,7 +66,7 @@ impl RawRow {
         words
     }
 
-    /// The same action with the empty match.
+    /// The same action with a match of zeros and the flag `EMPTY`.
     pub fn emptied(&self) -> RawRow {
         RawRow {
             flags: EMPTY,
