@@ -178,11 +178,11 @@ pub fn operator_of(words: &[u32]) -> Operator
     Operator { cells }
 }
 
-// Whether two words are an action's.
+// Whether two words are an action's: a kind, a rate that is not too large, and a rate other than 0 for GMB alone.
 pub fn right_action(kind: u32, rate: u32) -> bool
     ensures { λ r. ⌜ r ≡ rightAction kind rate ⌝ }
 {
-    ((kind < GMB) & (rate == 0)) | ((kind == GMB) & ((1 <= rate) & (rate <= LARGEST_RATE)))
+    (kind <= GMB) & (rate <= LARGEST_RATE) & ((kind == GMB) == (rate != 0))
 }
 
 // Whether a cell may have a code.

@@ -10,7 +10,7 @@ use action::Action;
 use action::Operator;
 use flow::Match;
 use flow::common;
-use flow::is_empty;
+use flow::overlap;
 use flow::read_match;
 use row::ROW_WORDS;
 use row::row_action;
@@ -90,11 +90,11 @@ fn add_common(
     ensures { λ r. ⌜ Lays at (commonWords (operator .cells) (record { match = m; action = a }) (now (row .entry)))
         (now (out .entry)) (now (out .exit)) r ⌝ }
 {
-    let both = common(m, read_match(row));
-    if is_empty(both) {
+    let other = read_match(row);
+    if !overlap(m, other) {
         return Made::Words(at);
     }
-    let words = words_of_row(both, operator.join(a, row_action(row)));
+    let words = words_of_row(common(m, other), operator.join(a, row_action(row)));
     append(out, at, &words)
 }
 

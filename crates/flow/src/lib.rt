@@ -46,6 +46,9 @@ const EMPTY: u32 = 16;
 // The flags of the two ports.
 const PORTS: u32 = SOURCE_PORT + DESTINATION_PORT;
 
+// The flags of which every empty match has one.
+const EMPTY_FLAGS: u32 = PORTS + EMPTY;
+
 // The flags that may stand together.
 const KNOWN_FLAGS: u32 = IN_PORT + PROTOCOL + PORTS;
 

@@ -7,6 +7,7 @@ ghost use Rattle.flow.specs.Match.{matchOf, matchWords, constrains, hasP
 ghost use Rattle.flow.specs.Match.{isNone, isPlain, rightMatch, meets, overlap, inside, both, common};
 use crate::DESTINATION_PORT;
 use crate::EMPTY;
+use crate::EMPTY_FLAGS;
 use crate::IN_PORT;
 use crate::KNOWN_FLAGS;
 use crate::Match;
@@ -76,12 +77,16 @@ pub fn overlap(a: Match, b: Match) -> bool
     if !agree_in(a, b, SOURCE_PORT, a.sourceport, b.sourceport) {
         return false;
     }
-    agree_in(a, b, IN_PORT, a.inport, b.inport)
-        & agree_in(a, b, PROTOCOL, a.protocol, b.protocol)
-        & !unmet(
-            a.flags | b.flags,
-            common_value(constrains(a, PROTOCOL), a.protocol, b.protocol),
-        )
+    if !agree_in(a, b, IN_PORT, a.inport, b.inport) {
+        return false;
+    }
+    if !agree_in(a, b, PROTOCOL, a.protocol, b.protocol) {
+        return false;
+    }
+    !unmet(
+        a.flags | b.flags,
+        common_value(constrains(a, PROTOCOL), a.protocol, b.protocol),
+    )
 }
 
 // Whether every packet that meets the first match meets the second. The addresses are tested first, as in overlap.
@@ -148,19 +153,17 @@ pub fn right_match(m: Match) -> bool
     is_none(m)
 }
 
-// Whether a match is right and has not flag 16.
+// Whether a match is right and has not flag 16. The limit of in-port and ports is a power of two, so that they are below
+// it exactly if all their bits together are.
 pub fn is_plain(m: Match) -> bool
     ensures { λ r. ⌜ r ≡ isPlain m ⌝ }
 {
     ((m.flags & KNOWN_FLAGS) == m.flags)
-        & right_value(constrains(m, IN_PORT), PORT_LIMIT, m.inport)
+        & ((m.inport | m.sourceport | m.destinationport) < PORT_LIMIT)
+        & (constrains(m, IN_PORT) | (m.inport == 0))
         & right_value(constrains(m, PROTOCOL), PROTOCOL_LIMIT, m.protocol)
-        & right_value(constrains(m, SOURCE_PORT), PORT_LIMIT, m.sourceport)
-        & right_value(
-            constrains(m, DESTINATION_PORT),
-            PORT_LIMIT,
-            m.destinationport,
-        )
+        & (constrains(m, SOURCE_PORT) | (m.sourceport == 0))
+        & (constrains(m, DESTINATION_PORT) | (m.destinationport == 0))
         & right_prefix(m.source, m.sourcelength)
         & right_prefix(m.destination, m.destinationlength)
 }
@@ -234,8 +237,10 @@ fn meets_ports(on: bool, protocol: u32) -> bool
 fn unmet(flags: u32, protocol: u32) -> bool
     ensures { λ r. ⌜ r ≡ unmet flags protocol ⌝ }
 {
-    ((flags & EMPTY) != 0)
-        | (((flags & PORTS) != 0) & ((flags & PROTOCOL) != 0) & !has_ports(protocol))
+    if (flags & EMPTY_FLAGS) == 0 {
+        return false;
+    }
+    ((flags & EMPTY) != 0) | (((flags & PROTOCOL) != 0) & !has_ports(protocol))
 }
 
 // Whether a protocol has ports.

@@ -59,7 +59,10 @@ pub fn right_row(row: &[u32]) -> bool
     ensures { λ r. ⌜ r ≡ rightRow (now (row .entry)) ⌝ }
 {
     let m = read_match(row);
-    is_plain(m) & !is_empty(m) & right_row_action(row)
+    if !(is_plain(m) & right_row_action(row)) {
+        return false;
+    }
+    !is_empty(m)
 }
 
 // Whether the match of an atom or a row is right.
