@@ -1,14 +1,15 @@
 -- The turns of the loops over rows: the first row of those that are left, and then the others. Assumes nothing.
 use Prim.Native.Nat.{ℕ, _+_, _-_, _≤_, _<_}
 use native.Mathlib.Omega.{arith}
-use mathlib.Core.Path.{_≡_, refl, ap, ap₂, _∙_}
-use mathlib.Core.Bool.{Bool, true, false}
+use mathlib.Core.Path.{_≡_, refl, sym, ap, ap₂, _∙_}
+use mathlib.Core.Bool.{Bool, true, false, not}
 use mathlib.Core.List.{List, [], _++_}
 use lib.ListN.{length, take, drop}
 use Rattle.words.proofs.Records.{flat-append, rows-at, rows-end}
 use Rattle.theory.specs.Rows.{Row, kept, commonRow, commonWith, commonRows}
-use Rattle.flow.specs.Match.{isEmpty, common, matchOf}
+use Rattle.flow.specs.Match.{isEmpty, overlap, common, matchOf}
 use Rattle.flow.specs.declared.Match.{Match}
+use Rattle.flow.proofs.Laws.{common-empty}
 use Rattle.action.specs.Operator as operator
 use Rattle.action.specs.declared.Action.{Action}
 use Rattle.row.specs.Row.{rowLength, rowOf, rowAction, rowWords, rowsIn, wordsOf}
@@ -19,19 +20,23 @@ pub some-words : 0 < rowLength
 some-words = omega arith
 
 module _ (o : List ℕ) (r : Row Match Action) where
-  -- the match n of s, the common match m, and whether that is empty, as the code finds them
-  module _ (s : List ℕ) {n m : Match} {b : Bool} (read : n ≡ matchOf s) (both : m ≡ common (r .match) n) (tested : b ≡ isEmpty m) where
-    -- a common row that is empty is dropped
-    pub common-dropped : b ≡ true → commonWords o r s ≡ []
-    unfolding commonWords
-    common-dropped t = let h : isEmpty (common (r .match) (matchOf s)) ≡ true = cc in rw h
+  -- the match n of s, and whether it overlaps that of r, as the code finds them
+  module _ (s : List ℕ) {n : Match} {b : Bool} (read : n ≡ matchOf s) (tested : b ≡ overlap (r .match) n) where
+    -- their common match is empty exactly where they do not
+    empty : isEmpty (common (r .match) (matchOf s)) ≡ not b
+    empty = common-empty (r .match) (matchOf s) ∙ ap not (ap (overlap (r .match)) (sym read) ∙ sym tested)
 
-    -- any other is kept, with the joined action, left from r
-    pub common-kept : b ≡ false → {x z : Action} {words : List ℕ} → x ≡ rowAction s → z ≡ operator.join o (r .action) x
-        → words ≡ rowWords (record { match = m; action = z }) → words ≡ commonWords o r s
+    -- then it makes no row
+    pub common-dropped : b ≡ false → commonWords o r s ≡ []
     unfolding commonWords
-    common-kept t {x} {z} p q w =
-        let h : isEmpty (common (r .match) (matchOf s)) ≡ false = cc in
+    common-dropped t = let h : isEmpty (common (r .match) (matchOf s)) ≡ true = empty ∙ ap not t in rw h
+
+    -- any other makes one, with the joined action, left from r
+    pub common-kept : b ≡ true → {m : Match} {x z : Action} {words : List ℕ} → m ≡ common (r .match) n → x ≡ rowAction s
+        → z ≡ operator.join o (r .action) x → words ≡ rowWords (record { match = m; action = z }) → words ≡ commonWords o r s
+    unfolding commonWords
+    common-kept t {m} {x} {z} both p q w =
+        let h : isEmpty (common (r .match) (matchOf s)) ≡ false = empty ∙ ap not t in
         let h₁ : m ≡ common (r .match) (matchOf s) = cc in
         let h₂ : z ≡ operator.join o (r .action) (rowAction s) = cc in
         w ∙ ap₂ (λ (m : Match) (a : Action). rowWords (record { match = m; action = a })) h₁ h₂ ∙ rw h

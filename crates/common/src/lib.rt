@@ -77,7 +77,7 @@ pub fn common_with(
     Made::Words(done)
 }
 
-// The common row of a match and action and another row, dropped if empty.
+// The common row of a match and action and another row; none where the two do not overlap.
 fn add_common(
     operator: Operator,
     m: Match,
