@@ -81,3 +81,14 @@ pub known-right : (known f g : ℕ) → Keeps (eqb (bitAnd f known) f) (eqb (bit
 known-right known f g = record {
   gives = λ p q. eq-eqb _ _ (and-or f g known ∙ ap₂ bitOr (eqb-true (bitAnd f known) f p) (eqb-true (bitAnd g known) g q));
 }
+
+-- and a flag that is not known is not set
+pub unknown-unset : (known k f : ℕ) → eqb (bitAnd f known) f ≡ true → flagged k known ≡ false → flagged k f ≡ false
+unknown-unset known k f e u =
+    let inside = eqb-true (bitAnd f known) f e in
+    let joined : bitOr f known ≡ known = omega (arith, or-add-and f known, inside) in
+    go (flagged k f) (flagged k known) u (sym (flag-or k f known) ∙ ap (flagged k) joined)
+  where
+    go : (x y : Bool) → y ≡ false → (x || y) ≡ y → x ≡ false
+    go true y p q = q ∙ p
+    go false y p q = refl

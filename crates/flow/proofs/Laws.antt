@@ -13,12 +13,12 @@ use Rattle.field.proofs.Prefixes.{prefix-joins, in-own, longer-right, longer-wi
 use Rattle.field.proofs.Values.{meets-own-value, meets-free, common-value-below}
 use Rattle.flow.specs.Packet.{portLimit, protocolLimit, rightPacket}
 use Rattle.flow.specs.Match.{inportFlag, protocolFlag, sourceportFlag, destinationportFlag, portFlags, knownFlags, emptyFlag, flagged, constrains}
-use Rattle.flow.specs.Match.{tcp, hasPorts, meetsPorts, unmet, isEmpty, isNone, isPlain, rightMatch, meets, agree, overlap, both, none, common}
-use Rattle.flow.specs.Match.{SharedPacket}
+use Rattle.flow.specs.Match.{tcp, hasPorts, meetsPorts, clash, contradicts, unmet, isEmpty, isNone, isPlain, rightMatch, meets, agree}
+use Rattle.flow.specs.Match.{overlap, both, none, common, SharedPacket}
 use Rattle.flow.specs.Theorems.{MeetsCommon, OverlapExactly, MeetsOverlap, MetExactly, EmptyExactly, CommonRight, CommonEmpty, CommonNone}
 use Rattle.flow.specs.declared.Match.{Match}
 use Rattle.flow.specs.declared.Packet.{Packet}
-use Rattle.flow.proofs.Flags.{flag-or, unset-joins, ports-join, flagged-joins, flagged-right, known-right}
+use Rattle.flow.proofs.Flags.{flag-or, unset-joins, ports-join, flagged-joins, flagged-right, known-right, unknown-unset}
 use Rattle.flow.proofs.Tests.{tested, met-lives, meets-empty}
 use Rattle.logic.specs.Tests.{Joins, Keeps}
 use Rattle.logic.proofs.Tests.{by-test, and-left, and-right, and-both, and-under, or-split, same-test, joins-and, keeps-and}
@@ -99,7 +99,7 @@ own-protocol-met m = go (constrains protocolFlag m)
     go false = meets-free false (m .protocol) tcp refl
 
 pub own-protocol-ports : (m : Match) → isEmpty m ≡ false → meetsPorts (constrains portFlags m) (ownProtocol m) ≡ true
-unfolding isEmpty unmet meetsPorts
+unfolding isEmpty unmet clash meetsPorts
 own-protocol-ports m live = go (constrains emptyFlag m) (constrains portFlags m) (constrains protocolFlag m) live
   where
     go : (x on c : Bool) → (x || (on && c && not (hasPorts (m .protocol)))) ≡ false → (not on || hasPorts (cond c (m .protocol) tcp)) ≡ true
@@ -203,11 +203,19 @@ plain m e u =
     (λ n. n)
     (or-split (isNone m) (isPlain m) e)
 
--- the right matches that are not empty are the plain ones that are not
-pub plain-exactly : (m : Match) → (isPlain m && not (isEmpty m)) ≡ (rightMatch m && not (isEmpty m))
+-- a plain match has not flag 16, so it is empty exactly if it contradicts itself
+plain-empty : (m : Match) → isPlain m ≡ true → isEmpty m ≡ contradicts m
+unfolding isPlain isEmpty unmet contradicts
+plain-empty m e =
+    ap (λ (t : Bool). t || contradicts m)
+    (unknown-unset knownFlags emptyFlag (m .flags) (by-test (eqb (bitAnd (m .flags) knownFlags) (m .flags)) (λ t. t) (λ f. cc)) refl)
+
+-- the right matches that are not empty are the plain ones that do not contradict themselves
+pub plain-exactly : (m : Match) → (isPlain m && not (contradicts m)) ≡ (rightMatch m && not (isEmpty m))
 unfolding rightMatch
 plain-exactly m =
-    and-under (isPlain m) (rightMatch m) (not (isEmpty m))
+    by-test (isPlain m) (λ e. ap (λ (t : Bool). isPlain m && not t) (sym (plain-empty m e))) (λ f. rw f)
+    ∙ and-under (isPlain m) (rightMatch m) (not (isEmpty m))
     (λ live. same-test (isPlain m) (rightMatch m)
     (λ e. ap (λ (t : Bool). isNone m || t) e ∙ or-true (isNone m))
     (λ e. plain m e (unflagged m (not-true (isEmpty m) live))))

@@ -7,7 +7,7 @@ use borrow.Author.Tests.{eqb-true}
 use Rattle.field.specs.Prefix.{addressBits, inPrefix}
 use Rattle.field.specs.Value.{meetsValue}
 use Rattle.flow.specs.Match.{inportFlag, protocolFlag, sourceportFlag, destinationportFlag, portFlags, emptyFlag, constrains}
-use Rattle.flow.specs.Match.{hasPorts, meetsPorts, unmet, isEmpty, meets}
+use Rattle.flow.specs.Match.{hasPorts, meetsPorts, clash, unmet, isEmpty, meets}
 use Rattle.flow.specs.Theorems.{MeetsEmpty, PortsMet}
 use Rattle.flow.specs.declared.Match.{Match}
 use Rattle.flow.specs.declared.Packet.{Packet}
@@ -59,7 +59,7 @@ lives false true true q r u o v = ap not (ap hasPorts (eqb-true q r v) ∙ o)
 
 -- a match that some packet meets is not empty
 pub met-lives : (m : Match) (p : Packet) → meets m p ≡ true → isEmpty m ≡ false
-unfolding isEmpty unmet
+unfolding isEmpty unmet clash
 met-lives m p e =
     let t : Tests m p = tests m p e in
     lives (constrains emptyFlag m) (constrains portFlags m) (constrains protocolFlag m) (m .protocol) (p .protocol) (t .unflagged) (t .ports) (t .protocol)

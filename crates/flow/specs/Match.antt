@@ -9,6 +9,7 @@
 --   flagged k f           a flag of k is among the flags f; constrains k m: among those of m
 --   hasPorts q            the protocol q has ports
 --   meetsPorts on q       no port is constrained, or the protocol q has ports
+--   clash f q             the flags f ask for a port, and for the protocol q, which has none; contradicts m: those of m
 --   unmet f q             no packet meets a match with the flags f and the protocol q
 --   isEmpty m             no packet meets m
 --   none, isNone m        the empty match of flag 16 in its only right form, and that m's words are its words
@@ -122,9 +123,17 @@ hasPorts q = eqb q tcp || eqb q udp
 unfoldable pub meetsPorts : Bool → ℕ → Bool
 meetsPorts on q = not on || hasPorts q
 
--- no packet meets a match with the flags f and the protocol q: it has flag 16, or a port and a protocol without ports
+-- a match with the flags f and the protocol q constrains a port and a protocol without ports
+unfoldable pub clash : ℕ → ℕ → Bool
+clash f q = flagged portFlags f && flagged protocolFlag f && not (hasPorts q)
+
+-- the match contradicts itself
+unfoldable pub contradicts : Match → Bool
+contradicts m = clash (m .flags) (m .protocol)
+
+-- no packet meets a match with the flags f and the protocol q: it has flag 16, or the two clash
 unfoldable pub unmet : ℕ → ℕ → Bool
-unmet f q = flagged emptyFlag f || (flagged portFlags f && flagged protocolFlag f && not (hasPorts q))
+unmet f q = flagged emptyFlag f || clash f q
 
 -- no packet meets the match
 unfoldable pub isEmpty : Match → Bool

@@ -2,6 +2,7 @@
 // match that both together are.
 pub use crate::matches::common;
 pub use crate::matches::constrains;
+pub use crate::matches::contradicts;
 pub use crate::matches::is_empty;
 pub use crate::matches::is_plain;
 pub use crate::matches::lies_inside;

@@ -3,8 +3,9 @@
 ghost use mathlib.Core.Path.{_≡_};
 ghost use Rattle.field.specs.Value.{valuesMeet, valueInside};
 ghost use Rattle.words.specs.Words.{copied};
-ghost use Rattle.flow.specs.Match.{matchOf, matchWords, constrains, hasPorts, meetsPorts, unmet, isEmpty};
-ghost use Rattle.flow.specs.Match.{isNone, isPlain, rightMatch, meets, overlap, inside, both, common};
+ghost use Rattle.flow.specs.Match.{matchOf, matchWords, constrains, hasPorts, meetsPorts, clash, contradicts};
+ghost use Rattle.flow.specs.Match.{unmet, isEmpty, isNone, isPlain, rightMatch, meets, overlap, inside, both};
+ghost use Rattle.flow.specs.Match.{common};
 use crate::DESTINATION_PORT;
 use crate::EMPTY;
 use crate::EMPTY_FLAGS;
@@ -136,6 +137,13 @@ pub fn is_empty(m: Match) -> bool
     unmet(m.flags, m.protocol)
 }
 
+// Whether a match contradicts itself: it constrains a port, and the protocol to one without ports.
+pub fn contradicts(m: Match) -> bool
+    ensures { λ r. ⌜ r ≡ contradicts m ⌝ }
+{
+    clash(m.flags, m.protocol)
+}
+
 // Whether a match has a flag; of several flags together, whether it has any of them.
 pub fn constrains(m: Match, flag: u32) -> bool
     ensures { λ r. ⌜ r ≡ constrains flag m ⌝ }
@@ -232,15 +240,23 @@ fn meets_ports(on: bool, protocol: u32) -> bool
     !on | has_ports(protocol)
 }
 
-// Whether no packet meets a match with these flags and this protocol: a protocol without ports and a port exclude each
-// other.
+// Whether no packet meets a match with these flags and this protocol.
 fn unmet(flags: u32, protocol: u32) -> bool
     ensures { λ r. ⌜ r ≡ unmet flags protocol ⌝ }
 {
     if (flags & EMPTY_FLAGS) == 0 {
         return false;
     }
-    ((flags & EMPTY) != 0) | (((flags & PROTOCOL) != 0) & !has_ports(protocol))
+    ((flags & EMPTY) != 0) | clash(flags, protocol)
+}
+
+// Whether these flags ask for a port, and for this protocol, which has none. Which flags a protocol bars is picked and
+// not branched on: in a table of many rows it is not foreseen.
+fn clash(flags: u32, protocol: u32) -> bool
+    ensures { λ r. ⌜ r ≡ clash flags protocol ⌝ }
+{
+    let barred = common_value(((flags & PROTOCOL) == 0) | has_ports(protocol), 0, PORTS);
+    (flags & barred) != 0
 }
 
 // Whether a protocol has ports.

@@ -8,7 +8,7 @@ use action::rate;
 use action::right_action;
 use flow::MATCH_WORDS;
 use flow::Match;
-use flow::is_empty;
+use flow::contradicts;
 use flow::is_plain;
 use flow::read_match;
 use flow::right_match;
@@ -54,7 +54,7 @@ pub fn words_of_row(m: Match, a: Action) -> RowWords
     ]
 }
 
-// Whether a row is right: a right match that is not empty, and a right action.
+// Whether a row is right: a right match that is not empty, so without flag 16 and a contradiction, and a right action.
 pub fn right_row(row: &[u32]) -> bool
     ensures { λ r. ⌜ r ≡ rightRow (now (row .entry)) ⌝ }
 {
@@ -62,7 +62,7 @@ pub fn right_row(row: &[u32]) -> bool
     if !(is_plain(m) & right_row_action(row)) {
         return false;
     }
-    !is_empty(m)
+    !contradicts(m)
 }
 
 // Whether the match of an atom or a row is right.

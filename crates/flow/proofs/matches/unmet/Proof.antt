@@ -1,4 +1,4 @@
--- `flow::matches::unmet` meets its contract: without a port and flag 16 a match is not empty, and with one of them the protocol tells.
+-- `flow::matches::unmet` meets its contract: without a port and flag 16 a match is not empty.
 -- Assumes nothing.
 use Prim.Native.Nat.{ℕ, _+_}
 use mathlib.Core.Path.{_≡_, refl, sym, ap, _∙_}
@@ -6,15 +6,14 @@ use mathlib.Core.Bool.{Bool, true, false, not, _&&_, _||_, false≢true}
 use lib.Bits.{bitAnd}
 use lib.Dec.{eqb}
 use borrow.Author.Needs.{needs}
-use borrow.Author.Tests.{ne-eqb}
-use Rattle.flow.specs.Match.{protocolFlag, portFlags, emptyFlag, flagged, hasPorts, unmet}
+use Rattle.flow.specs.Match.{protocolFlag, portFlags, emptyFlag, flagged, hasPorts, clash, unmet}
 use Rattle.flow.proofs.Flags.{flag-either}
 use Rattle.flow.proofs.matches.unmet.Statement.{statement}
 use Rattle.flow.proofs.matches.unmet.Tie as tie
 
 -- none of these flags
 without : (f q : ℕ) → bitAnd f (portFlags + emptyFlag) ≡ 0 → false ≡ unmet f q
-unfolding unmet
+unfolding unmet clash
 without f q e =
     sym (go (flagged portFlags f) (flagged emptyFlag f) (sym (flag-either portFlags emptyFlag f) ∙ ap (λ (x : ℕ). not (eqb x 0)) e))
   where
@@ -23,23 +22,12 @@ without f q e =
     go false true h = h
     go false false h = refl
 
--- one of them
-with : (f q : ℕ) → ¬ (bitAnd f (portFlags + emptyFlag) ≡ 0) → (flagged emptyFlag f || (flagged protocolFlag f && not (hasPorts q))) ≡ unmet f q
-unfolding unmet
-with f q n =
-    go (flagged portFlags f) (flagged emptyFlag f) (sym (flag-either portFlags emptyFlag f) ∙ ap not (ne-eqb (bitAnd f (portFlags + emptyFlag)) 0 n))
-  where
-    go : (p x : Bool) → (p || x) ≡ true
-        → (x || (flagged protocolFlag f && not (hasPorts q))) ≡ (x || (p && flagged protocolFlag f && not (hasPorts q)))
-    go p true h = refl
-    go true false h = refl
-    go false false h = absurd (false≢true h)
-
 returns : tie.Need-returns
 returns c = without _ _ (c .if1 .taken)
 
 returns-2 : tie.Need-returns-2
-returns-2 c = rw (c .has-ports .ensures) (with _ _ (c .before .if1 .left))
+unfolding unmet
+returns-2 c = rw (c .clash .ensures)
 
 pub unmet-spec : {M : Type 1} → statement M
 unmet-spec = tie.close (tie.spec returns (search needs) returns-2)
