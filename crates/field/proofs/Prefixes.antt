@@ -1,12 +1,13 @@
 -- Laws of prefixes, over the width w: numbers that agree in n bits agree in any fewer, and all else follows. Assumes nothing.
 use mathlib.Core.Path.{_≡_, refl, sym, ap, _∙_, subst}
 use mathlib.Core.Bool.{Bool, true, false, cond, _&&_, and-comm}
-use Prim.Native.Nat.{ℕ, _+_, _-_, _*_, _/_, _%_, _^_, _≤_, _<_}
+use Prim.Native.Nat.{ℕ, zero, suc, _+_, _-_, _*_, _/_, _%_, _^_, _≤_, _<_}
 use native.Mathlib.Omega.{arith}
-use native.Mathlib.Nat.{le-of-lt, add-zero, add-mul-div-right, mul-div-cancel, mul-mod-left, zero-div}
+use native.Mathlib.Nat.{le-of-lt, add-mul-div-right}
 use lib.Dec.{eqb, leb}
-use lib.Pow.{shr-shr, shr-lt, high, pow-add, pow-pos, pow-lt, mod-pow-add, mod-mod-pow}
+use lib.Pow.{shr-shr, shr-lt, high, pow-add, pow-pos, pow-lt, mod-pow-add}
 use lib.Arith.{digits-lt}
+use lib.Count.{trailingZeros, under}
 use lib.Bits.{bitXor, xor-shr, xor-self, xor-add-and, and-le-l, and-le-r}
 use borrow.Author.Tests.{eqb-true, eq-eqb, leb-true, leb-false, le-leb}
 use Rattle.field.specs.Prefix.{leading, inPrefix, rightPrefix, prefixesMeet, covers, longerAddress, longerLength}
@@ -156,17 +157,33 @@ covers-exactly w p m q n hm hq = (contains, covered)
             ap (λ (k : ℕ). k / 2 ^ (w - m)) one ∙ add-mul-div-right (base + 0) 1 (pow-pos (w - m)) in
             absurd (omega (arith, next, at-block l 0 (pow-pos (w - n)), at-block l (2 ^ (w - m)) less))
 
--- the bits beyond are 0 exactly when nothing is left of the number, in w bits, once the others are shifted out
-pub zero-test : (w p n : ℕ) → n ≤ w → eqb ((p * 2 ^ n) % 2 ^ (w + w) % 2 ^ w) 0 ≡ eqb (p % 2 ^ (w - n)) 0
+-- a number of k bits ends in j zeros exactly where nothing is left of it by 2 ^ j
+half-step : (p j : ℕ) → p % 2 ^ suc j ≡ (p / 2 % 2 ^ j) * 2 + p % 2
+half-step p j = let e : suc j ≡ j + 1 = omega arith in ap (λ (k : ℕ). p % 2 ^ k) e ∙ mod-pow-add p j 1
+
+ends-in : (k p j : ℕ) → j ≤ k → j ≤ trailingZeros k p → p % 2 ^ j ≡ 0
+unfolding trailingZeros
+ends-in k p zero h e = omega arith
+ends-in zero p (suc j) h e = absurd (omega arith)
+ends-in (suc k) p (suc j) h e = go (p % 2) refl (ends-in k (p / 2) j (omega arith)) e
+  where
+    go : (d : ℕ) → p % 2 ≡ d → (j ≤ trailingZeros k (p / 2) → p / 2 % 2 ^ j ≡ 0) → suc j ≤ under d (trailingZeros k (p / 2)) → p % 2 ^ suc j ≡ 0
+    go zero z ih f = let rest = ih (omega arith) in omega (arith, half-step p j, rest, z)
+    go (suc d) z ih f = absurd (omega arith)
+
+as-many : (k p j : ℕ) → j ≤ k → p % 2 ^ j ≡ 0 → j ≤ trailingZeros k p
+unfolding trailingZeros
+as-many k p zero h e = omega arith
+as-many zero p (suc j) h e = absurd (omega arith)
+as-many (suc k) p (suc j) h e = go (p % 2) refl (as-many k (p / 2) j (omega arith))
+  where
+    go : (d : ℕ) → p % 2 ≡ d → (p / 2 % 2 ^ j ≡ 0 → j ≤ trailingZeros k (p / 2)) → suc j ≤ under d (trailingZeros k (p / 2))
+    go zero z ih = let rest = ih (omega (arith, half-step p j, e)) in omega arith
+    go (suc d) z ih = absurd (omega (arith, half-step p j, e, z))
+
+-- so the bits beyond are 0 exactly when the number ends in so many zeros
+pub zero-test : (w p n : ℕ) → n ≤ w → leb w (trailingZeros w p + n) ≡ eqb (p % 2 ^ (w - n)) 0
 zero-test w p n h =
-    let back : (x : ℕ) → x * 2 ^ n / 2 ^ n ≡ x = λ x. mul-div-cancel x (pow-pos n) in
-    let whole : (w - n) + n ≡ w = omega arith in
-    let left : (p * 2 ^ n) % 2 ^ w ≡ p % 2 ^ (w - n) * 2 ^ n =
-    ap (λ (k : ℕ). (p * 2 ^ n) % 2 ^ k) (sym whole)
-    ∙ mod-pow-add (p * 2 ^ n) (w - n) n
-    ∙ rw (back p, mul-mod-left p (2 ^ n), add-zero (p % 2 ^ (w - n) * 2 ^ n)) in
-    rw (mod-mod-pow (p * 2 ^ n) w w, left)
-    (same-test (eqb (p % 2 ^ (w - n) * 2 ^ n) 0) (eqb (p % 2 ^ (w - n)) 0)
-    (λ e. eq-eqb (p % 2 ^ (w - n)) 0
-    (sym (back (p % 2 ^ (w - n))) ∙ ap (λ (k : ℕ). k / 2 ^ n) (eqb-true (p % 2 ^ (w - n) * 2 ^ n) 0 e) ∙ zero-div (2 ^ n)))
-    (λ e. eq-eqb (p % 2 ^ (w - n) * 2 ^ n) 0 (rw (eqb-true (p % 2 ^ (w - n)) 0 e) (omega arith))))
+    same-test (leb w (trailingZeros w p + n)) (eqb (p % 2 ^ (w - n)) 0)
+    (λ e. let f = leb-true w (trailingZeros w p + n) e in eq-eqb (p % 2 ^ (w - n)) 0 (ends-in w p (w - n) (omega arith) (omega (arith, f, h))))
+    (λ e. let f = as-many w p (w - n) (omega arith) (eqb-true (p % 2 ^ (w - n)) 0 e) in le-leb w (trailingZeros w p + n) (omega (arith, f, h)))

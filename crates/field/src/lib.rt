@@ -9,9 +9,6 @@ ghost use Rattle.field.specs.Value.{meetsValue, valuesMeet, valueInside,
 // How many bits an address has.
 pub const ADDRESS_BITS: u32 = 32;
 
-// How many addresses there are.
-const ADDRESSES: u64 = 1 << 32;
-
 // Whether the address x lies in the prefix p of n bits. A length beyond 32 counts as 32.
 pub fn in_prefix(p: u32, n: u32, x: u32) -> bool
     ensures { λ r. ⌜ r ≡ inPrefix addressBits p n x ⌝ }
@@ -104,12 +101,12 @@ fn bits_beyond(n: u32) -> u32
     }
 }
 
-// Whether the bits of p beyond the length are 0: those that are left of it in 32 bits, when the length is shifted out.
+// Whether the bits of p beyond the length are 0: it ends in so many zeros.
 fn zero_beyond(p: u32, n: u32) -> bool
     requires { ⌜ n ≤ addressBits ⌝ }
     ensures { λ r. ⌜ r ≡ zeroBeyond addressBits p n ⌝ }
 {
-    ((p as u64) << n) % ADDRESSES == 0
+    ADDRESS_BITS <= u32::trailing_zeros(p) + n
 }
 
 fn pick(t: bool, a: u32, b: u32) -> u32

@@ -27,6 +27,7 @@ use Rattle.flow.proofs.overlap.Reads as overlap
 use Rattle.flow.proofs.lies_inside.Reads as lies-inside
 use Rattle.flow.proofs.common.Reads as common
 use Rattle.flow.proofs.is_empty.Reads as is-empty
+use Rattle.flow.proofs.contradicts.Reads as contradicts
 use Rattle.flow.proofs.constrains.Reads as constrains
 use Rattle.flow.proofs.right_match.Reads as right-match
 use Rattle.flow.proofs.is_plain.Reads as is-plain
@@ -171,6 +172,9 @@ common-one = fixed (λ κ a r s p. p)
 
 is-empty-one : OneAnswer is-empty.Pre is-empty.Post (λ κ r s. r)
 is-empty-one = fixed (λ κ a r s p. p)
+
+contradicts-one : OneAnswer contradicts.Pre contradicts.Post (λ κ r s. r)
+contradicts-one = fixed (λ κ a r s p. p)
 
 constrains-one : OneAnswer constrains.Pre constrains.Post (λ κ r s. r)
 constrains-one = fixed (λ κ a r s p. p)

@@ -5,7 +5,7 @@ use Rattle.field.specs.Value.{meetsValue, valuesMeet, valueInside, rightValue}
 use Rattle.words.specs.Words.{laid}
 use Rattle.words.specs.Records.{rowsOf}
 use Rattle.flow.specs.Packet.{rightPacket, rightPacketWords}
-use Rattle.flow.specs.Match.{meetsPorts, unmet, isEmpty, isNone, isPlain, rightMatch, meets, overlap, common, both, inside}
+use Rattle.flow.specs.Match.{meetsPorts, clash, unmet, isEmpty, isNone, isPlain, rightMatch, meets, overlap, common, both, inside}
 use Rattle.action.specs.Action.{actionOf, rightAction, inRange}
 use Rattle.action.specs.Operator.{coded, join, rightCell}
 use Rattle.action.specs.Laws.{commutes, associates, shown, pairs, triples, firstPair, firstTriple, lawSearch}
@@ -28,7 +28,7 @@ use Rattle.promises.specs.Ports.{portCases}
 -- both lists of cases, since they are worked out by the same definitions
 all-cases : WorkedCases × Hold portCases
 unfolding inPrefix rightPrefix zeroBeyond prefixesMeet covers meetsValue valuesMeet valueInside rightValue laid rowsOf rightPacket rightPacketWords
-    meetsPorts unmet isEmpty isNone isPlain rightMatch meets overlap common both inside actionOf rightAction inRange coded join rightCell commutes associates
+    meetsPorts clash unmet isEmpty isNone isPlain rightMatch meets overlap common both inside actionOf rightAction inRange coded join rightCell commutes associates
     shown pairs triples firstPair firstTriple lawSearch rowAction rightRowMatch rightRowAction rightRow countFault cellsFault atomFault nodeFault sectionFault
     shapeFault sumFault operatorFault lawsFault wholeStages stages answer readAs tree.acceptedAction tree.treeActionOf rightLength checkRows checkOf
     scanOf keptWords keptOf tableKept over levelsOf numberOf prioritiesAfter chainAfter compiledRows answerOf tableAfter scratchAfter digits decimal number

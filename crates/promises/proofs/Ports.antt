@@ -1,16 +1,16 @@
 -- Ports only where there are ports: each sentence from the laws of matches, or by computation. Assumes nothing.
 use Prim.Native.Nat.{ℕ, _<_}
 use mathlib.Core.Path.{_≡_, refl, sym, ap, _∙_}
-use mathlib.Core.Bool.{Bool, true, false, not, _&&_, _||_, and-eq-true-iff, and-true, and-false, or-true, false≢true}
+use mathlib.Core.Bool.{Bool, true, false, not, _||_, and-eq-true-iff, and-true, and-false, or-true, false≢true}
 use mathlib.Core.List.{List}
 use mathlib.Core.Logic.{⊎-elim, _⊎_, inl, inr}
 use lib.Dec.{eqb}
-use borrow.Author.Tests.{eqb-true, eq-eqb, lt-ltb}
-use Rattle.logic.proofs.Tests.{by-test, and-both, or-split}
+use borrow.Author.Tests.{eqb-true, lt-ltb}
+use Rattle.logic.proofs.Tests.{and-both, or-split}
 use Rattle.field.specs.Value.{rightValue}
 use Rattle.flow.specs.Packet.{protocolLimit}
 use Rattle.flow.specs.Match.{sourceportFlag, destinationportFlag, protocolFlag, portFlags, emptyFlag, constrains, flagged, hasPorts, meetsPorts, matchOf}
-use Rattle.flow.specs.Match.{unmet, isEmpty, isNone, isPlain, rightMatch, fits, meets}
+use Rattle.flow.specs.Match.{isEmpty, isNone, isPlain, rightMatch, fits, meets}
 use Rattle.flow.specs.declared.Match.{Match}
 use Rattle.flow.specs.declared.Packet.{Packet}
 use Rattle.flow.proofs.Flags.{flag-either}

@@ -4,7 +4,7 @@ use Rattle.field.specs.Prefix.{inPrefix, rightPrefix, zeroBeyond, prefixesMeet,
 use Rattle.field.specs.Value.{meetsValue, valuesMeet, valueInside, rightValue}
 use Rattle.words.specs.Words.{laid}
 use Rattle.words.specs.Records.{rowsOf}
-use Rattle.flow.specs.Match.{unmet, isEmpty, isNone, isPlain, rightMatch, overlap, common, both, inside}
+use Rattle.flow.specs.Match.{clash, unmet, isEmpty, isNone, isPlain, rightMatch, overlap, common, both, inside}
 use Rattle.action.specs.Action.{actionOf, rightAction, inRange}
 use Rattle.action.specs.Operator.{coded, join, rightCell}
 use Rattle.action.specs.Laws.{commutes, associates, shown, pairs, triples, firstPair, firstTriple, lawSearch}
@@ -22,7 +22,7 @@ use Rattle.text.specs.Listing.{rightInput, shownText, fileText, listingO
 use Rattle.text.specs.Theorems.{ExamplesListed}
 
 pub examples-listed : ExamplesListed
-unfolding inPrefix rightPrefix zeroBeyond prefixesMeet covers meetsValue valuesMeet valueInside rightValue laid rowsOf unmet isEmpty isNone isPlain rightMatch
+unfolding inPrefix rightPrefix zeroBeyond prefixesMeet covers meetsValue valuesMeet valueInside rightValue laid rowsOf clash unmet isEmpty isNone isPlain rightMatch
     overlap common both inside actionOf rightAction inRange coded join rightCell commutes associates shown pairs triples firstPair firstTriple lawSearch rowAction
     rightRowMatch rightRowAction rightRow countFault cellsFault atomFault nodeFault sectionFault shapeFault sumFault operatorFault lawsFault wholeStages
     stages answer readAs rightLength checkRows checkOf keptWords keptOf tableKept over levelsOf numberOf compiledRows answerOf tableAfter digits decimal
