@@ -9,11 +9,11 @@ use lib.Pow.{shr-shr, shr-lt, high, pow-add, pow-pos, pow-lt, mod-pow-add}
 use lib.Arith.{digits-lt}
 use lib.Count.{trailingZeros, under}
 use lib.Bits.{bitXor, xor-shr, xor-self, xor-add-and, and-le-l, and-le-r}
-use borrow.Author.Tests.{eqb-true, eq-eqb, leb-true, leb-false, le-leb}
-use Rattle.field.specs.Prefix.{leading, inPrefix, rightPrefix, prefixesMeet, covers, longerAddress, longerLength}
+use borrow.Author.Tests.{eqb-true, eq-eqb, leb-true, leb-false, le-leb, lt-ltb}
+use Rattle.field.specs.Prefix.{leading, inPrefix, zeroBeyond, rightPrefix, prefixesMeet, covers, longerAddress, longerLength}
 use Rattle.field.specs.Theorems.{InBoth, SharedAddress, MeetExactly, Contains, CoversExactly}
 use Rattle.logic.specs.Tests.{Joins, Keeps}
-use Rattle.logic.proofs.Tests.{and-left, and-right, and-both, and-under, same-test}
+use Rattle.logic.proofs.Tests.{by-test, and-left, and-right, and-both, and-under, same-test}
 
 -- numbers that agree in n bits agree in any fewer
 leading-fewer : (w m n a b : ℕ) → m ≤ n → leading w n a ≡ leading w n b → leading w m a ≡ leading w m b
@@ -181,9 +181,17 @@ as-many (suc k) p (suc j) h e = go (p % 2) refl (as-many k (p / 2) j (omega arit
     go zero z ih = let rest = ih (omega (arith, half-step p j, e)) in omega arith
     go (suc d) z ih = absurd (omega (arith, half-step p j, e, z))
 
--- so the bits beyond are 0 exactly when the number ends in so many zeros
-pub zero-test : (w p n : ℕ) → n ≤ w → leb w (trailingZeros w p + n) ≡ eqb (p % 2 ^ (w - n)) 0
+-- so its bits beyond a length are 0 exactly when it has no more bits than that up to its last 1
+zero-test : (w p n : ℕ) → n ≤ w → leb (w - trailingZeros w p) n ≡ eqb (p % 2 ^ (w - n)) 0
 zero-test w p n h =
-    same-test (leb w (trailingZeros w p + n)) (eqb (p % 2 ^ (w - n)) 0)
-    (λ e. let f = leb-true w (trailingZeros w p + n) e in eq-eqb (p % 2 ^ (w - n)) 0 (ends-in w p (w - n) (omega arith) (omega (arith, f, h))))
-    (λ e. let f = as-many w p (w - n) (omega arith) (eqb-true (p % 2 ^ (w - n)) 0 e) in le-leb w (trailingZeros w p + n) (omega (arith, f, h)))
+    same-test (leb (w - trailingZeros w p) n) (eqb (p % 2 ^ (w - n)) 0)
+    (λ e. let f = leb-true (w - trailingZeros w p) n e in eq-eqb (p % 2 ^ (w - n)) 0 (ends-in w p (w - n) (omega arith) (omega (arith, f, h))))
+    (λ e. let f = as-many w p (w - n) (omega arith) (eqb-true (p % 2 ^ (w - n)) 0 e) in le-leb (w - trailingZeros w p) n (omega (arith, f, h)))
+
+pub right-test : (w p n : ℕ) → p < 2 ^ w → (leb (w - trailingZeros w p) n && leb n w) ≡ rightPrefix w p n
+unfolding rightPrefix zeroBeyond
+right-test w p n h =
+    and-comm (leb (w - trailingZeros w p) n) (leb n w)
+    ∙ by-test (leb n w)
+    (λ e. rw (e, lt-ltb p (2 ^ w) h) (zero-test w p n (leb-true n w e)))
+    (λ f. rw (f, lt-ltb p (2 ^ w) h))

@@ -1,8 +1,8 @@
 // One field of a match: a prefix of an address, or a value that may be constrained.
 ghost use mathlib.Core.Path.{_≡_};
 ghost use mathlib.Core.Bool.{cond};
-ghost use Prim.Native.Nat.{_-_, _≤_};
-ghost use Rattle.field.specs.Prefix.{addressBits, inPrefix, zeroBeyond, rightPrefix, prefixesMeet, covers};
+ghost use Prim.Native.Nat.{_-_};
+ghost use Rattle.field.specs.Prefix.{addressBits, inPrefix, rightPrefix, prefixesMeet, covers};
 ghost use Rattle.field.specs.Prefix.{longerAddress, longerLength};
 ghost use Rattle.field.specs.Value.{meetsValue, valuesMeet, valueInside, commonValue, rightValue};
 
@@ -16,14 +16,12 @@ pub fn in_prefix(p: u32, n: u32, x: u32) -> bool
     ((p ^ x) as u64) >> bits_beyond(n) == 0
 }
 
-// Whether a prefix is right: a length of at most 32, and 0 in the bits beyond it.
+// Whether a prefix is right: a length of at most 32, and 0 in the bits beyond it, so that the address has no more bits
+// up to its last 1.
 pub fn right_prefix(p: u32, n: u32) -> bool
     ensures { λ r. ⌜ r ≡ rightPrefix addressBits p n ⌝ }
 {
-    if ADDRESS_BITS < n {
-        return false;
-    }
-    zero_beyond(p, n)
+    (ADDRESS_BITS - u32::trailing_zeros(p) <= n) & (n <= ADDRESS_BITS)
 }
 
 // Whether the prefixes p of m bits and q of n bits have an address in common.
@@ -99,14 +97,6 @@ fn bits_beyond(n: u32) -> u32
     } else {
         0
     }
-}
-
-// Whether the bits of p beyond the length are 0: it ends in so many zeros.
-fn zero_beyond(p: u32, n: u32) -> bool
-    requires { ⌜ n ≤ addressBits ⌝ }
-    ensures { λ r. ⌜ r ≡ zeroBeyond addressBits p n ⌝ }
-{
-    ADDRESS_BITS <= u32::trailing_zeros(p) + n
 }
 
 fn pick(t: bool, a: u32, b: u32) -> u32

@@ -1,26 +1,17 @@
--- `field::right_prefix` meets its contract: the address has 32 bits since it is a u32, a length beyond 32 is wrong, and the rest is the definition.
+-- `field::right_prefix` meets its contract: in how many zeros the address ends tells what stands beyond the length, by the law `right-test`.
 -- Assumes nothing.
-use borrow.Author.Needs.{needs}
-use Prim.Native.Nat.{_^_}
-use mathlib.Core.Bool.{and-false}
 use native.Mathlib.Omega.{arith}
-use borrow.Author.Tests.{lt-ltb, le-leb, lt-leb}
-use Rattle.field.specs.Prefix.{addressBits, rightPrefix}
+use lib.Count.{trailing-le}
+use Rattle.field.specs.Prefix.{addressBits}
+use Rattle.field.proofs.Prefixes.{right-test}
 use Rattle.field.proofs.right_prefix.Statement.{statement}
 use Rattle.field.proofs.right_prefix.Tie as tie
 
+sub-result : tie.Need-sub-result
+sub-result c = let few = trailing-le addressBits (c .args .p) in omega arith
+
 returns : tie.Need-returns
-unfolding rightPrefix
-returns c = rw (lt-leb (c .before .args .n) addressBits (omega arith), and-false)
-
-zero-beyond-requires : tie.Need-zero-beyond-requires
-zero-beyond-requires c κs = search needs
-
-returns-2 : tie.Need-returns-2
-unfolding rightPrefix
-returns-2 c =
-    let g = c .before .before .args in
-    rw (c .zero-beyond .ensures, lt-ltb (g .p) (2 ^ addressBits) (c .before .before .fits .p .fits), le-leb (g .n) addressBits (omega arith))
+returns c = right-test addressBits (c .args .p) (c .args .n) (c .fits .p .fits)
 
 pub right-prefix-spec : {M : Type 1} → statement M
-right-prefix-spec = tie.close (tie.spec returns zero-beyond-requires returns-2)
+right-prefix-spec = tie.close (tie.spec sub-result returns)
