@@ -1,5 +1,5 @@
--- A match that lies inside another, field by field. Where it does not, a packet in range shows it: the own packet of the one with one value changed.
--- Assumes nothing.
+-- A match that lies inside another, field by field. Where it does not, a packet in range shows it: the own packet of the one with one value changed; its
+-- protocol is changed to the other that has ports. Assumes nothing.
 use mathlib.Core.Path.{_≡_, refl, sym, ap, _∙_}
 use mathlib.Core.Bool.{Bool, true, false, not, _||_, and-eq-true-iff, or-true}
 use mathlib.Core.Logic.{⊎-elim}

@@ -130,11 +130,11 @@ pub fn common(a: Match, b: Match) -> Match
     }
 }
 
-// Whether no packet meets a match.
+// Whether no packet meets a match: it has flag 16, or contradicts itself.
 pub fn is_empty(m: Match) -> bool
     ensures { λ r. ⌜ r ≡ isEmpty m ⌝ }
 {
-    unmet(m.flags, m.protocol)
+    constrains(m, EMPTY) | contradicts(m)
 }
 
 // Whether a match contradicts itself: it constrains a port, and the protocol to one without ports.
@@ -161,8 +161,8 @@ pub fn right_match(m: Match) -> bool
     is_none(m)
 }
 
-// Whether a match is right and has not flag 16. The limit of in-port and ports is a power of two, so that they are below
-// it exactly if all their bits together are.
+// Whether a match is right and has not flag 16. The limit of in-port and ports is a power of two: they are below it
+// exactly if all their bits together are.
 pub fn is_plain(m: Match) -> bool
     ensures { λ r. ⌜ r ≡ isPlain m ⌝ }
 {
@@ -240,7 +240,8 @@ fn meets_ports(on: bool, protocol: u32) -> bool
     !on | has_ports(protocol)
 }
 
-// Whether no packet meets a match with these flags and this protocol.
+// Whether no packet meets a match with these flags and this protocol. Most have no port and not flag 16, and need no
+// more tests.
 fn unmet(flags: u32, protocol: u32) -> bool
     ensures { λ r. ⌜ r ≡ unmet flags protocol ⌝ }
 {

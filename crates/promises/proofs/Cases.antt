@@ -28,11 +28,11 @@ use Rattle.promises.specs.Ports.{portCases}
 -- both lists of cases, since they are worked out by the same definitions
 all-cases : WorkedCases × Hold portCases
 unfolding inPrefix rightPrefix zeroBeyond prefixesMeet covers meetsValue valuesMeet valueInside rightValue laid rowsOf rightPacket rightPacketWords
-    meetsPorts clash unmet isEmpty isNone isPlain rightMatch meets overlap common both inside actionOf rightAction inRange coded join rightCell commutes associates
-    shown pairs triples firstPair firstTriple lawSearch rowAction rightRowMatch rightRowAction rightRow countFault cellsFault atomFault nodeFault sectionFault
-    shapeFault sumFault operatorFault lawsFault wholeStages stages answer readAs tree.acceptedAction tree.treeActionOf rightLength checkRows checkOf
-    scanOf keptWords keptOf tableKept over levelsOf numberOf prioritiesAfter chainAfter compiledRows answerOf tableAfter scratchAfter digits decimal number
-    value address matchText actionText line head refusal rightInput tableText shownText fileText listingOf
+    meetsPorts clash unmet isEmpty isNone isPlain rightMatch meets overlap common both inside actionOf rightAction inRange coded join rightCell commutes
+    associates shown pairs triples firstPair firstTriple lawSearch rowAction rightRowMatch rightRowAction rightRow countFault cellsFault atomFault nodeFault
+    sectionFault shapeFault sumFault operatorFault lawsFault wholeStages stages answer readAs tree.acceptedAction tree.treeActionOf rightLength checkRows
+    checkOf scanOf keptWords keptOf tableKept over levelsOf numberOf prioritiesAfter chainAfter compiledRows answerOf tableAfter scratchAfter digits decimal
+    number value address matchText actionText line head refusal rightInput tableText shownText fileText listingOf
 all-cases = (
   (
     refl,

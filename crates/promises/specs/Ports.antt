@@ -1,6 +1,6 @@
 -- Ports only where there are ports, sentence by sentence as it was asked for. It is said of the definitions that the
--- contracts cite; demands 2 and 3 and what is said of hidden rows are the same statements as before, over the same names,
--- which have the new meaning.
+-- contracts cite; demands 2 and 3 and what is said of hidden rows are the same statements as before, over the same
+-- names, which have the new meaning.
 --
 --   TcpOrUdp p        its protocol is 6 or 17
 --   PortMet           by which packets a port is met

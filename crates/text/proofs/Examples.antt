@@ -22,9 +22,9 @@ use Rattle.text.specs.Listing.{rightInput, shownText, fileText, listingO
 use Rattle.text.specs.Theorems.{ExamplesListed}
 
 pub examples-listed : ExamplesListed
-unfolding inPrefix rightPrefix zeroBeyond prefixesMeet covers meetsValue valuesMeet valueInside rightValue laid rowsOf clash unmet isEmpty isNone isPlain rightMatch
-    overlap common both inside actionOf rightAction inRange coded join rightCell commutes associates shown pairs triples firstPair firstTriple lawSearch rowAction
-    rightRowMatch rightRowAction rightRow countFault cellsFault atomFault nodeFault sectionFault shapeFault sumFault operatorFault lawsFault wholeStages
-    stages answer readAs rightLength checkRows checkOf keptWords keptOf tableKept over levelsOf numberOf compiledRows answerOf tableAfter digits decimal
-    number value address matchText actionText line head refusal rightInput tableText shownText fileText listingOf
+unfolding inPrefix rightPrefix zeroBeyond prefixesMeet covers meetsValue valuesMeet valueInside rightValue laid rowsOf clash unmet isEmpty isNone isPlain
+    rightMatch overlap common both inside actionOf rightAction inRange coded join rightCell commutes associates shown pairs triples firstPair firstTriple
+    lawSearch rowAction rightRowMatch rightRowAction rightRow countFault cellsFault atomFault nodeFault sectionFault shapeFault sumFault operatorFault
+    lawsFault wholeStages stages answer readAs rightLength checkRows checkOf keptWords keptOf tableKept over levelsOf numberOf compiledRows answerOf
+    tableAfter digits decimal number value address matchText actionText line head refusal rightInput tableText shownText fileText listingOf
 examples-listed = (refl, (refl, (refl, (refl, (refl, tt)))))

@@ -16,7 +16,9 @@ use Rattle.row.proofs.right_row.Tie as tie
 -- a plain match with a right action, and then that the match does not contradict itself
 told : (ws : List ℕ) → (isPlain (matchOf ws) && rightRowAction ws && not (contradicts (matchOf ws))) ≡ rightRow ws
 unfolding rightRow rightRowMatch
-told ws = turned (isPlain (matchOf ws)) (rightRowAction ws) (not (contradicts (matchOf ws))) ∙ ap (λ (t : Bool). t && rightRowAction ws) (plain-exactly (matchOf ws))
+told ws =
+    turned (isPlain (matchOf ws)) (rightRowAction ws) (not (contradicts (matchOf ws)))
+    ∙ ap (λ (t : Bool). t && rightRowAction ws) (plain-exactly (matchOf ws))
   where
     turned : (p a l : Bool) → (p && a && l) ≡ (p && l && a)
     turned true a l = and-comm a l
