@@ -7,9 +7,9 @@ use mathlib.Core.List.{List}
 use lib.Dec.{eqb}
 use borrow.Author.Tests.{eqb-true, eq-eqb}
 use Rattle.logic.proofs.Tests.{by-test, and_left, and_right, and_both}
-use Rattle.action.specs.Action.{kind_of, rateOf, actionOf, in_range}
+use Rattle.action.specs.Action.{kind_of, rate_of, action_of, in_range}
 use Rattle.action.specs.Operator.{join}
-use Rattle.action.specs.Laws.{◌among◌, Commutative, Associative, same, shown, pairs, triples, commutes, associates, firstPair, firstTriple, lawSearch}
+use Rattle.action.specs.Laws.{◌among◌, Commutative, Associative, same, shown, pairs, triples, commutes, associates, first_pair, first_triple, law_search}
 use Rattle.action.specs.Laws.{Shows}
 use Rattle.action.specs.Theorems.{SearchExact, SearchShows, ShownInRange}
 use Rattle.action.specs.declared.Action.{Action}
@@ -26,32 +26,32 @@ use Rattle.action.proofs.Rates.{Shown, Spread, spread, shown_of, commutes-rerate
 -- the test of equal actions
 same-eq : (a b : Action) → same a b ≡ true → a ≡ b
 same-eq a b t =
-    let k : kind_of a ≡ kind_of b = eqb-true _ _ (and_left (eqb (kind_of a) (kind_of b)) (eqb (rateOf a) (rateOf b)) t) in
-    let n : rateOf a ≡ rateOf b = eqb-true _ _ (and_right (eqb (kind_of a) (kind_of b)) (eqb (rateOf a) (rateOf b)) t) in
-    sym (action-of-words a) ∙ ap₂ actionOf k n ∙ action-of-words b
+    let k : kind_of a ≡ kind_of b = eqb-true _ _ (and_left (eqb (kind_of a) (kind_of b)) (eqb (rate_of a) (rate_of b)) t) in
+    let n : rate_of a ≡ rate_of b = eqb-true _ _ (and_right (eqb (kind_of a) (kind_of b)) (eqb (rate_of a) (rate_of b)) t) in
+    sym (action-of-words a) ∙ ap₂ action_of k n ∙ action-of-words b
 
 eq-same : (a b : Action) → a ≡ b → same a b ≡ true
-eq-same a b e = and_both (eq-eqb _ _ (ap kind_of e)) (eq-eqb _ _ (ap rateOf e))
+eq-same a b e = and_both (eq-eqb _ _ (ap kind_of e)) (eq-eqb _ _ (ap rate_of e))
 
 tested : (b : Bool) (l : Law) (x y z : Action) → cond b Yes (Broken l x y z) ≡ Yes → b ≡ true
 tested true l x y z e = refl
 tested false l x y z e = cc
 
 -- where nothing is found, the laws hold at the actions of the list
-module _ (o : List ℕ) (quiet : lawSearch o ≡ Yes) where
+module _ (o : List ℕ) (quiet : law_search o ≡ Yes) where
   commutes-shown : (u v : Action) → u among shown → v among shown → join o u v ≡ join o v u
-  unfolding commutes pairs firstPair lawSearch
+  unfolding commutes pairs first_pair law_search
   commutes-shown u v m n =
       same-eq (join o u v) (join o v u)
       (tested _ _ _ _ _
-      (along-yes (commutes o) pairs (else-left (firstPair o) (firstTriple o) quiet) (u, v) (among-product (u, v) shown shown m n)))
+      (along-yes (commutes o) pairs (else-left (first_pair o) (first_triple o) quiet) (u, v) (among-product (u, v) shown shown m n)))
 
   associates-shown : (u v w : Action) → u among shown → v among shown → w among shown → join o (join o u v) w ≡ join o u (join o v w)
-  unfolding associates pairs triples firstTriple lawSearch
+  unfolding associates pairs triples first_triple law_search
   associates-shown u v w m n k =
       same-eq (join o (join o u v) w) (join o u (join o v w))
       (tested _ _ _ _ _
-      (along-yes (associates o) triples (else-right (firstPair o) (firstTriple o) quiet) (u, (v, w))
+      (along-yes (associates o) triples (else-right (first_pair o) (first_triple o) quiet) (u, (v, w))
       (among-product (u, (v, w)) shown pairs m (among-product (v, w) shown shown n k))))
 
 by-care : {X : Type 0} (a : Action) → (a ≡ DontCare → X) → (¬ (a ≡ DontCare) → X) → X
@@ -61,20 +61,20 @@ by-care Deny f g = g (λ e. let z : ◌≡◌ {A = ℕ} 0 1 = cc in omega arith)
 by-care (Gmb n) f g = g (λ e. let z : ◌≡◌ {A = ℕ} 0 1 = cc in omega arith)
 
 -- the search is enough: where nothing is found the laws hold, at all rates
-pub quiet-commutative : (o : List ℕ) → lawSearch o ≡ Yes → (a b : Action) → join o a b ≡ join o b a
+pub quiet-commutative : (o : List ℕ) → law_search o ≡ Yes → (a b : Action) → join o a b ≡ join o b a
 quiet-commutative o quiet a b =
     by-care a
     (λ e. rw (e, (identity o b).0, (identity o b).1))
     (λ na. by-care b
     (λ e. rw (e, (identity o a).0, (identity o a).1))
     (λ nb.
-    let s : Spread (rateOf a) (rateOf b) 0 = spread (rateOf a) (rateOf b) 0 in
+    let s : Spread (rate_of a) (rate_of b) 0 = spread (rate_of a) (rate_of b) 0 in
     let x : Shown s.f a = shown_of s.f a na s.first in
     let y : Shown s.f b = shown_of s.f b nb s.second in
     commutes-rerate s.f s.rising o x.from y.from a b x.becomes y.becomes
     (commutes-shown o quiet x.from y.from x.listed y.listed)))
 
-pub quiet-associative : (o : List ℕ) → lawSearch o ≡ Yes → (a b c : Action) → join o (join o a b) c ≡ join o a (join o b c)
+pub quiet-associative : (o : List ℕ) → law_search o ≡ Yes → (a b c : Action) → join o (join o a b) c ≡ join o a (join o b c)
 quiet-associative o quiet a b c =
     by-care a
     (λ e. rw (e, (identity o b).0, (identity o (join o b c)).0))
@@ -83,7 +83,7 @@ quiet-associative o quiet a b c =
     (λ nb. by-care c
     (λ e. rw (e, (identity o b).1, (identity o (join o a b)).1))
     (λ nc.
-    let s : Spread (rateOf a) (rateOf b) (rateOf c) = spread (rateOf a) (rateOf b) (rateOf c) in
+    let s : Spread (rate_of a) (rate_of b) (rate_of c) = spread (rate_of a) (rate_of b) (rate_of c) in
     let x : Shown s.f a = shown_of s.f a na s.first in
     let y : Shown s.f b = shown_of s.f b nb s.second in
     let z : Shown s.f c = shown_of s.f c nc s.third in
@@ -98,8 +98,8 @@ shown-in-range = all_among in_range shown refl
 kept : (x y : Action) (l : Law) (a b c : Action) → x ≡ y → cond (same x y) Yes (Broken l a b c) ≡ Yes
 kept x y l a b c e = rw (eq-same x y e)
 
-pub lawful-quiet : (o : List ℕ) → Commutative o → Associative o → lawSearch o ≡ Yes
-unfolding commutes associates pairs triples firstPair firstTriple lawSearch
+pub lawful-quiet : (o : List ℕ) → Commutative o → Associative o → law_search o ≡ Yes
+unfolding commutes associates pairs triples first_pair first_triple law_search
 lawful-quiet o commutative associative = rw (yes-along (commutes o) pairs pair) (yes-along (associates o) triples triple)
   where
     pair : (p : Action × Action) → p among pairs → commutes o p ≡ Yes
@@ -139,9 +139,9 @@ broken P x y k u v w {l} {a} {b} {c} f e =
     rw (p, q, r, s) (f (unequal x y t)))
 
 pub search-shows : SearchShows
-unfolding commutes associates pairs triples firstPair firstTriple lawSearch
+unfolding commutes associates pairs triples first_pair first_triple law_search
 search-shows o l a b c e =
-    else-broken (firstPair o) (firstTriple o) l a b c
+    else-broken (first_pair o) (first_triple o) l a b c
     (along-broken (commutes o) pairs l a b c pair)
     (along-broken (associates o) triples l a b c triple)
     e

@@ -10,7 +10,7 @@ use mathlib.Core.List.{List, [], ◌∷◌, ◌++◌, map}
 use lib.ListN.{get_or, length, length-map}
 use lib.Seq.{get_or-append-add}
 use Rattle.action.specs.Operator.{join}
-use Rattle.action.specs.Laws.{◌among◌, same, along, product, shown, pairs, triples, commutes, associates, firstTriple, withThird}
+use Rattle.action.specs.Laws.{◌among◌, same, along, product, shown, pairs, triples, commutes, associates, first_triple, with_third}
 use Rattle.action.specs.declared.Action.{Action}
 use Rattle.action.specs.declared.Action.TheVariants.{DontCare}
 use Rattle.action.specs.declared.Law.TheVariants.{Commutativity, Associativity}
@@ -47,8 +47,8 @@ product-entry xs ys d e k pos h =
     (product_at xs ys d e (k / length ys) (k % length ys) ((div-lt_iff_lt-mul pos).1 h) (mod-lt k pos))
 
 -- what a pair shows with some third
-abbrev pub byPair : List ℕ → Action × Action → Lawful
-byPair o p = withThird o p.0 p.1
+abbrev pub by_pair : List ℕ → Action × Action → Lawful
+by_pair o p = with_third o p.0 p.1
 
 -- what the loop over pairs finds in turn k is what entry k shows, and so for the loop over thirds
 pub pair-tried : (o : List ℕ) (k : ℕ) (a b x y : Action) (kept : Bool) → k < length pairs
@@ -69,18 +69,18 @@ third-tried o k a b c u x v y kept r f g m n e = record { is = rw (← r, ← f,
 -- what the search along the triples finds in turn k is what pair k shows with some third
 pub pair-thirds : (o : List ℕ) (k : ℕ) (a b : Action) (x : Lawful) → k < length pairs
     → a ≡ get_or shown (k / length shown) DontCare → b ≡ get_or shown (k % length shown) DontCare
-    → x ≡ withThird o a b → x ≡ byPair o (get_or pairs k (DontCare, DontCare))
+    → x ≡ with_third o a b → x ≡ by_pair o (get_or pairs k (DontCare, DontCare))
 unfolding shown pairs
 pair-thirds o k a b x h p q e = e ∙ rw (product-entry shown shown DontCare DontCare k (omega arith) h, ← p, ← q)
 
 -- the search along the triples is one along the pairs
-pub triples-by-pair : (o : List ℕ) → along (byPair o) pairs ≡ firstTriple o
-unfolding firstTriple triples pairs withThird
+pub triples-by-pair : (o : List ℕ) → along (by_pair o) pairs ≡ first_triple o
+unfolding first_triple triples pairs with_third
 triples-by-pair o =
-    along-product (byPair o) shown shown
+    along-product (by_pair o) shown shown
     ∙ sym (
     along-product (associates o) shown (product shown shown)
-    ∙ along-same (λ a. along (λ p. associates o (a, p)) (product shown shown)) (λ a. along (λ b. withThird o a b) shown)
+    ∙ along-same (λ a. along (λ p. associates o (a, p)) (product shown shown)) (λ a. along (λ b. with_third o a b) shown)
     (λ a. along-product (λ p. associates o (a, p)) shown shown)
     shown
     )

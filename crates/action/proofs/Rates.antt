@@ -7,7 +7,7 @@ use mathlib.Core.List.Memᴰ
 use mathlib.Core.List.{List, map}
 use lib.ListN.{get_or, get_or-map}
 use Rattle.logic.proofs.Tests.{by_le}
-use Rattle.action.specs.Action.{kind_of, isDontCare, rateOf}
+use Rattle.action.specs.Action.{kind_of, is_dont_care, rate_of}
 use Rattle.action.specs.Operator.{cell, codes, coded, join}
 use Rattle.action.specs.Laws.{◌among◌, shown}
 use Rattle.action.specs.declared.Action.{Action}
@@ -32,7 +32,7 @@ kind-rerate f Deny = refl
 kind-rerate f (Gmb n) = refl
 
 module _ (f : ℕ → ℕ) (rising : Rising f) where
-  rate-rerate : (a : Action) → rateOf (rerate f a) ≡ f (rateOf a)
+  rate-rerate : (a : Action) → rate_of (rerate f a) ≡ f (rate_of a)
   rate-rerate DontCare = sym rising.keeps
   rate-rerate Allow = sym rising.keeps
   rate-rerate Deny = sym rising.keeps
@@ -51,7 +51,7 @@ module _ (f : ℕ → ℕ) (rising : Rising f) where
       (λ h. let e : min m n ≡ n = omega arith in rw e (omega (arith, rising.order n m (omega arith))))
 
   codes-rerate : (a b : Action) → codes (rerate f a) (rerate f b) ≡ map (rerate f) (codes a b)
-  codes-rerate a b = rw (rate-rerate a, rate-rerate b, larger-rerate (rateOf a) (rateOf b), smaller-rerate (rateOf a) (rateOf b))
+  codes-rerate a b = rw (rate-rerate a, rate-rerate b, larger-rerate (rate_of a) (rate_of b), smaller-rerate (rate_of a) (rate_of b))
 
   coded-rerate : (c : ℕ) (a b : Action) → coded c (rerate f a) (rerate f b) ≡ rerate f (coded c a b)
   unfolding coded
@@ -61,7 +61,7 @@ module _ (f : ℕ → ℕ) (rising : Rising f) where
   unfolding join
   join-rerate o a b =
       rw (kind-rerate f a, kind-rerate f b, coded-rerate (get_or o (cell a b) 0) a b)
-      (chosen (isDontCare a) (isDontCare b) b a (coded (get_or o (cell a b) 0) a b))
+      (chosen (is_dont_care a) (is_dont_care b) b a (coded (get_or o (cell a b) 0) a b))
     where
       chosen : (s t : Bool) (x y z : Action) → cond s (rerate f x) (cond t (rerate f y) (rerate f z)) ≡ rerate f (cond s x (cond t y z))
       chosen true t x y z = refl
@@ -89,7 +89,7 @@ pub record Reached (f : ℕ → ℕ) (n : ℕ) : Type 0 where
   pub listed : Gmb from among shown
   pub becomes : f from ≡ n
 
-pub shown_of : (f : ℕ → ℕ) (x : Action) → ¬ (x ≡ DontCare) → Reached f (rateOf x) → Shown f x
+pub shown_of : (f : ℕ → ℕ) (x : Action) → ¬ (x ≡ DontCare) → Reached f (rate_of x) → Shown f x
 unfolding shown
 shown_of f DontCare h s = absurd (h refl)
 shown_of f Allow h s = record { from = Allow; listed = Memᴰ.head refl; becomes = refl }

@@ -6,14 +6,14 @@
 --   shown, pairs, triples            the showing actions, and what the search tries, in order
 --   product xs ys                    each entry of xs with each of ys, those of xs slowest
 --   x else y, along t xs             the first failure of two answers, and along a list
---   firstPair o, firstTriple o       the first pair, and the first triple, that shows a failure
---   withThird o a b                  the first triple of a, b and some third
---   lawSearch o                      the search: pairs, then triples
+--   first_pair o, first_triple o       the first pair, and the first triple, that shows a failure
+--   with_third o a b                  the first triple of a, b and some third
+--   law_search o                      the search: pairs, then triples
 --   x among xs                       an entry of a list
 --   Shows o l a b c                  actions of the list that break the law l
 use Rattle.std.specs.Prelude.{ℕ, ◌≡◌, Bool, true, cond, ◌&&◌, eqb}
 use mathlib.Core.List.{List, [], ◌∷◌, ◌++◌, map, Memᴰ}
-use Rattle.action.specs.Action.{kind_of, rateOf, in_range}
+use Rattle.action.specs.Action.{kind_of, rate_of, in_range}
 use Rattle.action.specs.Operator.{join}
 use Rattle.action.specs.declared.Action.{Action}
 use Rattle.action.specs.declared.Action.TheVariants.{DontCare, Allow, Deny, Gmb}
@@ -34,7 +34,7 @@ Associative o =
 
 -- equal actions
 abbrev pub same : Action → Action → Bool
-same a b = eqb (kind_of a) (kind_of b) && eqb (rateOf a) (rateOf b)
+same a b = eqb (kind_of a) (kind_of b) && eqb (rate_of a) (rate_of b)
 
 -- Yes, or the failure of commutativity that a pair shows
 unfoldable pub commutes : List ℕ → Action × Action → Lawful
@@ -76,20 +76,20 @@ along t [] = Yes
 along t (x ∷ xs) = t x else along t xs
 
 -- the first pair that breaks commutativity
-unfoldable pub firstPair : List ℕ → Lawful
-firstPair o = along (commutes o) pairs
+unfoldable pub first_pair : List ℕ → Lawful
+first_pair o = along (commutes o) pairs
 
 -- the first triple that breaks associativity
-unfoldable pub firstTriple : List ℕ → Lawful
-firstTriple o = along (associates o) triples
+unfoldable pub first_triple : List ℕ → Lawful
+first_triple o = along (associates o) triples
 
 -- the first triple of two actions and some third that breaks it
-unfoldable pub withThird : List ℕ → Action → Action → Lawful
-withThird o a b = along (λ c. associates o (a, (b, c))) shown
+unfoldable pub with_third : List ℕ → Action → Action → Lawful
+with_third o a b = along (λ c. associates o (a, (b, c))) shown
 
 -- the search
-unfoldable pub lawSearch : List ℕ → Lawful
-lawSearch o = firstPair o else firstTriple o
+unfoldable pub law_search : List ℕ → Lawful
+law_search o = first_pair o else first_triple o
 
 -- an entry of a list
 infixl 10 ◌among◌

@@ -8,9 +8,9 @@
 --   WordsOfAction      two right words are the words of the action that they say
 --   RightWords         an action has right words exactly where it is in range
 use Rattle.std.specs.Prelude.{ℕ, ◌≡◌, ◌↔◌, true, List}
-use Rattle.action.specs.Action.{kind_of, rateOf, actionOf, rightAction, in_range}
+use Rattle.action.specs.Action.{kind_of, rate_of, action_of, right_action, in_range}
 use Rattle.action.specs.Operator.{join, RightCodes}
-use Rattle.action.specs.Laws.{Commutative, Associative, ◌among◌, shown, lawSearch, Shows}
+use Rattle.action.specs.Laws.{Commutative, Associative, ◌among◌, shown, law_search, Shows}
 use Rattle.action.specs.declared.Action.{Action}
 use Rattle.action.specs.declared.Action.TheVariants.{DontCare}
 use Rattle.action.specs.declared.Law.{Law}
@@ -18,11 +18,11 @@ use Rattle.action.specs.declared.Lawful.TheVariants.{Yes, Broken}
 
 -- the search refuses exactly the operators that break a law at any allowed rates
 abbrev pub SearchExact : Type 0
-SearchExact = (o : List ℕ) → RightCodes o → (lawSearch o ≡ Yes) ↔ (Commutative o × Associative o)
+SearchExact = (o : List ℕ) → RightCodes o → (law_search o ≡ Yes) ↔ (Commutative o × Associative o)
 
 -- what the search names are actions of the list, and they break the law that it names, whatever the operator's codes
 abbrev pub SearchShows : Type 0
-SearchShows = (o : List ℕ) (l : Law) (a b c : Action) → lawSearch o ≡ Broken l a b c → Shows o l a b c
+SearchShows = (o : List ℕ) (l : Law) (a b c : Action) → law_search o ≡ Broken l a b c → Shows o l a b c
 
 -- the actions of the list are in range
 abbrev pub ShownInRange : Type 0
@@ -34,12 +34,12 @@ Identity = (o : List ℕ) (a : Action) → (join o DontCare a ≡ a) × (join o 
 
 -- an action's words say the action
 abbrev pub ActionOfWords : Type 0
-ActionOfWords = (a : Action) → actionOf (kind_of a) (rateOf a) ≡ a
+ActionOfWords = (a : Action) → action_of (kind_of a) (rate_of a) ≡ a
 
 -- right words are those of the action that they say
 abbrev pub WordsOfAction : Type 0
-WordsOfAction = (k n : ℕ) → rightAction k n ≡ true → (kind_of (actionOf k n) ≡ k) × (rateOf (actionOf k n) ≡ n)
+WordsOfAction = (k n : ℕ) → right_action k n ≡ true → (kind_of (action_of k n) ≡ k) × (rate_of (action_of k n) ≡ n)
 
 -- an action has right words exactly where it is in range
 abbrev pub RightWords : Type 0
-RightWords = (a : Action) → rightAction (kind_of a) (rateOf a) ≡ in_range a
+RightWords = (a : Action) → right_action (kind_of a) (rate_of a) ≡ in_range a

@@ -1,9 +1,9 @@
 // Actions, operators, how an operator joins two actions, and the search for a broken law.
 ghost use Rattle.std.specs.Prelude.{◌≡◌, ◌≤◌, max, min, get_or};
-ghost use Rattle.action.specs.Action.{kind_of, rateOf, actionOf, rightAction};
+ghost use Rattle.action.specs.Action.{kind_of, rate_of, action_of, right_action};
 ghost use Rattle.action.specs.Operator.{kinds, cells_of, coded, join, sibling, parent};
-ghost use Rattle.action.specs.Operator.{rateCells, largestIn, rightCell};
-ghost use Rattle.action.specs.Laws.{same, shown, firstPair, firstTriple, withThird, lawSearch};
+ghost use Rattle.action.specs.Operator.{rate_cells, largest_in, right_cell};
+ghost use Rattle.action.specs.Laws.{same, shown, first_pair, first_triple, with_third, law_search};
 
 use words::{larger, word};
 
@@ -106,7 +106,7 @@ impl Operator {
 
     // The first pair that breaks commutativity, or else the first triple that breaks associativity.
     pub fn law_search(self) -> Lawful
-        ensures { result ≡ lawSearch self.cells }
+        ensures { result ≡ law_search self.cells }
     {
         let found = first_pair(&self.cells);
         if let Lawful::Broken(_, _, _, _) = found {
@@ -144,7 +144,7 @@ pub fn kind(a: Action) -> u32
 }
 
 pub fn rate(a: Action) -> u32
-    ensures { result ≡ rateOf a }
+    ensures { result ≡ rate_of a }
 {
     match a {
         Action::DontCare => 0,
@@ -156,7 +156,7 @@ pub fn rate(a: Action) -> u32
 
 // The action of a kind and a rate. A kind that is not known gives don't care.
 pub fn action_of(kind: u32, rate: u32) -> Action
-    ensures { result ≡ actionOf kind rate }
+    ensures { result ≡ action_of kind rate }
 {
     match kind {
         ALLOW => Action::Allow,
@@ -182,21 +182,21 @@ pub fn operator_of(words: &[u32]) -> Operator
 
 // Whether two words are an action's: a kind, a rate that is not too large, and a rate other than 0 for GMB alone.
 pub fn right_action(kind: u32, rate: u32) -> bool
-    ensures { result ≡ rightAction kind rate }
+    ensures { result ≡ right_action kind rate }
 {
     (kind <= GMB) & (rate <= LARGEST_RATE) & ((kind == GMB) == (rate != 0))
 }
 
 // Whether a cell may have a code.
 pub fn right_cell(cell: usize, code: u32) -> bool
-    ensures { result ≡ rightCell cell code }
+    ensures { result ≡ right_cell cell code }
 {
     (cell < CELLS) & (1 <= code) & (code <= largest_code(cell))
 }
 
 // The largest code that is right in a cell: an arm for each cell in which both actions have a rate.
 fn largest_code(cell: usize) -> u32
-    ensures { result ≡ largestIn rateCells cell }
+    ensures { result ≡ largest_in rate_cells cell }
 {
     match cell {
         RATE_CELL => LARGEST_RATE_CODE,
@@ -229,7 +229,7 @@ fn smaller(m: u32, n: u32) -> u32
 
 // The pairs in order, the first action slowest.
 fn first_pair(cells: &[u32]) -> Lawful
-    ensures { result ≡ firstPair cells.now }
+    ensures { result ≡ first_pair cells.now }
 {
     let mut k = 0;
     // The first k pairs commute.
@@ -246,7 +246,7 @@ fn first_pair(cells: &[u32]) -> Lawful
 
 // The triples in order: each pair with all showing actions.
 fn first_triple(cells: &[u32]) -> Lawful
-    ensures { result ≡ firstTriple cells.now }
+    ensures { result ≡ first_triple cells.now }
 {
     let mut k = 0;
     // The first k pairs associate with every showing action.
@@ -262,7 +262,7 @@ fn first_triple(cells: &[u32]) -> Lawful
 
 // The first triple of two actions and some third.
 fn with_third(cells: &[u32], a: Action, b: Action) -> Lawful
-    ensures { result ≡ withThird cells.now a b }
+    ensures { result ≡ with_third cells.now a b }
 {
     let ab = join(cells, a, b);
     let mut k = 0;

@@ -1,8 +1,8 @@
 -- What the walk that builds the table of a tree asks and leaves: the tables of the trees at a place in words, and the
 -- answers of its steps.
 --
---   compileTree, compileTrees  the table of a tree, and of some children
---   field_own, treeWords, childrenWords   the tables of a node's own atoms, of a subtree and of some children, in words
+--   compile_tree, compile_trees  the table of a tree, and of some children
+--   field_own, tree_words, children_words   the tables of a node's own atoms, of a subtree and of some children, in words
 --   BuildsBy, Builds           a table was built at a place, and the next place is as told; or there was no room
 --   NodeBuilt, TreeBuilt, ChildrenBuilt, JoinBuilt   what each step leaves
 --   AtNode, AtPlace, OfNode, OfBuilt                 what each step asks
@@ -14,37 +14,37 @@ use Rattle.flow.specs.declared.Match.{Match}
 use Rattle.action.specs.Operator as operator
 use Rattle.action.specs.declared.Action.{Action}
 use Rattle.policy.specs.File.{PolicyNode, PolicyTree}
-use Rattle.nodes.specs.Nodes.{nodeAt, cellsAt, atomWordsAt}
-use Rattle.nodes.specs.Walk.{nextSpot, Reached, treeAt, childrenAt, AfterTree, AfterChildren}
+use Rattle.nodes.specs.Nodes.{node_at, cells_at, atom_words_at}
+use Rattle.nodes.specs.Walk.{next_spot, Reached, tree_at, children_at, AfterTree, AfterChildren}
 use Rattle.nodes.specs.declared.NodeWords.{NodeWords}
 use Rattle.nodes.specs.declared.Spot.{Spot}
 use Rattle.common.specs.Lays.{Lays}
 use Rattle.common.specs.declared.Made.TheVariants.{Words, Full}
 use Rattle.rows.specs.Places.{part}
-use Rattle.rows.specs.Tables.{joinWords, own_words}
+use Rattle.rows.specs.Tables.{join_words, own_words}
 use Rattle.build.specs.declared.Built.{Built}
 use Rattle.build.specs.declared.Built.TheVariants as built
 use Rattle.row.specs.Row.{words_of}
 
 -- the table of a tree
-abbrev pub compileTree : PolicyTree → List (Row Match Action)
-compileTree t = compile common is_empty operator.join t
+abbrev pub compile_tree : PolicyTree → List (Row Match Action)
+compile_tree t = compile common is_empty operator.join t
 
 -- the table of some children under a sibling operator
-abbrev pub compileTrees : Forest PolicyNode → List ℕ → List (Row Match Action)
-compileTrees ts o = compiles common is_empty operator.join ts o
+abbrev pub compile_trees : Forest PolicyNode → List ℕ → List (Row Match Action)
+compile_trees ts o = compiles common is_empty operator.join ts o
 
 -- the table of a node's own atoms, in words
 abbrev pub field_own : List ℕ → Spot → List ℕ
-field_own f s = own_words (cellsAt f (nodeAt f s.left).inner) (atomWordsAt f s.atom (nodeAt f s.left).own)
+field_own f s = own_words (cells_at f (node_at f s.left).inner) (atom_words_at f s.atom (node_at f s.left).own)
 
 -- the table of the subtree at a place, in words
-unfoldable pub treeWords : List ℕ → Spot → List ℕ
-treeWords f s = words_of (compileTree (treeAt f s))
+unfoldable pub tree_words : List ℕ → Spot → List ℕ
+tree_words f s = words_of (compile_tree (tree_at f s))
 
 -- the table of k children from a place on under a sibling operator, in words
-unfoldable pub childrenWords : List ℕ → Spot → ℕ → ℕ → List ℕ
-childrenWords f s k o = words_of (compileTrees (childrenAt f s k) (cellsAt f o))
+unfoldable pub children_words : List ℕ → Spot → ℕ → ℕ → List ℕ
+children_words f s k o = words_of (compile_trees (children_at f s k) (cells_at f o))
 
 -- by the answer: F was laid at a place, and the next place is as told; or there was no room
 abbrev pub BuildsBy : ℕ → List ℕ → List ℕ → List ℕ → (Spot → Type 0) → Built → Type 0
@@ -57,15 +57,15 @@ pub record Builds (a : ℕ) (F old new : List ℕ) (told : Spot → Type 0) (r :
 
 -- a node's own rows
 abbrev pub NodeBuilt : List ℕ → Spot → ℕ → List ℕ → List ℕ → Built → Type 0
-NodeBuilt f s a old new r = Builds a (field_own f s) old new (λ next. next ≡ nextSpot f s) r
+NodeBuilt f s a old new r = Builds a (field_own f s) old new (λ next. next ≡ next_spot f s) r
 
 -- a subtree's rows
 abbrev pub TreeBuilt : List ℕ → Spot → ℕ → List ℕ → List ℕ → Built → Type 0
-TreeBuilt f s a old new r = Builds a (treeWords f s) old new (AfterTree f s) r
+TreeBuilt f s a old new r = Builds a (tree_words f s) old new (AfterTree f s) r
 
 -- the rows of some children
 abbrev pub ChildrenBuilt : List ℕ → Spot → ℕ → ℕ → ℕ → List ℕ → List ℕ → Built → Type 0
-ChildrenBuilt f s sibling k a old new r = Builds a (childrenWords f s k sibling) old new (AfterChildren f s k) r
+ChildrenBuilt f s sibling k a old new r = Builds a (children_words f s k sibling) old new (AfterChildren f s k) r
 
 -- what was built from a place on ends below a limit
 abbrev pub Within : ℕ → ℕ → Built → Type 0
@@ -75,7 +75,7 @@ Within b limit built.Full = Unit {0}
 -- what was built from b on is joined with what stands from a up to b
 abbrev pub Joined : List ℕ → ℕ → ℕ → List ℕ → List ℕ → Built → Built → Type 0
 Joined o a b old new (built.Done p) r =
-    BuildsBy a (joinWords o (part a b old) (part b p.end old)) old new (λ s. s ≡ p.next) r
+    BuildsBy a (join_words o (part a b old) (part b p.end old)) old new (λ s. s ≡ p.next) r
 Joined o a b old new built.Full r = r ≡ built.Full
 
 pub record JoinBuilt (o : List ℕ) (a b : ℕ) (old new : List ℕ) (m r : Built) : Type 0 where
@@ -92,7 +92,7 @@ AtNode f s start table scratch = Reached f s × (0 < s.left) × (start ≤ lengt
 -- the same, with the node that stands there
 abbrev pub OfNode : List ℕ → Spot → NodeWords → ℕ → List ℕ → List ℕ → Type 0
 OfNode f s n start table scratch =
-    Reached f s × (0 < s.left) × (n ≡ nodeAt f s.left) × (start ≤ length table) × (length scratch ≡ length table)
+    Reached f s × (0 < s.left) × (n ≡ node_at f s.left) × (start ≤ length table) × (length scratch ≡ length table)
 
 -- what was built from a middle on, behind a start, and the other buffer as long
 abbrev pub OfBuilt : ℕ → ℕ → Built → List ℕ → List ℕ → Type 0

@@ -1,7 +1,7 @@
 // The table of a policy's tree, built by the walk over its nodes: each table stands where it is built, and is joined
 // with the one before it. Only the compile calls the walk: it asks for a place that was reached in an accepted file,
 // and where there is no room it does not say what words are left, since the compile then clears both buffers.
-ghost use Rattle.nodes.specs.Nodes.{cellsAt};
+ghost use Rattle.nodes.specs.Nodes.{cells_at};
 ghost use Rattle.build.specs.Build.{AtNode, AtPlace, OfNode, OfBuilt};
 ghost use Rattle.build.specs.Build.{NodeBuilt, TreeBuilt, ChildrenBuilt, JoinBuilt};
 
@@ -127,7 +127,7 @@ fn join_built(
     built: Built,
 ) -> Built
     requires { OfBuilt start middle built table.old scratch.old }
-    ensures { JoinBuilt (cellsAt file.now index) start middle table.old
+    ensures { JoinBuilt (cells_at file.now index) start middle table.old
         table.new built result }
 {
     let Built::Done(part) = built else {

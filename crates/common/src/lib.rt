@@ -4,7 +4,7 @@
 ghost use Rattle.std.specs.Prelude.{◌≤◌, length};
 ghost use Rattle.row.specs.Row.{row_of};
 ghost use Rattle.common.specs.Lays.{Lays};
-ghost use Rattle.common.specs.Tables.{commonWords, commonWithWords, commonRowsWords};
+ghost use Rattle.common.specs.Tables.{common_words, common_with_words, common_rows_words};
 
 use action::{Action, Operator};
 use flow::{Match, common, overlap, read_match};
@@ -27,7 +27,7 @@ pub fn common_rows(
     at: usize,
 ) -> Made
     requires { at ≤ length out.old }
-    ensures { Lays at (commonRowsWords operator.cells left.now right.now)
+    ensures { Lays at (common_rows_words operator.cells left.now right.now)
         out.old out.new result }
 {
     let mut done = at;
@@ -53,7 +53,7 @@ pub fn common_with(
     at: usize,
 ) -> Made
     requires { at ≤ length out.old }
-    ensures { Lays at (commonWithWords operator.cells (row_of row.now) table.now)
+    ensures { Lays at (common_with_words operator.cells (row_of row.now) table.now)
         out.old out.new result }
 {
     let m = read_match(row);
@@ -82,7 +82,7 @@ fn add_common(
     at: usize,
 ) -> Made
     requires { at ≤ length out.old }
-    ensures { Lays at (commonWords operator.cells (record { match = m; action = a }) row.now)
+    ensures { Lays at (common_words operator.cells (record { match = m; action = a }) row.now)
         out.old out.new result }
 {
     let other = read_match(row);

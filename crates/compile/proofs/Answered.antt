@@ -13,20 +13,20 @@ use Rattle.words.proofs.Records.{length-records}
 use Rattle.theory.specs.Rows.{Row}
 use Rattle.theory.specs.Tree.{EveryNode, GoodNode}
 use Rattle.theory.proofs.Every.{listed-every, compile-every}
-use Rattle.flow.specs.Match.{is_empty, common, rightMatch}
+use Rattle.flow.specs.Match.{is_empty, common, right_match}
 use Rattle.flow.specs.declared.Match.{Match}
 use Rattle.flow.proofs.Laws.{common-right}
 use Rattle.action.specs.Action.{in_range}
 use Rattle.action.specs.Operator as operator
 use Rattle.action.specs.declared.Action.{Action}
-use Rattle.row.specs.Row.{rowLength, row_of, rightRowMatch, RightRow, words_of, InRange, tableRows}
-use Rattle.section.specs.Numbers.{atomLength, nodeLength}
+use Rattle.row.specs.Row.{row_length, row_of, right_row_match, RightRow, words_of, InRange, table_rows}
+use Rattle.section.specs.Numbers.{atom_length, node_length}
 use Rattle.refusal.specs.Plain.{plain}
-use Rattle.policy.specs.Read.{read_of, nodesAt, operatorRecords, atomRecords, nodeRecords}
+use Rattle.policy.specs.Read.{read_of, nodes_at, operator_records, atom_records, node_records}
 use Rattle.section.specs.Sections.{own_of}
 use Rattle.policy.specs.Read as read
-use Rattle.whole.specs.Meaning.{operatorAt}
-use Rattle.policy.specs.File.{held, tree_of, atomsOf}
+use Rattle.whole.specs.Meaning.{operator_at}
+use Rattle.policy.specs.File.{held, tree_of, atoms_of}
 use Rattle.section.specs.Due.{RightNode}
 use Rattle.policy.specs.declared.Layout.{Layout}
 use Rattle.refusal.specs.declared.Refusal.{Refusal}
@@ -34,8 +34,8 @@ use Rattle.policy.specs.declared.Reading.{Reading}
 use Rattle.policy.specs.declared.Reading.TheVariants as reading
 use Rattle.policy.proofs.Accepted.{accepted-exactly, accepted-tree}
 use Rattle.words.specs.Words.{zeros}
-use Rattle.compile.specs.Compile.{noRoom, noScratch, wrongRate, room, compiledRows, fine, acceptedAnswer, afterReading, answer_of, tableAfter}
-use Rattle.compile.specs.Compile.{scratchAfter, compileRefusal}
+use Rattle.compile.specs.Compile.{no_room, no_scratch, wrong_rate, room, compiled_rows, fine, accepted_answer, after_reading, answer_of, table_after}
+use Rattle.compile.specs.Compile.{scratch_after, compile_refusal}
 use Rattle.compile.specs.Theorems.{RoomExactly, RowsAnswered, AnswerTells, AnswersRows}
 use Rattle.compile.specs.declared.Compiled.{Compiled}
 use Rattle.compile.specs.declared.Compiled.TheVariants.{Rows, Refused}
@@ -45,11 +45,11 @@ use Rattle.logic.proofs.Lists.{all_take, all_drop, all_map}
 
 -- an atom whose match is right
 RightMatch : Row Match Action → Type 0
-RightMatch r = rightMatch r.match ≡ true
+RightMatch r = right_match r.match ≡ true
 
 -- the nodes of a file whose operators have the property K and whose atoms have the property T
 module _ (K : List ℕ → Type 0) (T : Row Match Action → Type 0) where
-  held-good : (os : List (List ℕ)) (a : ℕ) → ((i : ℕ) → i < a → K (operatorAt os i)) → (xs : List (Row Match Action)) → All T xs → (rs : List (List ℕ))
+  held-good : (os : List (List ℕ)) (a : ℕ) → ((i : ℕ) → i < a → K (operator_at os i)) → (xs : List (Row Match Action)) → All T xs → (rs : List (List ℕ))
       → ((i : ℕ) → i < length rs → RightNode a (get_or rs i [])) → All (λ n. GoodNode K T n.what) (held os xs rs)
   held-good os a k xs f [] h = tt
   held-good os a k xs f (r ∷ rs) h =
@@ -60,14 +60,14 @@ module _ (K : List ℕ → Type 0) (T : Row Match Action → Type 0) where
 
   -- where the operators and the atoms of an accepted file have them, so do the nodes of its tree
   pub accepted-good : (f : List ℕ) (l : Layout) → read_of f ≡ reading.Accepted l
-      → ((i : ℕ) → i < l.operators → K (operatorAt (operatorRecords f l.operators) i))
-      → ((i : ℕ) → i < l.atoms → T (row_of (get_or (atomRecords f l.operators l.atoms) i []))) → EveryNode (GoodNode K T) (tree_of f l)
+      → ((i : ℕ) → i < l.operators → K (operator_at (operator_records f l.operators) i))
+      → ((i : ℕ) → i < l.atoms → T (row_of (get_or (atom_records f l.operators l.atoms) i []))) → EveryNode (GoodNode K T) (tree_of f l)
   accepted-good f l e k t =
-      let xs : List (List ℕ) = atomRecords f l.operators l.atoms in
-      let ns : List (List ℕ) = nodeRecords f l.operators l.atoms l.nodes in
-      let many : length xs ≡ l.atoms = length-records l.atoms atomLength (drop (read.atoms_at l.operators + 1) f) in
-      let more : length ns ≡ l.nodes = length-records l.nodes nodeLength (drop (nodesAt l.operators l.atoms + 1) f) in
-      let good = held-good (operatorRecords f l.operators) l.operators k (atomsOf f l) (all_map T row_of [] xs (λ i h. t i (omega arith))) ns
+      let xs : List (List ℕ) = atom_records f l.operators l.atoms in
+      let ns : List (List ℕ) = node_records f l.operators l.atoms l.nodes in
+      let many : length xs ≡ l.atoms = length-records l.atoms atom_length (drop (read.atoms_at l.operators + 1) f) in
+      let more : length ns ≡ l.nodes = length-records l.nodes node_length (drop (nodes_at l.operators l.atoms + 1) f) in
+      let good = held-good (operator_records f l.operators) l.operators k (atoms_of f l) (all_map T row_of [] xs (λ i h. t i (omega arith))) ns
       (λ i h. ((accepted-exactly f l).0 e).otherwise.right-nodes i (omega arith)) in
       listed-every (GoodNode K T) (tree_of f l) (subst (All (λ n. GoodNode K T n.what)) (sym (accepted-tree f l e).lists) good)
 
@@ -76,7 +76,7 @@ every-right : (N : List (Row Match Action)) → All (λ r. RightMatch r × (is_e
 unfolding RightMatch
 every-right [] f h = tt
 every-right (r ∷ N) f h = (
-  record { match = f.0.0; notEmpty = f.0.1; action = and_left (in_range r.action) (fine N) h },
+  record { match = f.0.0; not_empty = f.0.1; action = and_left (in_range r.action) (fine N) h },
   every-right N f.1 (and_right (in_range r.action) (fine N) h),
 )
 
@@ -87,28 +87,28 @@ every-fine (r ∷ N) f = and_both f.0 (every-fine N f.1)
 
 module _ (f : List ℕ) (l : Layout) (e : read_of f ≡ reading.Accepted l) where
   -- every row has a right match, and none is empty
-  every-compiled : All (λ r. RightMatch r × (is_empty r.match ≡ false)) (compiledRows f l)
-  unfolding RightMatch compiledRows rightRowMatch
+  every-compiled : All (λ r. RightMatch r × (is_empty r.match ≡ false)) (compiled_rows f l)
+  unfolding RightMatch compiled_rows right_row_match
   every-compiled =
       compile-every operator.join common is_empty (λ o. Unit {0}) RightMatch (λ o r s k g h. common-right r.match s.match g h) (tree_of f l)
       (accepted-good (λ o. Unit {0}) RightMatch f l e (λ i h. tt) (λ i h. ((accepted-exactly f l).0 e).otherwise.matches i h))
 
   -- the rows, and zeros behind them
-  front : (zs : List ℕ) → tableRows (length (compiledRows f l)) (words_of (compiledRows f l) ++ zs) ≡ words_of (compiledRows f l)
-  front zs = take_at (words_of (compiledRows f l)) zs (length (compiledRows f l) * rowLength) (words_count (compiledRows f l))
+  front : (zs : List ℕ) → table_rows (length (compiled_rows f l)) (words_of (compiled_rows f l) ++ zs) ≡ words_of (compiled_rows f l)
+  front zs = take_at (words_of (compiled_rows f l)) zs (length (compiled_rows f l) * row_length) (words_count (compiled_rows f l))
 
 no_rows : {X : Type 0} {n : ℕ} {r : Refusal} → Refused r ≡ Rows n → X
 no_rows q = let z : ◌≡◌ {A = ℕ} 0 1 = cc in absurd (omega arith)
 
 -- of an accepted file
-accepted-rows : (f t s : List ℕ) (n : ℕ) (l : Layout) → read_of f ≡ reading.Accepted l → acceptedAnswer (compiledRows f l) t s ≡ Rows n → AnswerTells f t s n
-unfolding tableAfter
+accepted-rows : (f t s : List ℕ) (n : ℕ) (l : Layout) → read_of f ≡ reading.Accepted l → accepted_answer (compiled_rows f l) t s ≡ Rows n → AnswerTells f t s n
+unfolding table_after
 accepted-rows f t s n l e =
-    let N : List (Row Match Action) = compiledRows f l in
-    by-test (ltb (length s) (rowLength * room (length t)))
-    (λ a q. let q' : Refused (plain noScratch 0) ≡ Rows n = rw a at q in no_rows q')
+    let N : List (Row Match Action) = compiled_rows f l in
+    by-test (ltb (length s) (row_length * room (length t)))
+    (λ a q. let q' : Refused (plain no_scratch 0) ≡ Rows n = rw a at q in no_rows q')
     (λ a. by-test (ltb (room (length t)) (length N))
-    (λ b q. let q' : Refused (plain noRoom 0) ≡ Rows n = rw (a, b) at q in no_rows q')
+    (λ b q. let q' : Refused (plain no_room 0) ≡ Rows n = rw (a, b) at q in no_rows q')
     (λ b. by-test (fine N)
     (λ c q.
     let q' : Rows (length N) ≡ Rows n = rw (a, b, c) at q in
@@ -120,37 +120,37 @@ accepted-rows f t s n l e =
       fits = omega (arith, ltb-false (room (length t)) (length N) b);
       right = every-right N (every-compiled f l e) c;
       stands = rw (e, a, b, c)
-          (ap (λ k. tableRows k (words_of N ++ zeros (length t - length (words_of N)))) (sym m) ∙ front f l e (zeros (length t - length (words_of N))));
+          (ap (λ k. table_rows k (words_of N ++ zeros (length t - length (words_of N)))) (sym m) ∙ front f l e (zeros (length t - length (words_of N))));
     })
-    (λ c q. let q' : Refused (plain wrongRate 0) ≡ Rows n = rw (a, b, c) at q in no_rows q')))
+    (λ c q. let q' : Refused (plain wrong_rate 0) ≡ Rows n = rw (a, b, c) at q in no_rows q')))
 
 pub answers-rows : AnswersRows
 unfolding answer_of
 answers-rows f t s n = from (read_of f) refl
   where
-    from : (x : Reading) → read_of f ≡ x → afterReading x (λ r. Refused r) (λ l. acceptedAnswer (compiledRows f l) t s) ≡ Rows n → AnswerTells f t s n
+    from : (x : Reading) → read_of f ≡ x → after_reading x (λ r. Refused r) (λ l. accepted_answer (compiled_rows f l) t s) ≡ Rows n → AnswerTells f t s n
     from (reading.Accepted l) e q = accepted-rows f t s n l e q
     from (reading.Refused r) e q = no_rows q
 
 pub rows-answered : RowsAnswered
-unfolding answer_of tableAfter scratchAfter
+unfolding answer_of table_after scratch_after
 rows-answered f t s l e enough fits rates =
-    let no-13 : ltb (length s) (rowLength * room (length t)) ≡ false = le-ltb _ _ enough in
-    let no-12 : ltb (room (length t)) (length (compiledRows f l)) ≡ false = le-ltb _ _ fits in
-    let no-14 : fine (compiledRows f l) ≡ true = every-fine (compiledRows f l) rates in
+    let no-13 : ltb (length s) (row_length * room (length t)) ≡ false = le-ltb _ _ enough in
+    let no-12 : ltb (room (length t)) (length (compiled_rows f l)) ≡ false = le-ltb _ _ fits in
+    let no-14 : fine (compiled_rows f l) ≡ true = every-fine (compiled_rows f l) rates in
     (rw (e, no-13, no-12, no-14), rw (e, no-13, no-12, no-14), rw (e, no-13, no-12, no-14))
 
 pub room-exactly : RoomExactly
 unfolding answer_of
 room-exactly f t s l e enough =
-    let N : List (Row Match Action) = compiledRows f l in
-    let no-13 : ltb (length s) (rowLength * room (length t)) ≡ false = le-ltb _ _ enough in (
+    let N : List (Row Match Action) = compiled_rows f l in
+    let no-13 : ltb (length s) (row_length * room (length t)) ≡ false = le-ltb _ _ enough in (
       (λ q. by-test (ltb (room (length t)) (length N)) (λ b. ltb-true _ _ b) (λ b.
-          let q' : cond (fine N) (Rows (length N)) (Refused (plain wrongRate 0)) ≡ Refused (plain noRoom 0) = rw (e, no-13, b) at q in absurd
+          let q' : cond (fine N) (Rows (length N)) (Refused (plain wrong_rate 0)) ≡ Refused (plain no_room 0) = rw (e, no-13, b) at q in absurd
           (other (fine N) (length N) q'))),
       (λ h. rw (e, no-13, lt-ltb _ _ h)),
     )
   where
-    other : (x : Bool) (n : ℕ) → cond x (Rows n) (Refused (plain wrongRate 0)) ≡ Refused (plain noRoom 0) → ⊥
+    other : (x : Bool) (n : ℕ) → cond x (Rows n) (Refused (plain wrong_rate 0)) ≡ Refused (plain no_room 0) → ⊥
     other true n q = let z : ◌≡◌ {A = ℕ} 0 1 = cc in absurd (omega arith)
-    other false n q = let z : wrongRate ≡ noRoom = ap (λ (c : Compiled). (compileRefusal c).number) q in absurd (omega arith)
+    other false n q = let z : wrong_rate ≡ no_room = ap (λ (c : Compiled). (compile_refusal c).number) q in absurd (omega arith)

@@ -5,7 +5,7 @@ ghost use Rattle.policy.specs.Read.{read_of};
 ghost use Rattle.refusal.specs.Plain.{plain};
 ghost use Rattle.policy.specs.declared.Reading.TheVariants.{Accepted};
 ghost use Rattle.build.specs.Build.{Within};
-ghost use Rattle.compile.specs.Compile.{room, fineWords, Compiles, AcceptedCompiles, Settles};
+ghost use Rattle.compile.specs.Compile.{room, fine_words, Compiles, AcceptedCompiles, Settles};
 
 use build::{Built, subtree};
 use nodes::root;
@@ -83,7 +83,7 @@ fn settle(table: &mut [u32], scratch: &mut [u32], built: Built) -> Compiled
 
 // Whether the rate of every row lies in its range.
 fn rates_right(rows: &[u32]) -> bool
-    ensures { result ≡ fineWords rows.now }
+    ensures { result ≡ fine_words rows.now }
 {
     let mut i = 0;
     // The first i words are rows, and the rate of each lies in its range.

@@ -10,7 +10,7 @@ use lib.Arith.{digits_lt}
 use lib.Count.{count_trailing_zeros, under}
 use lib.Bits.{bit_xor, xor_shr, xor_self, xor_add_and, and_le_l, and_le_r}
 use borrow.Author.Tests.{eqb-true, eq-eqb, leb-true, leb-false, le-leb, lt-ltb}
-use Rattle.field.specs.Prefix.{leading, inPrefix, zeroBeyond, rightPrefix, prefixesMeet, covers, longerAddress, longerLength}
+use Rattle.field.specs.Prefix.{leading, in_prefix, zero_beyond, right_prefix, prefixes_meet, covers, longer_address, longer_length}
 use Rattle.field.specs.Theorems.{InBoth, SharedAddress, MeetExactly, Contains, CoversExactly}
 use Rattle.logic.specs.Tests.{Joins, Keeps}
 use Rattle.logic.proofs.Tests.{by-test, and_left, and_right, and_both, and-under, same_test}
@@ -24,13 +24,13 @@ leading-fewer w m n a b h e =
     sym (less a) ∙ ap (λ (k : ℕ). k / 2 ^ d) e ∙ less b
 
 -- an address lies in its own prefix
-pub in-own : (w p n : ℕ) → inPrefix w p n p ≡ true
-unfolding inPrefix
+pub in-own : (w p n : ℕ) → in_prefix w p n p ≡ true
+unfolding in_prefix
 in-own w p n = eq-eqb (leading w n p) (leading w n p) refl
 
 -- where x lies in p, m, a prefix that is no longer holds x exactly when it holds p
-in-moves : (w p m q n x : ℕ) → n ≤ m → inPrefix w p m x ≡ true → inPrefix w q n x ≡ inPrefix w q n p
-unfolding inPrefix
+in-moves : (w p m q n x : ℕ) → n ≤ m → in_prefix w p m x ≡ true → in_prefix w q n x ≡ in_prefix w q n p
+unfolding in_prefix
 in-moves w p m q n x h e =
     ap (λ (k : ℕ). eqb (leading w n q) k) (sym (leading-fewer w n m p x h (eqb-true (leading w m p) (leading w m x) e)))
 
@@ -49,37 +49,37 @@ eqb_swap : (a b : ℕ) → eqb a b ≡ eqb b a
 eqb_swap a b = same_test (eqb a b) (eqb b a) (λ e. eq-eqb b a (sym (eqb-true a b e))) (λ e. eq-eqb a b (sym (eqb-true b a e)))
 
 -- at one length, which of two prefixes is held against the other's address does not matter
-pub one-test : (w p m q n : ℕ) (t : Bool) → inPrefix w p (cond t m n) q ≡ cond t (inPrefix w p m q) (inPrefix w q n p)
-unfolding inPrefix
+pub one-test : (w p m q n : ℕ) (t : Bool) → in_prefix w p (cond t m n) q ≡ cond t (in_prefix w p m q) (in_prefix w q n p)
+unfolding in_prefix
 one-test w p m q n true = refl
 one-test w p m q n false = eqb_swap (leading w n p) (leading w n q)
 
 -- AN ADDRESS LIES IN BOTH exactly when the prefixes meet and it lies in the longer
 pub in_both : InBoth
-unfolding prefixesMeet
+unfolding prefixes_meet
 in_both w p m q n x = go (leb m n) refl
   where
     go : (t : Bool) → leb m n ≡ t
-        → (inPrefix w p m x && inPrefix w q n x) ≡ (cond t (inPrefix w p m q) (inPrefix w q n p) && inPrefix w (cond t q p) (cond t n m) x)
-    go true e = and-under (inPrefix w p m x) (inPrefix w p m q) (inPrefix w q n x) (in-moves w q n p m x (leb-true m n e))
+        → (in_prefix w p m x && in_prefix w q n x) ≡ (cond t (in_prefix w p m q) (in_prefix w q n p) && in_prefix w (cond t q p) (cond t n m) x)
+    go true e = and-under (in_prefix w p m x) (in_prefix w p m q) (in_prefix w q n x) (in-moves w q n p m x (leb-true m n e))
     go false e =
-        and_comm (inPrefix w p m x) (inPrefix w q n x)
-        ∙ and-under (inPrefix w q n x) (inPrefix w q n p) (inPrefix w p m x) (in-moves w p m q n x (le_of_lt (leb-false m n e)))
+        and_comm (in_prefix w p m x) (in_prefix w q n x)
+        ∙ and-under (in_prefix w q n x) (in_prefix w q n p) (in_prefix w p m x) (in-moves w p m q n x (le_of_lt (leb-false m n e)))
 
 pub prefix-joins : (w p m q n x : ℕ)
-    → Joins (inPrefix w p m x) (inPrefix w q n x) (prefixesMeet w p m q n) (inPrefix w (longerAddress p m q n) (longerLength m n) x)
+    → Joins (in_prefix w p m x) (in_prefix w q n x) (prefixes_meet w p m q n) (in_prefix w (longer_address p m q n) (longer_length m n) x)
 prefix-joins w p m q n x = record { eq = in_both w p m q n x }
 
 -- the longer of two right prefixes is right
-pub longer-right : (w p m q n : ℕ) → Keeps (rightPrefix w p m) (rightPrefix w q n) (rightPrefix w (longerAddress p m q n) (longerLength m n))
+pub longer-right : (w p m q n : ℕ) → Keeps (right_prefix w p m) (right_prefix w q n) (right_prefix w (longer_address p m q n) (longer_length m n))
 longer-right w p m q n = go (leb m n)
   where
-    go : (t : Bool) → Keeps (rightPrefix w p m) (rightPrefix w q n) (rightPrefix w (cond t q p) (cond t n m))
+    go : (t : Bool) → Keeps (right_prefix w p m) (right_prefix w q n) (right_prefix w (cond t q p) (cond t n m))
     go true = record { gives = λ h k. k }
     go false = record { gives = λ h k. h }
 
 -- the longer address is one of the two
-pub longer-within : (w p m q n : ℕ) → p < 2 ^ w → q < 2 ^ w → longerAddress p m q n < 2 ^ w
+pub longer-within : (w p m q n : ℕ) → p < 2 ^ w → q < 2 ^ w → longer_address p m q n < 2 ^ w
 longer-within w p m q n hp hq = go (leb m n)
   where
     go : (t : Bool) → cond t q p < 2 ^ w
@@ -90,24 +90,24 @@ longer-within w p m q n hp hq = go (leb m n)
 pub meet-exactly : MeetExactly
 meet-exactly w p m q n hp hq = (shown, found)
   where
-    shown : prefixesMeet w p m q n ≡ true → SharedAddress w p m q n
+    shown : prefixes_meet w p m q n ≡ true → SharedAddress w p m q n
     shown e =
-        let x : ℕ = longerAddress p m q n in
-        let both : (inPrefix w p m x && inPrefix w q n x) ≡ true = in_both w p m q n x ∙ and_both e (in-own w x (longerLength m n)) in record {
+        let x : ℕ = longer_address p m q n in
+        let both : (in_prefix w p m x && in_prefix w q n x) ≡ true = in_both w p m q n x ∙ and_both e (in-own w x (longer_length m n)) in record {
           address = x;
           within = longer-within w p m q n hp hq;
-          left = and_left (inPrefix w p m x) (inPrefix w q n x) both;
-          right = and_right (inPrefix w p m x) (inPrefix w q n x) both;
+          left = and_left (in_prefix w p m x) (in_prefix w q n x) both;
+          right = and_right (in_prefix w p m x) (in_prefix w q n x) both;
         }
 
-    found : SharedAddress w p m q n → prefixesMeet w p m q n ≡ true
+    found : SharedAddress w p m q n → prefixes_meet w p m q n ≡ true
     found s =
-        and_left (prefixesMeet w p m q n) (inPrefix w (longerAddress p m q n) (longerLength m n) s.address)
+        and_left (prefixes_meet w p m q n) (in_prefix w (longer_address p m q n) (longer_length m n) s.address)
         (sym (in_both w p m q n s.address) ∙ and_both s.left s.right)
 
 -- an address of q, n with other bits beyond the length
-in_block : (w q n r : ℕ) → r < 2 ^ (w - n) → inPrefix w q n (leading w n q * 2 ^ (w - n) + r) ≡ true
-unfolding inPrefix
+in_block : (w q n r : ℕ) → r < 2 ^ (w - n) → in_prefix w q n (leading w n q * 2 ^ (w - n) + r) ≡ true
+unfolding in_prefix
 in_block w q n r h = eq-eqb _ _ (sym (high (leading w n q) (w - n) h))
 
 block_within : (w q n r : ℕ) → n ≤ w → q < 2 ^ w → r < 2 ^ (w - n) → leading w n q * 2 ^ (w - n) + r < 2 ^ w
@@ -117,22 +117,22 @@ block_within w q n r l hq h =
     (digits_lt (shr_lt n (w - n) (subst (λ (k : ℕ). q < 2 ^ k) (sym s) hq)) h)
 
 -- a prefix holds what one that it covers holds, and covers what that covers
-pub covers-in : (w p m q n x : ℕ) → covers w p m q n ≡ true → inPrefix w q n x ≡ true → inPrefix w p m x ≡ true
+pub covers-in : (w p m q n x : ℕ) → covers w p m q n ≡ true → in_prefix w q n x ≡ true → in_prefix w p m x ≡ true
 unfolding covers
 covers-in w p m q n x e f =
-    in-moves w q n p m x (leb-true m n (and_left (leb m n) (inPrefix w p m q) e)) f
-    ∙ and_right (leb m n) (inPrefix w p m q) e
+    in-moves w q n p m x (leb-true m n (and_left (leb m n) (in_prefix w p m q) e)) f
+    ∙ and_right (leb m n) (in_prefix w p m q) e
 
 pub covers-trans : (w p m q n r k : ℕ) → covers w p m q n ≡ true → covers w q n r k ≡ true → covers w p m r k ≡ true
 unfolding covers
 covers-trans w p m q n r k e f =
-    let h : m ≤ n = leb-true m n (and_left (leb m n) (inPrefix w p m q) e) in
-    let l : n ≤ k = leb-true n k (and_left (leb n k) (inPrefix w q n r) f) in
-    and_both (le-leb m k (omega arith)) (covers-in w p m q n r e (and_right (leb n k) (inPrefix w q n r) f))
+    let h : m ≤ n = leb-true m n (and_left (leb m n) (in_prefix w p m q) e) in
+    let l : n ≤ k = leb-true n k (and_left (leb n k) (in_prefix w q n r) f) in
+    and_both (le-leb m k (omega arith)) (covers-in w p m q n r e (and_right (leb n k) (in_prefix w q n r) f))
 
 -- A PREFIX COVERS ANOTHER exactly when it contains it: a longer one misses one of two neighbouring addresses
 pub covers-exactly : CoversExactly
-unfolding covers inPrefix
+unfolding covers in_prefix
 covers-exactly w p m q n hm hq = (contains, covered)
   where
     contains : covers w p m q n ≡ true → Contains w p m q n
@@ -147,7 +147,7 @@ covers-exactly w p m q n hm hq = (contains, covered)
         at_block : n < m → (r : ℕ) → r < 2 ^ (w - n) → leading w m p ≡ leading w m (base + r)
         at_block l r h = eqb-true _ _ (f (base + r) (block_within w q n r (omega arith) hq h) (in_block w q n r h))
 
-        go : (t : Bool) → leb m n ≡ t → (t && inPrefix w p m q) ≡ true
+        go : (t : Bool) → leb m n ≡ t → (t && in_prefix w p m q) ≡ true
         go true e = f q hq (in-own w q n)
         go false e =
             let l : n < m = leb-false m n e in
@@ -188,8 +188,8 @@ zero_test w p n h =
     (λ e. let f = leb-true (w - count_trailing_zeros w p) n e in eq-eqb (p % 2 ^ (w - n)) 0 (ends-in w p (w - n) (omega arith) (omega (arith, f, h))))
     (λ e. let f = as_many w p (w - n) (omega arith) (eqb-true (p % 2 ^ (w - n)) 0 e) in le-leb (w - count_trailing_zeros w p) n (omega (arith, f, h)))
 
-pub right-test : (w p n : ℕ) → p < 2 ^ w → (leb (w - count_trailing_zeros w p) n && leb n w) ≡ rightPrefix w p n
-unfolding rightPrefix zeroBeyond
+pub right-test : (w p n : ℕ) → p < 2 ^ w → (leb (w - count_trailing_zeros w p) n && leb n w) ≡ right_prefix w p n
+unfolding right_prefix zero_beyond
 right-test w p n h =
     and_comm (leb (w - count_trailing_zeros w p) n) (leb n w)
     ∙ by-test (leb n w)

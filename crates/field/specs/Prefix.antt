@@ -4,46 +4,46 @@
 -- docs/FORMAT.md, "Matches".
 --
 --   leading w n x                the number that the first n of w bits of x make
---   inPrefix w p n x             x lies in p, n
---   zeroBeyond w p n             the bits of p beyond the length are 0
---   rightPrefix w p n            an address of w bits, a length of at most w, and 0 beyond it
---   prefixesMeet w p m q n       p, m and q, n have an address in common
+--   in_prefix w p n x             x lies in p, n
+--   zero_beyond w p n             the bits of p beyond the length are 0
+--   right_prefix w p n            an address of w bits, a length of at most w, and 0 beyond it
+--   prefixes_meet w p m q n       p, m and q, n have an address in common
 --   covers w p m q n             p, m is no longer than q, n, and holds all of it
---   longerAddress, longerLength  the longer of two prefixes
+--   longer_address, longer_length  the longer of two prefixes
 use Rattle.std.specs.Prelude.{ℕ, ◌-◌, ◌/◌, ◌%◌, ◌^◌, Bool, cond, ◌&&◌, eqb, leb, ltb}
 
 -- the width of an address
-abbrev pub addressBits : ℕ
-addressBits = 32
+abbrev pub address_bits : ℕ
+address_bits = 32
 
 -- the number that the first n of w bits make
 abbrev pub leading : ℕ → ℕ → ℕ → ℕ
 leading w n x = x / 2 ^ (w - n)
 
 -- x lies in the prefix p, n: the two agree in their first n bits
-unfoldable pub inPrefix : ℕ → ℕ → ℕ → ℕ → Bool
-inPrefix w p n x = eqb (leading w n p) (leading w n x)
+unfoldable pub in_prefix : ℕ → ℕ → ℕ → ℕ → Bool
+in_prefix w p n x = eqb (leading w n p) (leading w n x)
 
 -- the bits of p beyond the length are 0
-unfoldable pub zeroBeyond : ℕ → ℕ → ℕ → Bool
-zeroBeyond w p n = eqb (p % 2 ^ (w - n)) 0
+unfoldable pub zero_beyond : ℕ → ℕ → ℕ → Bool
+zero_beyond w p n = eqb (p % 2 ^ (w - n)) 0
 
 -- a right prefix
-unfoldable pub rightPrefix : ℕ → ℕ → ℕ → Bool
-rightPrefix w p n = ltb p (2 ^ w) && leb n w && zeroBeyond w p n
+unfoldable pub right_prefix : ℕ → ℕ → ℕ → Bool
+right_prefix w p n = ltb p (2 ^ w) && leb n w && zero_beyond w p n
 
 -- two prefixes meet: the shorter one holds the longer one's address
-unfoldable pub prefixesMeet : ℕ → ℕ → ℕ → ℕ → ℕ → Bool
-prefixesMeet w p m q n = cond (leb m n) (inPrefix w p m q) (inPrefix w q n p)
+unfoldable pub prefixes_meet : ℕ → ℕ → ℕ → ℕ → ℕ → Bool
+prefixes_meet w p m q n = cond (leb m n) (in_prefix w p m q) (in_prefix w q n p)
 
 -- p, m covers q, n: it is no longer, and holds q
 unfoldable pub covers : ℕ → ℕ → ℕ → ℕ → ℕ → Bool
-covers w p m q n = leb m n && inPrefix w p m q
+covers w p m q n = leb m n && in_prefix w p m q
 
 -- the longer prefix's address
-abbrev pub longerAddress : ℕ → ℕ → ℕ → ℕ → ℕ
-longerAddress p m q n = cond (leb m n) q p
+abbrev pub longer_address : ℕ → ℕ → ℕ → ℕ → ℕ
+longer_address p m q n = cond (leb m n) q p
 
 -- the longer prefix's length
-abbrev pub longerLength : ℕ → ℕ → ℕ
-longerLength m n = cond (leb m n) n m
+abbrev pub longer_length : ℕ → ℕ → ℕ
+longer_length m n = cond (leb m n) n m

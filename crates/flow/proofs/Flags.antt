@@ -7,9 +7,9 @@ use lib.Arith.{bin_ind}
 use lib.Bits.{bit_and, bit_or, and_step, and_shr, and_comm, and_le_r, or_step, or_shr, or_add_and}
 use lib.Dec.{eqb}
 use borrow.Author.Tests.{eqb-true, eq-eqb, ne_eqb}
-use Rattle.field.specs.Value.{meetsValue, valuesMeet, commonValue, rightValue}
+use Rattle.field.specs.Value.{meets_value, values_meet, common_value, right_value}
 use Rattle.field.proofs.Values.{value-joins, common-value-right}
-use Rattle.flow.specs.Match.{flagged, hasPorts, meetsPorts}
+use Rattle.flow.specs.Match.{flagged, has_ports, meets_ports}
 use Rattle.logic.specs.Tests.{Joins, Keeps}
 
 -- some of the flags joined are some of the one and some of the other
@@ -52,10 +52,10 @@ unset-joins k f g = record { eq = go (flagged k f) (flagged k g) ∙ ap not (sym
     go false y = refl
 
 -- a protocol passes the ports of two matches exactly where it passes those of both joined
-pub ports-join : (k f g q : ℕ) → Joins (meetsPorts (flagged k f) q) (meetsPorts (flagged k g) q) true (meetsPorts (flagged k (bit_or f g)) q)
-unfolding meetsPorts
+pub ports-join : (k f g q : ℕ) → Joins (meets_ports (flagged k f) q) (meets_ports (flagged k g) q) true (meets_ports (flagged k (bit_or f g)) q)
+unfolding meets_ports
 ports-join k f g q = record {
-  eq = go (flagged k f) (flagged k g) (hasPorts q) ∙ ap (λ (on : Bool). not on || hasPorts q) (sym (flag-or k f g));
+  eq = go (flagged k f) (flagged k g) (has_ports q) ∙ ap (λ (on : Bool). not on || has_ports q) (sym (flag-or k f g));
 }
   where
     go : (x y t : Bool) → ((not x || t) && (not y || t)) ≡ (not (x || y) || t)
@@ -67,13 +67,13 @@ ports-join k f g q = record {
 
 -- values under a flag join, and stay right
 pub flagged-joins : (k f g v v' x : ℕ)
-    → Joins (meetsValue (flagged k f) v x) (meetsValue (flagged k g) v' x) (valuesMeet (flagged k f) v (flagged k g) v')
-    (meetsValue (flagged k (bit_or f g)) (commonValue (flagged k f) v v') x)
+    → Joins (meets_value (flagged k f) v x) (meets_value (flagged k g) v' x) (values_meet (flagged k f) v (flagged k g) v')
+    (meets_value (flagged k (bit_or f g)) (common_value (flagged k f) v v') x)
 flagged-joins k f g v v' x = rw (flag-or k f g) (value-joins (flagged k f) v (flagged k g) v' x)
 
 pub flagged-right : (k f g limit v v' : ℕ)
-    → Keeps (rightValue (flagged k f) limit v) (rightValue (flagged k g) limit v')
-    (rightValue (flagged k (bit_or f g)) limit (commonValue (flagged k f) v v'))
+    → Keeps (right_value (flagged k f) limit v) (right_value (flagged k g) limit v')
+    (right_value (flagged k (bit_or f g)) limit (common_value (flagged k f) v v'))
 flagged-right k f g limit v v' = rw (flag-or k f g) (common-value-right (flagged k f) (flagged k g) limit v v')
 
 -- where only known flags are set, joining sets no others

@@ -7,13 +7,13 @@ use native.Mathlib.Omega.{arith}
 use lib.Bits.{bit_and}
 use lib.Dec.{eqb}
 use borrow.Author.Tests.{ltb-true, leb-true, eqb-true, lt-ltb, not-true, not-false}
-use Rattle.field.specs.Prefix.{addressBits, rightPrefix}
-use Rattle.field.specs.Value.{meetsValue, rightValue}
+use Rattle.field.specs.Prefix.{address_bits, right_prefix}
+use Rattle.field.specs.Value.{meets_value, right_value}
 use Rattle.field.proofs.Prefixes.{prefix-joins, in-own, longer-right, longer-within}
 use Rattle.field.proofs.Values.{meets-own-value, meets-free, common-value-below}
-use Rattle.flow.specs.Packet.{portLimit, protocolLimit, rightPacket}
-use Rattle.flow.specs.Match.{inportFlag, protocolFlag, sourceportFlag, destinationportFlag, portFlags, knownFlags, emptyFlag, flagged, constrains}
-use Rattle.flow.specs.Match.{tcp, hasPorts, meetsPorts, clash, contradicts, unmet, is_empty, is_none, is_plain, rightMatch, meets, agree}
+use Rattle.flow.specs.Packet.{port_limit, protocol_limit, right_packet}
+use Rattle.flow.specs.Match.{inport_flag, protocol_flag, sourceport_flag, destinationport_flag, port_flags, known_flags, empty_flag, flagged, constrains}
+use Rattle.flow.specs.Match.{tcp, has_ports, meets_ports, clash, contradicts, unmet, is_empty, is_none, is_plain, right_match, meets, agree}
 use Rattle.flow.specs.Match.{overlap, both, none, common, SharedPacket}
 use Rattle.flow.specs.Theorems.{MeetsCommon, OverlapExactly, MeetsOverlap, MetExactly, EmptyExactly, CommonRight, CommonEmpty, CommonNone}
 use Rattle.flow.specs.declared.Match.{Match}
@@ -31,14 +31,14 @@ meets-agree a b p = record { eq = joined.eq ∙ ap (λ (t : Bool). t && meets (b
     joined : Joins (meets a p) (meets b p) (agree a b && true) (meets (both a b) p)
     joined =
         joins-and (joins-and (joins-and (joins-and (joins-and (joins-and (joins-and
-        (unset-joins emptyFlag a.flags b.flags)
-        (flagged-joins inportFlag a.flags b.flags a.inport b.inport p.inport))
-        (flagged-joins protocolFlag a.flags b.flags a.protocol b.protocol p.protocol))
-        (flagged-joins sourceportFlag a.flags b.flags a.sourceport b.sourceport p.sourceport))
-        (flagged-joins destinationportFlag a.flags b.flags a.destinationport b.destinationport p.destinationport))
-        (prefix-joins addressBits a.source a.sourcelength b.source b.sourcelength p.source))
-        (prefix-joins addressBits a.destination a.destinationlength b.destination b.destinationlength p.destination))
-        (ports-join portFlags a.flags b.flags p.protocol)
+        (unset-joins empty_flag a.flags b.flags)
+        (flagged-joins inport_flag a.flags b.flags a.inport b.inport p.inport))
+        (flagged-joins protocol_flag a.flags b.flags a.protocol b.protocol p.protocol))
+        (flagged-joins sourceport_flag a.flags b.flags a.sourceport b.sourceport p.sourceport))
+        (flagged-joins destinationport_flag a.flags b.flags a.destinationport b.destinationport p.destinationport))
+        (prefix-joins address_bits a.source a.sourcelength b.source b.sourcelength p.source))
+        (prefix-joins address_bits a.destination a.destinationlength b.destination b.destinationlength p.destination))
+        (ports-join port_flags a.flags b.flags p.protocol)
 
 -- where they overlap, since none meets both together if that is empty
 meets-both : (a b : Match) (p : Packet) → Joins (meets a p) (meets b p) (overlap a b) (meets (both a b) p)
@@ -67,74 +67,74 @@ pub meets-overlap : MeetsOverlap
 meets-overlap a b p e f = and_left (overlap a b) (meets (both a b) p) (sym (meets-both a b p).eq ∙ and_both e f)
 
 -- a match's own protocol: where it is not constrained, one that has ports
-abbrev pub ownProtocol : Match → ℕ
-ownProtocol m = cond (constrains protocolFlag m) m.protocol tcp
+abbrev pub own_protocol : Match → ℕ
+own_protocol m = cond (constrains protocol_flag m) m.protocol tcp
 
 -- the packet of a match's own values
-abbrev ownPacket : Match → Packet
-ownPacket m = record {
+abbrev own_packet : Match → Packet
+own_packet m = record {
   inport = m.inport;
   source = m.source;
   destination = m.destination;
-  protocol = ownProtocol m;
+  protocol = own_protocol m;
   sourceport = m.sourceport;
   destinationport = m.destinationport;
 }
 
 -- a match that is not empty has not flag 16
-pub unflagged : (m : Match) → is_empty m ≡ false → constrains emptyFlag m ≡ false
+pub unflagged : (m : Match) → is_empty m ≡ false → constrains empty_flag m ≡ false
 unfolding is_empty unmet
-unflagged m live = go (constrains emptyFlag m) _ live
+unflagged m live = go (constrains empty_flag m) _ live
   where
     go : (x y : Bool) → (x || y) ≡ false → x ≡ false
     go true y e = e
     go false y e = refl
 
 -- its own protocol meets it, and passes its ports
-pub own-protocol-met : (m : Match) → meetsValue (constrains protocolFlag m) m.protocol (ownProtocol m) ≡ true
-own-protocol-met m = go (constrains protocolFlag m)
+pub own-protocol-met : (m : Match) → meets_value (constrains protocol_flag m) m.protocol (own_protocol m) ≡ true
+own-protocol-met m = go (constrains protocol_flag m)
   where
-    go : (on : Bool) → meetsValue on m.protocol (cond on m.protocol tcp) ≡ true
+    go : (on : Bool) → meets_value on m.protocol (cond on m.protocol tcp) ≡ true
     go true = meets-own-value true m.protocol
     go false = meets-free false m.protocol tcp refl
 
-pub own-protocol-ports : (m : Match) → is_empty m ≡ false → meetsPorts (constrains portFlags m) (ownProtocol m) ≡ true
-unfolding is_empty unmet clash meetsPorts
-own-protocol-ports m live = go (constrains emptyFlag m) (constrains portFlags m) (constrains protocolFlag m) live
+pub own-protocol-ports : (m : Match) → is_empty m ≡ false → meets_ports (constrains port_flags m) (own_protocol m) ≡ true
+unfolding is_empty unmet clash meets_ports
+own-protocol-ports m live = go (constrains empty_flag m) (constrains port_flags m) (constrains protocol_flag m) live
   where
-    go : (x on c : Bool) → (x || (on && c && not (hasPorts m.protocol))) ≡ false → (not on || hasPorts (cond c m.protocol tcp)) ≡ true
+    go : (x on c : Bool) → (x || (on && c && not (has_ports m.protocol))) ≡ false → (not on || has_ports (cond c m.protocol tcp)) ≡ true
     go x false c e = refl
     go x true false e = refl
     go true true true e = absurd (false≢true (sym e))
-    go false true true e = not-false (hasPorts m.protocol) e
+    go false true true e = not-false (has_ports m.protocol) e
 
 -- the own packet meets the match, unless that is empty
-meets-own : (m : Match) → is_empty m ≡ false → meets m (ownPacket m) ≡ true
+meets-own : (m : Match) → is_empty m ≡ false → meets m (own_packet m) ≡ true
 meets-own m live =
-    tested m (ownPacket m) (record {
+    tested m (own_packet m) (record {
       unflagged = ap not (unflagged m live);
       ports = own-protocol-ports m live;
-      inport = meets-own-value (constrains inportFlag m) m.inport;
+      inport = meets-own-value (constrains inport_flag m) m.inport;
       protocol = own-protocol-met m;
-      sourceport = meets-own-value (constrains sourceportFlag m) m.sourceport;
-      destinationport = meets-own-value (constrains destinationportFlag m) m.destinationport;
-      source = in-own addressBits m.source m.sourcelength;
-      destination = in-own addressBits m.destination m.destinationlength;
+      sourceport = meets-own-value (constrains sourceport_flag m) m.sourceport;
+      destinationport = meets-own-value (constrains destinationport_flag m) m.destinationport;
+      source = in-own address_bits m.source m.sourcelength;
+      destination = in-own address_bits m.destination m.destinationlength;
     })
 
 -- the values of a right match are in a packet's ranges, its prefixes no longer than an address
 pub record Ranges (m : Match) : Type 0 where
-  pub source : m.source < 2 ^ addressBits
-  pub destination : m.destination < 2 ^ addressBits
-  pub inport : m.inport < portLimit
-  pub protocol : m.protocol < protocolLimit
-  pub sourceport : m.sourceport < portLimit
-  pub destinationport : m.destinationport < portLimit
-  pub sourcelength : m.sourcelength ≤ addressBits
-  pub destinationlength : m.destinationlength ≤ addressBits
+  pub source : m.source < 2 ^ address_bits
+  pub destination : m.destination < 2 ^ address_bits
+  pub inport : m.inport < port_limit
+  pub protocol : m.protocol < protocol_limit
+  pub sourceport : m.sourceport < port_limit
+  pub destinationport : m.destinationport < port_limit
+  pub sourcelength : m.sourcelength ≤ address_bits
+  pub destinationlength : m.destinationlength ≤ address_bits
 
-pub ranges : (m : Match) → rightMatch m ≡ true → Ranges m
-unfolding rightMatch is_none is_plain rightValue rightPrefix
+pub ranges : (m : Match) → right_match m ≡ true → Ranges m
+unfolding right_match is_none is_plain right_value right_prefix
 ranges m e =
     ⊎_elim
     (λ n. let h = simp and-eq-true_iff at n in omega (arith, eqb-true))
@@ -142,22 +142,22 @@ ranges m e =
     (or_split (is_none m) (is_plain m) e)
 
 -- and so is the own protocol of a match whose protocol is in range
-pub own-protocol-below : (m : Match) → m.protocol < protocolLimit → ownProtocol m < protocolLimit
-own-protocol-below m h = common-value-below (constrains protocolFlag m) protocolLimit m.protocol tcp h (omega arith)
+pub own-protocol-below : (m : Match) → m.protocol < protocol_limit → own_protocol m < protocol_limit
+own-protocol-below m h = common-value-below (constrains protocol_flag m) protocol_limit m.protocol tcp h (omega arith)
 
 -- the own packet of two right matches together is in range
-own-right : (a b : Match) → Ranges a → Ranges b → rightPacket (ownPacket (both a b)) ≡ true
-unfolding rightPacket both
+own-right : (a b : Match) → Ranges a → Ranges b → right_packet (own_packet (both a b)) ≡ true
+unfolding right_packet both
 own-right a b r s =
     and_both (and_both (and_both (and_both (and_both
-    (lt-ltb _ _ (longer-within addressBits a.source a.sourcelength b.source b.sourcelength r.source s.source))
-    (lt-ltb _ _ (longer-within addressBits a.destination a.destinationlength b.destination b.destinationlength r.destination s.destination)))
-    (lt-ltb _ _ (common-value-below (constrains inportFlag a) portLimit a.inport b.inport r.inport s.inport)))
+    (lt-ltb _ _ (longer-within address_bits a.source a.sourcelength b.source b.sourcelength r.source s.source))
+    (lt-ltb _ _ (longer-within address_bits a.destination a.destinationlength b.destination b.destinationlength r.destination s.destination)))
+    (lt-ltb _ _ (common-value-below (constrains inport_flag a) port_limit a.inport b.inport r.inport s.inport)))
     (lt-ltb _ _
-    (own-protocol-below (both a b) (common-value-below (constrains protocolFlag a) protocolLimit a.protocol b.protocol r.protocol s.protocol))))
-    (lt-ltb _ _ (common-value-below (constrains sourceportFlag a) portLimit a.sourceport b.sourceport r.sourceport s.sourceport)))
+    (own-protocol-below (both a b) (common-value-below (constrains protocol_flag a) protocol_limit a.protocol b.protocol r.protocol s.protocol))))
+    (lt-ltb _ _ (common-value-below (constrains sourceport_flag a) port_limit a.sourceport b.sourceport r.sourceport s.sourceport)))
     (lt-ltb _ _
-    (common-value-below (constrains destinationportFlag a) portLimit a.destinationport b.destinationport r.destinationport s.destinationport))
+    (common-value-below (constrains destinationport_flag a) port_limit a.destinationport b.destinationport r.destinationport s.destinationport))
 
 -- two matches that overlap are not empty together
 both-lives : (a b : Match) → overlap a b ≡ true → is_empty (both a b) ≡ false
@@ -170,7 +170,7 @@ overlap-exactly a b ra rb = (shown, λ s. meets-overlap a b s.packet s.left s.ri
   where
     shown : overlap a b ≡ true → SharedPacket a b
     shown e =
-        let p : Packet = ownPacket (both a b) in
+        let p : Packet = own_packet (both a b) in
         let m : (meets a p && meets b p) ≡ true = (meets-both a b p).eq ∙ and_both e (meets-own (both a b) (both-lives a b e)) in record {
           packet = p;
           in_range = own-right a b (ranges a ra) (ranges b rb);
@@ -181,7 +181,7 @@ overlap-exactly a b ra rb = (shown, λ s. meets-overlap a b s.packet s.left s.ri
 -- A RIGHT MATCH IS NOT EMPTY exactly where a packet in range meets it
 pub met-exactly : MetExactly
 met-exactly m r = (
-  λ live. (overlap-exactly m m r r).0 (meets-overlap m m (ownPacket m) (meets-own m live) (meets-own m live)),
+  λ live. (overlap-exactly m m r r).0 (meets-overlap m m (own_packet m) (meets-own m live) (meets-own m live)),
   λ s. met-lives m s.packet s.left,
 )
 
@@ -189,16 +189,16 @@ met-exactly m r = (
 pub empty-exactly : EmptyExactly
 empty-exactly m r = (λ e p h. meets-empty m p e, λ missed. by-test (is_empty m) (λ e. e) (λ live. absurd (met ((met-exactly m r).0 live) missed)))
   where
-    met : SharedPacket m m → ((p : Packet) → rightPacket p ≡ true → meets m p ≡ false) → ⊥
+    met : SharedPacket m m → ((p : Packet) → right_packet p ≡ true → meets m p ≡ false) → ⊥
     met s missed = false≢true (sym (missed s.packet s.in_range) ∙ s.left)
 
 -- a right match without flag 16 is plain
-plain : (m : Match) → rightMatch m ≡ true → constrains emptyFlag m ≡ false → is_plain m ≡ true
-unfolding rightMatch is_none
+plain : (m : Match) → right_match m ≡ true → constrains empty_flag m ≡ false → is_plain m ≡ true
+unfolding right_match is_none
 plain m e u =
     ⊎_elim
     (λ n. let h = simp and-eq-true_iff at n in
-    let t : constrains emptyFlag m ≡ true = ap (flagged emptyFlag) (eqb-true m.flags emptyFlag h.1) in
+    let t : constrains empty_flag m ≡ true = ap (flagged empty_flag) (eqb-true m.flags empty_flag h.1) in
     cc)
     (λ n. n)
     (or_split (is_none m) (is_plain m) e)
@@ -208,15 +208,15 @@ plain-empty : (m : Match) → is_plain m ≡ true → is_empty m ≡ contradicts
 unfolding is_plain is_empty unmet contradicts
 plain-empty m e =
     ap (λ (t : Bool). t || contradicts m)
-    (unknown-unset knownFlags emptyFlag m.flags (by-test (eqb (bit_and m.flags knownFlags) m.flags) (λ t. t) (λ f. cc)) refl)
+    (unknown-unset known_flags empty_flag m.flags (by-test (eqb (bit_and m.flags known_flags) m.flags) (λ t. t) (λ f. cc)) refl)
 
 -- the right matches that are not empty are the plain ones that do not contradict themselves
-pub plain-exactly : (m : Match) → (is_plain m && not (contradicts m)) ≡ (rightMatch m && not (is_empty m))
-unfolding rightMatch
+pub plain-exactly : (m : Match) → (is_plain m && not (contradicts m)) ≡ (right_match m && not (is_empty m))
+unfolding right_match
 plain-exactly m =
     by-test (is_plain m) (λ e. ap (λ (t : Bool). is_plain m && not t) (sym (plain-empty m e))) (λ f. rw f)
-    ∙ and-under (is_plain m) (rightMatch m) (not (is_empty m))
-    (λ live. same_test (is_plain m) (rightMatch m)
+    ∙ and-under (is_plain m) (right_match m) (not (is_empty m))
+    (λ live. same_test (is_plain m) (right_match m)
     (λ e. ap (λ (t : Bool). is_none m || t) e ∙ or-true (is_none m))
     (λ e. plain m e (unflagged m (not-true (is_empty m) live))))
 
@@ -224,18 +224,18 @@ both-plain : (a b : Match) → Keeps (is_plain a) (is_plain b) (is_plain (both a
 unfolding both is_plain
 both-plain a b =
     keeps-and (keeps-and (keeps-and (keeps-and (keeps-and (keeps-and
-    (known-right knownFlags a.flags b.flags)
-    (flagged-right inportFlag a.flags b.flags portLimit a.inport b.inport))
-    (flagged-right protocolFlag a.flags b.flags protocolLimit a.protocol b.protocol))
-    (flagged-right sourceportFlag a.flags b.flags portLimit a.sourceport b.sourceport))
-    (flagged-right destinationportFlag a.flags b.flags portLimit a.destinationport b.destinationport))
-    (longer-right addressBits a.source a.sourcelength b.source b.sourcelength))
-    (longer-right addressBits a.destination a.destinationlength b.destination b.destinationlength)
+    (known-right known_flags a.flags b.flags)
+    (flagged-right inport_flag a.flags b.flags port_limit a.inport b.inport))
+    (flagged-right protocol_flag a.flags b.flags protocol_limit a.protocol b.protocol))
+    (flagged-right sourceport_flag a.flags b.flags port_limit a.sourceport b.sourceport))
+    (flagged-right destinationport_flag a.flags b.flags port_limit a.destinationport b.destinationport))
+    (longer-right address_bits a.source a.sourcelength b.source b.sourcelength))
+    (longer-right address_bits a.destination a.destinationlength b.destination b.destinationlength)
 
 -- two matches without flag 16 together have it neither
-unflagged-both : (a b : Match) → constrains emptyFlag (both a b) ≡ false → (constrains emptyFlag a ≡ false) × (constrains emptyFlag b ≡ false)
+unflagged-both : (a b : Match) → constrains empty_flag (both a b) ≡ false → (constrains empty_flag a ≡ false) × (constrains empty_flag b ≡ false)
 unfolding both
-unflagged-both a b u = go (constrains emptyFlag a) (constrains emptyFlag b) (sym (flag-or emptyFlag a.flags b.flags) ∙ u)
+unflagged-both a b u = go (constrains empty_flag a) (constrains empty_flag b) (sym (flag-or empty_flag a.flags b.flags) ∙ u)
   where
     go : (x y : Bool) → (x || y) ≡ false → (x ≡ false) × (y ≡ false)
     go true y e = absurd (false≢true (sym e))
@@ -243,10 +243,10 @@ unflagged-both a b u = go (constrains emptyFlag a) (constrains emptyFlag b) (sym
 
 -- THE COMMON MATCH OF RIGHT MATCHES IS RIGHT
 pub common-right : CommonRight
-unfolding common rightMatch is_none
+unfolding common right_match is_none
 common-right a b p q = go (overlap a b) refl
   where
-    go : (t : Bool) → overlap a b ≡ t → rightMatch (cond t (both a b) none) ≡ true
+    go : (t : Bool) → overlap a b ≡ t → right_match (cond t (both a b) none) ≡ true
     go true e =
         let u = unflagged-both a b (unflagged (both a b) (both-lives a b e)) in
         ap (λ (t : Bool). is_none (both a b) || t) ((both-plain a b).gives (plain a p u.0) (plain b q u.1)) ∙ or-true (is_none (both a b))

@@ -4,10 +4,10 @@ use mathlib.Core.Path.{◌≡◌, refl, ap, ◌∙◌}
 use mathlib.Core.Bool.{Bool, true, false, not, ◌&&◌, ◌||◌, and-eq-true_iff, false≢true}
 use Prim.Native.Nat.{ℕ}
 use borrow.Author.Tests.{eqb-true}
-use Rattle.field.specs.Prefix.{addressBits, inPrefix}
-use Rattle.field.specs.Value.{meetsValue}
-use Rattle.flow.specs.Match.{inportFlag, protocolFlag, sourceportFlag, destinationportFlag, portFlags, emptyFlag, constrains}
-use Rattle.flow.specs.Match.{hasPorts, meetsPorts, clash, unmet, is_empty, meets}
+use Rattle.field.specs.Prefix.{address_bits, in_prefix}
+use Rattle.field.specs.Value.{meets_value}
+use Rattle.flow.specs.Match.{inport_flag, protocol_flag, sourceport_flag, destinationport_flag, port_flags, empty_flag, constrains}
+use Rattle.flow.specs.Match.{has_ports, meets_ports, clash, unmet, is_empty, meets}
 use Rattle.flow.specs.Theorems.{MeetsEmpty, PortsMet}
 use Rattle.flow.specs.declared.Match.{Match}
 use Rattle.flow.specs.declared.Packet.{Packet}
@@ -15,14 +15,14 @@ use Rattle.logic.proofs.Tests.{by-test, and_both}
 
 -- the tests that a packet passes which meets a match, by name
 pub record Tests (m : Match) (p : Packet) : Type 0 where
-  pub unflagged : not (constrains emptyFlag m) ≡ true
-  pub inport : meetsValue (constrains inportFlag m) m.inport p.inport ≡ true
-  pub protocol : meetsValue (constrains protocolFlag m) m.protocol p.protocol ≡ true
-  pub sourceport : meetsValue (constrains sourceportFlag m) m.sourceport p.sourceport ≡ true
-  pub destinationport : meetsValue (constrains destinationportFlag m) m.destinationport p.destinationport ≡ true
-  pub source : inPrefix addressBits m.source m.sourcelength p.source ≡ true
-  pub destination : inPrefix addressBits m.destination m.destinationlength p.destination ≡ true
-  pub ports : meetsPorts (constrains portFlags m) p.protocol ≡ true
+  pub unflagged : not (constrains empty_flag m) ≡ true
+  pub inport : meets_value (constrains inport_flag m) m.inport p.inport ≡ true
+  pub protocol : meets_value (constrains protocol_flag m) m.protocol p.protocol ≡ true
+  pub sourceport : meets_value (constrains sourceport_flag m) m.sourceport p.sourceport ≡ true
+  pub destinationport : meets_value (constrains destinationport_flag m) m.destinationport p.destinationport ≡ true
+  pub source : in_prefix address_bits m.source m.sourcelength p.source ≡ true
+  pub destination : in_prefix address_bits m.destination m.destinationlength p.destination ≡ true
+  pub ports : meets_ports (constrains port_flags m) p.protocol ≡ true
 
 pub tests : (m : Match) (p : Packet) → meets m p ≡ true → Tests m p
 unfolding meets
@@ -46,23 +46,23 @@ tested m p t =
 
 -- A PACKET THAT MEETS A MATCH WITH A PORT has a protocol with ports
 pub ports-met : PortsMet
-unfolding meetsPorts
+unfolding meets_ports
 ports-met m p on e = let passed = (tests m p e).ports in rw on at passed
 
 -- no protocol of a packet that meets a match goes against its ports
-lives : (x on c : Bool) (q r : ℕ) → not x ≡ true → meetsPorts on r ≡ true → meetsValue c q r ≡ true → (x || (on && c && not (hasPorts q))) ≡ false
-unfolding meetsPorts meetsValue
+lives : (x on c : Bool) (q r : ℕ) → not x ≡ true → meets_ports on r ≡ true → meets_value c q r ≡ true → (x || (on && c && not (has_ports q))) ≡ false
+unfolding meets_ports meets_value
 lives true on c q r u o v = absurd (false≢true u)
 lives false false c q r u o v = refl
 lives false true false q r u o v = refl
-lives false true true q r u o v = ap not (ap hasPorts (eqb-true q r v) ∙ o)
+lives false true true q r u o v = ap not (ap has_ports (eqb-true q r v) ∙ o)
 
 -- a match that some packet meets is not empty
 pub met-lives : (m : Match) (p : Packet) → meets m p ≡ true → is_empty m ≡ false
 unfolding is_empty unmet clash
 met-lives m p e =
     let t : Tests m p = tests m p e in
-    lives (constrains emptyFlag m) (constrains portFlags m) (constrains protocolFlag m) m.protocol p.protocol t.unflagged t.ports t.protocol
+    lives (constrains empty_flag m) (constrains port_flags m) (constrains protocol_flag m) m.protocol p.protocol t.unflagged t.ports t.protocol
 
 -- NO PACKET MEETS AN EMPTY MATCH
 pub meets-empty : MeetsEmpty

@@ -7,8 +7,8 @@ use lib.ListN.{length, drop, get_or}
 use lib.Seq.{drop-cons}
 use Rattle.words.specs.Words.{copied}
 use Rattle.words.proofs.Laid.{copied-fits, laid-is}
-use Rattle.flow.specs.Packet.{packetLength, packetOf, packetWords}
-use Rattle.flow.specs.Match.{matchLength, match_of, matchWords}
+use Rattle.flow.specs.Packet.{packet_length, packet_of, packet_words}
+use Rattle.flow.specs.Match.{match_length, match_of, match_words}
 use Rattle.flow.specs.Theorems.{MatchWordsRead, MatchReadWords, MatchWrittenRead, PacketWordsRead, PacketReadWords, PacketWrittenRead}
 
 -- words stored at the start of a buffer stand in front of the rest
@@ -30,16 +30,16 @@ pub match-words-read : MatchWordsRead
 match-words-read m l = refl
 
 pub match-read-words : MatchReadWords
-match-read-words l h = spell matchLength 0 l h
+match-read-words l h = spell match_length 0 l h
 
 pub match-written-read : MatchWrittenRead
-match-written-read m l h = ap match_of (copied-front (matchWords m) l h)
+match-written-read m l h = ap match_of (copied-front (match_words m) l h)
 
 pub packet-words-read : PacketWordsRead
 packet-words-read p l = refl
 
 pub packet-read-words : PacketReadWords
-packet-read-words l h = spell packetLength 0 l h
+packet-read-words l h = spell packet_length 0 l h
 
 pub packet-written-read : PacketWrittenRead
-packet-written-read p l h = ap packetOf (copied-front (packetWords p) l h)
+packet-written-read p l h = ap packet_of (copied-front (packet_words p) l h)

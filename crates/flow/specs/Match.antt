@@ -3,18 +3,18 @@
 -- constrained by their prefixes. A port is met only by packets of a protocol that has ports. Flag 16 is an empty match.
 -- See docs/FORMAT.md, "Matches".
 --
---   match_of, matchWords   the match that some words are, and its words
---   portFlags             the flags of the two ports
---   knownFlags            the flags that may stand together
+--   match_of, match_words   the match that some words are, and its words
+--   port_flags             the flags of the two ports
+--   known_flags            the flags that may stand together
 --   flagged k f           a flag of k is among the flags f; constrains k m: among those of m
---   hasPorts q            the protocol q has ports
---   meetsPorts on q       no port is constrained, or the protocol q has ports
+--   has_ports q            the protocol q has ports
+--   meets_ports on q       no port is constrained, or the protocol q has ports
 --   clash f q             the flags f ask for a port, and for the protocol q, which has none; contradicts m: those of m
 --   unmet f q             no packet meets a match with the flags f and the protocol q
 --   is_empty m             no packet meets m
 --   none, is_none m        the empty match of flag 16 in its only right form, and that m's words are its words
 --   is_plain m             m is right without flag 16
---   rightMatch m          the words are right: those of none, or of a plain match
+--   right_match m          the words are right: those of none, or of a plain match
 --   fits m p              p meets m if every packet is taken to have ports
 --   meets m p             the packet p meets the match m
 --   agree a b             no field of the two keeps a packet from meeting both
@@ -26,43 +26,43 @@
 --   LiesIn a b            every packet in range that meets a meets b
 use Rattle.std.specs.Prelude.{ℕ, ◌+◌, ◌-◌, ◌≡◌, Bool, true, false, cond, not, ◌&&◌, ◌||◌, List, [], ◌∷◌, ◌++◌, eqb, get_or, replicate}
 use Rattle.std.specs.Int.Bits.{bit_and, bit_or}
-use Rattle.field.specs.Prefix.{addressBits, inPrefix, rightPrefix, prefixesMeet, covers, longerAddress, longerLength}
-use Rattle.field.specs.Value.{meetsValue, valuesMeet, valueInside, commonValue, rightValue}
-use Rattle.flow.specs.Packet.{portLimit, protocolLimit, rightPacket}
+use Rattle.field.specs.Prefix.{address_bits, in_prefix, right_prefix, prefixes_meet, covers, longer_address, longer_length}
+use Rattle.field.specs.Value.{meets_value, values_meet, value_inside, common_value, right_value}
+use Rattle.flow.specs.Packet.{port_limit, protocol_limit, right_packet}
 use Rattle.flow.specs.declared.Match.{Match}
 use Rattle.flow.specs.declared.Packet.{Packet}
 
 -- how many words a match has
-abbrev pub matchLength : ℕ
-matchLength = 9
+abbrev pub match_length : ℕ
+match_length = 9
 
 -- the in-port is constrained
-abbrev pub inportFlag : ℕ
-inportFlag = 1
+abbrev pub inport_flag : ℕ
+inport_flag = 1
 
 -- the protocol is constrained
-abbrev pub protocolFlag : ℕ
-protocolFlag = 2
+abbrev pub protocol_flag : ℕ
+protocol_flag = 2
 
 -- the source port is constrained
-abbrev pub sourceportFlag : ℕ
-sourceportFlag = 4
+abbrev pub sourceport_flag : ℕ
+sourceport_flag = 4
 
 -- the destination port is constrained
-abbrev pub destinationportFlag : ℕ
-destinationportFlag = 8
+abbrev pub destinationport_flag : ℕ
+destinationport_flag = 8
 
 -- a port is constrained
-abbrev pub portFlags : ℕ
-portFlags = sourceportFlag + destinationportFlag
+abbrev pub port_flags : ℕ
+port_flags = sourceport_flag + destinationport_flag
 
 -- the flags that may stand together: a value is constrained
-abbrev pub knownFlags : ℕ
-knownFlags = inportFlag + protocolFlag + portFlags
+abbrev pub known_flags : ℕ
+known_flags = inport_flag + protocol_flag + port_flags
 
 -- no packet meets the match; this flag stands alone
-abbrev pub emptyFlag : ℕ
-emptyFlag = 16
+abbrev pub empty_flag : ℕ
+empty_flag = 16
 
 -- the match that the first nine words are; words that are missing count as 0
 abbrev pub match_of : List ℕ → Match
@@ -79,8 +79,8 @@ match_of l = record {
 }
 
 -- a match's nine words
-abbrev pub matchWords : Match → List ℕ
-matchWords m =
+abbrev pub match_words : Match → List ℕ
+match_words m =
     m.inport
     ∷ m.source
     ∷ m.destination
@@ -94,7 +94,7 @@ matchWords m =
 
 -- the empty match of flag 16: eight zeros, and the flag
 abbrev pub none : Match
-none = match_of (replicate (matchLength - 1) 0 ++ emptyFlag ∷ [])
+none = match_of (replicate (match_length - 1) 0 ++ empty_flag ∷ [])
 
 -- a flag of k is among the flags f
 abbrev pub flagged : ℕ → ℕ → Bool
@@ -111,16 +111,16 @@ tcp = 6
 abbrev pub udp : ℕ
 udp = 17
 
-abbrev pub hasPorts : ℕ → Bool
-hasPorts q = eqb q tcp || eqb q udp
+abbrev pub has_ports : ℕ → Bool
+has_ports q = eqb q tcp || eqb q udp
 
 -- a packet of the protocol q passes the ports of a match, whatever their values: none is constrained, or q has ports
-unfoldable pub meetsPorts : Bool → ℕ → Bool
-meetsPorts on q = not on || hasPorts q
+unfoldable pub meets_ports : Bool → ℕ → Bool
+meets_ports on q = not on || has_ports q
 
 -- a match with the flags f and the protocol q constrains a port and a protocol without ports
 unfoldable pub clash : ℕ → ℕ → Bool
-clash f q = flagged portFlags f && flagged protocolFlag f && not (hasPorts q)
+clash f q = flagged port_flags f && flagged protocol_flag f && not (has_ports q)
 
 -- the match contradicts itself
 unfoldable pub contradicts : Match → Bool
@@ -128,7 +128,7 @@ contradicts m = clash m.flags m.protocol
 
 -- no packet meets a match with the flags f and the protocol q: it has flag 16, or the two clash
 unfoldable pub unmet : ℕ → ℕ → Bool
-unmet f q = flagged emptyFlag f || clash f q
+unmet f q = flagged empty_flag f || clash f q
 
 -- no packet meets the match
 unfoldable pub is_empty : Match → Bool
@@ -143,61 +143,61 @@ same_words t (x ∷ F) (y ∷ G) = same_words (t && eqb x y) F G
 
 -- the words are those of none
 unfoldable pub is_none : Match → Bool
-is_none m = same_words true (matchWords m) (matchWords none)
+is_none m = same_words true (match_words m) (match_words none)
 
 -- any other right match: only known flags, values in a packet's ranges and 0 where unconstrained, right prefixes
 unfoldable pub is_plain : Match → Bool
 is_plain m =
-    eqb (bit_and m.flags knownFlags) m.flags
-    && rightValue (constrains inportFlag m) portLimit m.inport
-    && rightValue (constrains protocolFlag m) protocolLimit m.protocol
-    && rightValue (constrains sourceportFlag m) portLimit m.sourceport
-    && rightValue (constrains destinationportFlag m) portLimit m.destinationport
-    && rightPrefix addressBits m.source m.sourcelength
-    && rightPrefix addressBits m.destination m.destinationlength
+    eqb (bit_and m.flags known_flags) m.flags
+    && right_value (constrains inport_flag m) port_limit m.inport
+    && right_value (constrains protocol_flag m) protocol_limit m.protocol
+    && right_value (constrains sourceport_flag m) port_limit m.sourceport
+    && right_value (constrains destinationport_flag m) port_limit m.destinationport
+    && right_prefix address_bits m.source m.sourcelength
+    && right_prefix address_bits m.destination m.destinationlength
 
 -- the words of a match are right
-unfoldable pub rightMatch : Match → Bool
-rightMatch m = is_none m || is_plain m
+unfoldable pub right_match : Match → Bool
+right_match m = is_none m || is_plain m
 
 -- the packet p fits the match m field by field: m has not flag 16, each constrained value is p's, and p's addresses lie
 -- in the prefixes
 abbrev pub fits : Match → Packet → Bool
 fits m p =
-    not (constrains emptyFlag m)
-    && meetsValue (constrains inportFlag m) m.inport p.inport
-    && meetsValue (constrains protocolFlag m) m.protocol p.protocol
-    && meetsValue (constrains sourceportFlag m) m.sourceport p.sourceport
-    && meetsValue (constrains destinationportFlag m) m.destinationport p.destinationport
-    && inPrefix addressBits m.source m.sourcelength p.source
-    && inPrefix addressBits m.destination m.destinationlength p.destination
+    not (constrains empty_flag m)
+    && meets_value (constrains inport_flag m) m.inport p.inport
+    && meets_value (constrains protocol_flag m) m.protocol p.protocol
+    && meets_value (constrains sourceport_flag m) m.sourceport p.sourceport
+    && meets_value (constrains destinationport_flag m) m.destinationport p.destinationport
+    && in_prefix address_bits m.source m.sourcelength p.source
+    && in_prefix address_bits m.destination m.destinationlength p.destination
 
 -- the packet p meets the match m: it fits in each field, and its protocol has ports where one is constrained
 unfoldable pub meets : Match → Packet → Bool
-meets m p = fits m p && meetsPorts (constrains portFlags m) p.protocol
+meets m p = fits m p && meets_ports (constrains port_flags m) p.protocol
 
 -- a and b agree in each field
 abbrev pub agree : Match → Match → Bool
 agree a b =
-    valuesMeet (constrains inportFlag a) a.inport (constrains inportFlag b) b.inport
-    && valuesMeet (constrains protocolFlag a) a.protocol (constrains protocolFlag b) b.protocol
-    && valuesMeet (constrains sourceportFlag a) a.sourceport (constrains sourceportFlag b) b.sourceport
-    && valuesMeet (constrains destinationportFlag a) a.destinationport (constrains destinationportFlag b)
+    values_meet (constrains inport_flag a) a.inport (constrains inport_flag b) b.inport
+    && values_meet (constrains protocol_flag a) a.protocol (constrains protocol_flag b) b.protocol
+    && values_meet (constrains sourceport_flag a) a.sourceport (constrains sourceport_flag b) b.sourceport
+    && values_meet (constrains destinationport_flag a) a.destinationport (constrains destinationport_flag b)
     b.destinationport
-    && prefixesMeet addressBits a.source a.sourcelength b.source b.sourcelength
-    && prefixesMeet addressBits a.destination a.destinationlength b.destination b.destinationlength
+    && prefixes_meet address_bits a.source a.sourcelength b.source b.sourcelength
+    && prefixes_meet address_bits a.destination a.destinationlength b.destination b.destinationlength
 
 -- both together: what either constrains, and the longer prefixes
 unfoldable pub both : Match → Match → Match
 both a b = record {
-  inport = commonValue (constrains inportFlag a) a.inport b.inport;
-  source = longerAddress a.source a.sourcelength b.source b.sourcelength;
-  destination = longerAddress a.destination a.destinationlength b.destination b.destinationlength;
-  protocol = commonValue (constrains protocolFlag a) a.protocol b.protocol;
-  sourceport = commonValue (constrains sourceportFlag a) a.sourceport b.sourceport;
-  destinationport = commonValue (constrains destinationportFlag a) a.destinationport b.destinationport;
-  sourcelength = longerLength a.sourcelength b.sourcelength;
-  destinationlength = longerLength a.destinationlength b.destinationlength;
+  inport = common_value (constrains inport_flag a) a.inport b.inport;
+  source = longer_address a.source a.sourcelength b.source b.sourcelength;
+  destination = longer_address a.destination a.destinationlength b.destination b.destinationlength;
+  protocol = common_value (constrains protocol_flag a) a.protocol b.protocol;
+  sourceport = common_value (constrains sourceport_flag a) a.sourceport b.sourceport;
+  destinationport = common_value (constrains destinationport_flag a) a.destinationport b.destinationport;
+  sourcelength = longer_length a.sourcelength b.sourcelength;
+  destinationlength = longer_length a.destinationlength b.destinationlength;
   flags = bit_or a.flags b.flags;
 }
 
@@ -214,21 +214,21 @@ unfoldable pub inside : Match → Match → Bool
 inside a b =
     is_empty a
     || (not (is_empty b)
-    && valueInside (constrains inportFlag a) a.inport (constrains inportFlag b) b.inport
-    && valueInside (constrains protocolFlag a) a.protocol (constrains protocolFlag b) b.protocol
-    && valueInside (constrains sourceportFlag a) a.sourceport (constrains sourceportFlag b) b.sourceport
-    && valueInside (constrains destinationportFlag a) a.destinationport (constrains destinationportFlag b)
+    && value_inside (constrains inport_flag a) a.inport (constrains inport_flag b) b.inport
+    && value_inside (constrains protocol_flag a) a.protocol (constrains protocol_flag b) b.protocol
+    && value_inside (constrains sourceport_flag a) a.sourceport (constrains sourceport_flag b) b.sourceport
+    && value_inside (constrains destinationport_flag a) a.destinationport (constrains destinationport_flag b)
     b.destinationport
-    && covers addressBits b.source b.sourcelength a.source a.sourcelength
-    && covers addressBits b.destination b.destinationlength a.destination a.destinationlength)
+    && covers address_bits b.source b.sourcelength a.source a.sourcelength
+    && covers address_bits b.destination b.destinationlength a.destination a.destinationlength)
 
 -- a packet in range that meets two matches
 pub record SharedPacket (a b : Match) : Type 0 where
   pub packet : Packet
-  pub in_range : rightPacket packet ≡ true
+  pub in_range : right_packet packet ≡ true
   pub left : meets a packet ≡ true
   pub right : meets b packet ≡ true
 
 -- every packet in range that meets a meets b
 abbrev pub LiesIn : Match → Match → Type 0
-LiesIn a b = (p : Packet) → rightPacket p ≡ true → meets a p ≡ true → meets b p ≡ true
+LiesIn a b = (p : Packet) → right_packet p ≡ true → meets a p ≡ true → meets b p ≡ true

@@ -1,33 +1,33 @@
 -- A packet: six words, in this order: in-port, source address, destination address, protocol, source port, destination
 -- port. See docs/FORMAT.md, "Packets".
 --
---   packetOf, packetWords   the packet that some words are, and its words
---   rightPacket             the values are in their ranges
---   rightPacketWords        some words are a packet
---   wrongPacket             the number of words that are none
+--   packet_of, packet_words   the packet that some words are, and its words
+--   right_packet             the values are in their ranges
+--   right_packet_words        some words are a packet
+--   wrong_packet             the number of words that are none
 use Rattle.std.specs.Prelude.{ℕ, ◌^◌, Bool, ◌&&◌, List, [], ◌∷◌, eqb, ltb, get_or, length}
-use Rattle.field.specs.Prefix.{addressBits}
+use Rattle.field.specs.Prefix.{address_bits}
 use Rattle.flow.specs.declared.Packet.{Packet}
 
 -- how many words a packet has
-abbrev pub packetLength : ℕ
-packetLength = 6
+abbrev pub packet_length : ℕ
+packet_length = 6
 
 -- the number of words that are no packet
-abbrev pub wrongPacket : ℕ
-wrongPacket = 11
+abbrev pub wrong_packet : ℕ
+wrong_packet = 11
 
 -- in-ports and ports are below this number
-abbrev pub portLimit : ℕ
-portLimit = 65536
+abbrev pub port_limit : ℕ
+port_limit = 65536
 
 -- protocols are below this number
-abbrev pub protocolLimit : ℕ
-protocolLimit = 256
+abbrev pub protocol_limit : ℕ
+protocol_limit = 256
 
 -- the packet that the first six words are; words that are missing count as 0
-abbrev pub packetOf : List ℕ → Packet
-packetOf l = record {
+abbrev pub packet_of : List ℕ → Packet
+packet_of l = record {
   inport = get_or l 0 0;
   source = get_or l 1 0;
   destination = get_or l 2 0;
@@ -37,19 +37,19 @@ packetOf l = record {
 }
 
 -- a packet's six words
-abbrev pub packetWords : Packet → List ℕ
-packetWords p = p.inport ∷ p.source ∷ p.destination ∷ p.protocol ∷ p.sourceport ∷ p.destinationport ∷ []
+abbrev pub packet_words : Packet → List ℕ
+packet_words p = p.inport ∷ p.source ∷ p.destination ∷ p.protocol ∷ p.sourceport ∷ p.destinationport ∷ []
 
 -- the values are in their ranges; an address is any word
-unfoldable pub rightPacket : Packet → Bool
-rightPacket p =
-    ltb p.source (2 ^ addressBits)
-    && ltb p.destination (2 ^ addressBits)
-    && ltb p.inport portLimit
-    && ltb p.protocol protocolLimit
-    && ltb p.sourceport portLimit
-    && ltb p.destinationport portLimit
+unfoldable pub right_packet : Packet → Bool
+right_packet p =
+    ltb p.source (2 ^ address_bits)
+    && ltb p.destination (2 ^ address_bits)
+    && ltb p.inport port_limit
+    && ltb p.protocol protocol_limit
+    && ltb p.sourceport port_limit
+    && ltb p.destinationport port_limit
 
 -- some words are a packet: exactly six, with values in their ranges
-unfoldable pub rightPacketWords : List ℕ → Bool
-rightPacketWords l = eqb (length l) packetLength && rightPacket (packetOf l)
+unfoldable pub right_packet_words : List ℕ → Bool
+right_packet_words l = eqb (length l) packet_length && right_packet (packet_of l)

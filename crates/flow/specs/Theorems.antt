@@ -12,9 +12,9 @@
 --   PacketWordsRead, PacketReadWords, PacketWrittenRead   the words of a packet
 use Rattle.std.specs.Prelude.{ℕ, ◌≤◌, ◌≡◌, true, false, not, ◌&&◌, List, ◌++◌, ◌↔◌, length, drop}
 use Rattle.words.specs.Words.{copied}
-use Rattle.flow.specs.Packet.{packetLength, packetOf, packetWords, rightPacket}
-use Rattle.flow.specs.Match.{matchLength, match_of, matchWords, portFlags, constrains, hasPorts, is_empty}
-use Rattle.flow.specs.Match.{rightMatch, meets, overlap, none, common, inside, SharedPacket, LiesIn}
+use Rattle.flow.specs.Packet.{packet_length, packet_of, packet_words, right_packet}
+use Rattle.flow.specs.Match.{match_length, match_of, match_words, port_flags, constrains, has_ports, is_empty}
+use Rattle.flow.specs.Match.{right_match, meets, overlap, none, common, inside, SharedPacket, LiesIn}
 use Rattle.flow.specs.declared.Match.{Match}
 use Rattle.flow.specs.declared.Packet.{Packet}
 
@@ -28,11 +28,11 @@ MeetsEmpty = (m : Match) (p : Packet) → is_empty m ≡ true → meets m p ≡ 
 
 -- a packet that meets a match with a port has a protocol with ports, for all matches (ports-met)
 abbrev pub PortsMet : Type 0
-PortsMet = (m : Match) (p : Packet) → constrains portFlags m ≡ true → meets m p ≡ true → hasPorts p.protocol ≡ true
+PortsMet = (m : Match) (p : Packet) → constrains port_flags m ≡ true → meets m p ≡ true → has_ports p.protocol ≡ true
 
 -- right matches overlap exactly when some packet in range meets both (overlap-exactly)
 abbrev pub OverlapExactly : Type 0
-OverlapExactly = (a b : Match) → rightMatch a ≡ true → rightMatch b ≡ true → (overlap a b ≡ true) ↔ SharedPacket a b
+OverlapExactly = (a b : Match) → right_match a ≡ true → right_match b ≡ true → (overlap a b ≡ true) ↔ SharedPacket a b
 
 -- where any packet meets two matches, right or not, they overlap (meets-overlap)
 abbrev pub MeetsOverlap : Type 0
@@ -40,16 +40,16 @@ MeetsOverlap = (a b : Match) (p : Packet) → meets a p ≡ true → meets b p �
 
 -- a right match is not empty exactly when some packet in range meets it (met-exactly)
 abbrev pub MetExactly : Type 0
-MetExactly = (m : Match) → rightMatch m ≡ true → (is_empty m ≡ false) ↔ SharedPacket m m
+MetExactly = (m : Match) → right_match m ≡ true → (is_empty m ≡ false) ↔ SharedPacket m m
 
 -- a right match is empty exactly when no packet in range meets it (empty-exactly)
 abbrev pub EmptyExactly : Type 0
-EmptyExactly = (m : Match) → rightMatch m ≡ true
-    → (is_empty m ≡ true) ↔ ((p : Packet) → rightPacket p ≡ true → meets m p ≡ false)
+EmptyExactly = (m : Match) → right_match m ≡ true
+    → (is_empty m ≡ true) ↔ ((p : Packet) → right_packet p ≡ true → meets m p ≡ false)
 
 -- the common match of right matches is right (common-right)
 abbrev pub CommonRight : Type 0
-CommonRight = (a b : Match) → rightMatch a ≡ true → rightMatch b ≡ true → rightMatch (common a b) ≡ true
+CommonRight = (a b : Match) → right_match a ≡ true → right_match b ≡ true → right_match (common a b) ≡ true
 
 -- the common match is empty exactly when the two do not overlap, for all matches (common-empty)
 abbrev pub CommonEmpty : Type 0
@@ -57,7 +57,7 @@ CommonEmpty = (a b : Match) → is_empty (common a b) ≡ not (overlap a b)
 
 -- where no packet in range meets two right matches both, their common match is flag 16 alone (common-none)
 abbrev pub CommonNone : Type 0
-CommonNone = (a b : Match) → rightMatch a ≡ true → rightMatch b ≡ true → ¬ SharedPacket a b → common a b ≡ none
+CommonNone = (a b : Match) → right_match a ≡ true → right_match b ≡ true → ¬ SharedPacket a b → common a b ≡ none
 
 -- where a lies inside b, a packet that meets a meets b, for all matches (inside-meets)
 abbrev pub InsideMeets : Type 0
@@ -69,25 +69,25 @@ InsideTrans = (a b c : Match) → inside a b ≡ true → inside b c ≡ true �
 
 -- a right match lies inside another exactly when every packet in range that meets it meets the other (inside-exactly)
 abbrev pub InsideExactly : Type 0
-InsideExactly = (a b : Match) → rightMatch a ≡ true → rightMatch b ≡ true → (inside a b ≡ true) ↔ LiesIn a b
+InsideExactly = (a b : Match) → right_match a ≡ true → right_match b ≡ true → (inside a b ≡ true) ↔ LiesIn a b
 
 -- the words of a match are read as the match (match-words-read), and read words are its words (match-read-words)
 abbrev pub MatchWordsRead : Type 0
-MatchWordsRead = (m : Match) (l : List ℕ) → match_of (matchWords m ++ l) ≡ m
+MatchWordsRead = (m : Match) (l : List ℕ) → match_of (match_words m ++ l) ≡ m
 
 abbrev pub MatchReadWords : Type 0
-MatchReadWords = (l : List ℕ) → matchLength ≤ length l → matchWords (match_of l) ++ drop matchLength l ≡ l
+MatchReadWords = (l : List ℕ) → match_length ≤ length l → match_words (match_of l) ++ drop match_length l ≡ l
 
 -- what was written is read, from a buffer with room for it (match-written-read)
 abbrev pub MatchWrittenRead : Type 0
-MatchWrittenRead = (m : Match) (l : List ℕ) → matchLength ≤ length l → match_of (copied 0 (matchWords m) l) ≡ m
+MatchWrittenRead = (m : Match) (l : List ℕ) → match_length ≤ length l → match_of (copied 0 (match_words m) l) ≡ m
 
 -- the same of packets (packet-words-read, packet-read-words, packet-written-read)
 abbrev pub PacketWordsRead : Type 0
-PacketWordsRead = (p : Packet) (l : List ℕ) → packetOf (packetWords p ++ l) ≡ p
+PacketWordsRead = (p : Packet) (l : List ℕ) → packet_of (packet_words p ++ l) ≡ p
 
 abbrev pub PacketReadWords : Type 0
-PacketReadWords = (l : List ℕ) → packetLength ≤ length l → packetWords (packetOf l) ++ drop packetLength l ≡ l
+PacketReadWords = (l : List ℕ) → packet_length ≤ length l → packet_words (packet_of l) ++ drop packet_length l ≡ l
 
 abbrev pub PacketWrittenRead : Type 0
-PacketWrittenRead = (p : Packet) (l : List ℕ) → packetLength ≤ length l → packetOf (copied 0 (packetWords p) l) ≡ p
+PacketWrittenRead = (p : Packet) (l : List ℕ) → packet_length ≤ length l → packet_of (copied 0 (packet_words p) l) ≡ p

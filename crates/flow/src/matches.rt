@@ -1,10 +1,10 @@
 // Matches: which packets meet one, when two overlap, when one lies inside another, and the match that both together
 // are.
 ghost use Rattle.std.specs.Prelude.{◌≡◌};
-ghost use Rattle.field.specs.Value.{valuesMeet, valueInside};
+ghost use Rattle.field.specs.Value.{values_meet, value_inside};
 ghost use Rattle.words.specs.Words.{copied};
-ghost use Rattle.flow.specs.Match.{match_of, matchWords, constrains, hasPorts, meetsPorts, clash, contradicts};
-ghost use Rattle.flow.specs.Match.{unmet, is_empty, is_none, is_plain, rightMatch, meets, overlap, inside, both};
+ghost use Rattle.flow.specs.Match.{match_of, match_words, constrains, has_ports, meets_ports, clash, contradicts};
+ghost use Rattle.flow.specs.Match.{unmet, is_empty, is_none, is_plain, right_match, meets, overlap, inside, both};
 ghost use Rattle.flow.specs.Match.{common};
 
 use crate::{
@@ -135,7 +135,7 @@ pub fn constrains(m: Match, flag: u32) -> bool
 
 // Whether the words of a match are right.
 pub fn right_match(m: Match) -> bool
-    ensures { result ≡ rightMatch m }
+    ensures { result ≡ right_match m }
 {
     if is_plain(m) {
         return true;
@@ -177,7 +177,7 @@ pub fn read_match(words: &[u32]) -> Match
 
 // Stores a match's nine words at the start of a buffer that has room for them.
 pub fn write_match(words: &mut [u32], m: Match)
-    ensures { words.new ≡ copied 0 (matchWords m) words.old }
+    ensures { words.new ≡ copied 0 (match_words m) words.old }
 {
     let nine = words_of_match(m);
     copy(words, 0, &nine);
@@ -185,7 +185,7 @@ pub fn write_match(words: &mut [u32], m: Match)
 
 // A match's nine words.
 pub fn words_of_match(m: Match) -> MatchWords
-    ensures { result ≡ matchWords m }
+    ensures { result ≡ match_words m }
 {
     [
         m.inport,
@@ -202,14 +202,14 @@ pub fn words_of_match(m: Match) -> MatchWords
 
 // Whether two matches agree in the value that a flag is for: v in the one, w in the other.
 fn agree_in(a: Match, b: Match, flag: u32, v: u32, w: u32) -> bool
-    ensures { result ≡ valuesMeet (constrains flag a) v (constrains flag b) w }
+    ensures { result ≡ values_meet (constrains flag a) v (constrains flag b) w }
 {
     values_meet(constrains(a, flag), v, constrains(b, flag), w)
 }
 
 // Whether one match lies inside another in the value that a flag is for: v in the one, w in the other.
 fn inside_in(a: Match, b: Match, flag: u32, v: u32, w: u32) -> bool
-    ensures { result ≡ valueInside (constrains flag a) v (constrains flag b) w }
+    ensures { result ≡ value_inside (constrains flag a) v (constrains flag b) w }
 {
     value_inside(constrains(a, flag), v, constrains(b, flag), w)
 }
@@ -217,7 +217,7 @@ fn inside_in(a: Match, b: Match, flag: u32, v: u32, w: u32) -> bool
 // Whether a packet of a protocol passes the ports of a match, whatever their values: `on` says whether one is
 // constrained.
 fn meets_ports(on: bool, protocol: u32) -> bool
-    ensures { result ≡ meetsPorts on protocol }
+    ensures { result ≡ meets_ports on protocol }
 {
     !on | has_ports(protocol)
 }
@@ -244,7 +244,7 @@ fn clash(flags: u32, protocol: u32) -> bool
 
 // Whether a protocol has ports.
 fn has_ports(protocol: u32) -> bool
-    ensures { result ≡ hasPorts protocol }
+    ensures { result ≡ has_ports protocol }
 {
     (protocol == TCP) | (protocol == UDP)
 }

@@ -1,14 +1,14 @@
 // Packets: their six words, and the values that are right in them.
 ghost use Rattle.std.specs.Prelude.{◌≡◌};
 ghost use Rattle.words.specs.Words.{copied};
-ghost use Rattle.flow.specs.Packet.{packetOf, packetWords, rightPacket, rightPacketWords};
+ghost use Rattle.flow.specs.Packet.{packet_of, packet_words, right_packet, right_packet_words};
 
 use crate::{PACKET_WORDS, PORT_LIMIT, PROTOCOL_LIMIT, Packet, PacketWords};
 use words::{copy, word};
 
 // Whether the values of a packet are in their ranges.
 pub fn right_packet(p: Packet) -> bool
-    ensures { result ≡ rightPacket p }
+    ensures { result ≡ right_packet p }
 {
     (p.inport < PORT_LIMIT)
         & (p.protocol < PROTOCOL_LIMIT)
@@ -18,14 +18,14 @@ pub fn right_packet(p: Packet) -> bool
 
 // Whether some words are a packet: six of them, with values in their ranges.
 pub fn right_packet_words(words: &[u32]) -> bool
-    ensures { result ≡ rightPacketWords words.now }
+    ensures { result ≡ right_packet_words words.now }
 {
     (words.len() == PACKET_WORDS) & right_packet(read_packet(words))
 }
 
 // The packet that the first six words are; words that are missing count as 0.
 pub fn read_packet(words: &[u32]) -> Packet
-    ensures { result ≡ packetOf words.now }
+    ensures { result ≡ packet_of words.now }
 {
     Packet {
         inport: word(words, 0),
@@ -39,7 +39,7 @@ pub fn read_packet(words: &[u32]) -> Packet
 
 // Stores a packet's six words at the start of a buffer that has room for them.
 pub fn write_packet(words: &mut [u32], p: Packet)
-    ensures { words.new ≡ copied 0 (packetWords p) words.old }
+    ensures { words.new ≡ copied 0 (packet_words p) words.old }
 {
     let six = words_of_packet(p);
     copy(words, 0, &six);
@@ -47,7 +47,7 @@ pub fn write_packet(words: &mut [u32], p: Packet)
 
 // A packet's six words.
 pub fn words_of_packet(p: Packet) -> PacketWords
-    ensures { result ≡ packetWords p }
+    ensures { result ≡ packet_words p }
 {
     [
         p.inport,

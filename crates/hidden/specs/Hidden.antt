@@ -1,10 +1,10 @@
 -- The pass over a table that takes its hidden rows out, for every list of words: its answer, and every word after it.
 -- See docs/FORMAT.md, "Hidden rows".
 --
---   keptRows ws, keptWords ws       the rows that stay, and their words
---   keptOf ws                       the answer: how many rows stay, or the check's refusal
---   tableKept ws                    the words after it
---   keptNumber, keptPlace, keptCount   the number, the place and the row count of an answer; 0 where it has none
+--   kept_rows ws, kept_words ws       the rows that stay, and their words
+--   kept_of ws                       the answer: how many rows stay, or the check's refusal
+--   table_kept ws                    the words after it
+--   kept_number, kept_place, kept_count   the number, the place and the row count of an answer; 0 where it has none
 use Rattle.std.specs.Prelude.{ℕ, ◌-◌, List, ◌++◌, length}
 use Rattle.words.specs.Words.{zeros}
 use Rattle.theory.specs.Rows.{Row}
@@ -12,50 +12,50 @@ use Rattle.theory.specs.Hidden.{staying}
 use Rattle.flow.specs.Match.{inside}
 use Rattle.flow.specs.declared.Match.{Match}
 use Rattle.action.specs.declared.Action.{Action}
-use Rattle.row.specs.Row.{rowsIn, words_of}
-use Rattle.table.specs.Table.{checkOf}
+use Rattle.row.specs.Row.{rows_in, words_of}
+use Rattle.table.specs.Table.{check_of}
 use Rattle.table.specs.declared.Checked.{Checked}
 use Rattle.table.specs.declared.Checked.TheVariants as checked
 use Rattle.hidden.specs.declared.Kept.{Kept}
 use Rattle.hidden.specs.declared.Kept.TheVariants.{Rows, Refused}
 
 -- the rows that stay: those that lie inside no earlier row
-abbrev pub keptRows : List ℕ → List (Row Match Action)
-keptRows ws = staying inside (rowsIn ws)
+abbrev pub kept_rows : List ℕ → List (Row Match Action)
+kept_rows ws = staying inside (rows_in ws)
 
 -- their words
-unfoldable pub keptWords : List ℕ → List ℕ
-keptWords ws = words_of (keptRows ws)
+unfoldable pub kept_words : List ℕ → List ℕ
+kept_words ws = words_of (kept_rows ws)
 
 -- the answer, by what the check finds
-abbrev pub keptBy : List ℕ → Checked → Kept
-keptBy ws (checked.Rows n) = Rows (length (keptRows ws))
-keptBy ws (checked.Wrong n i) = Refused n i
+abbrev pub kept_by : List ℕ → Checked → Kept
+kept_by ws (checked.Rows n) = Rows (length (kept_rows ws))
+kept_by ws (checked.Wrong n i) = Refused n i
 
 -- THE ANSWER, for every list of words
-unfoldable pub keptOf : List ℕ → Kept
-keptOf ws = keptBy ws (checkOf ws)
+unfoldable pub kept_of : List ℕ → Kept
+kept_of ws = kept_by ws (check_of ws)
 
 -- the words after it, by what the check finds: the rows that stay and then zeros, or what was there
-abbrev pub tableBy : List ℕ → Checked → List ℕ
-tableBy ws (checked.Rows n) = keptWords ws ++ zeros (length ws - length (keptWords ws))
-tableBy ws (checked.Wrong n i) = ws
+abbrev pub table_by : List ℕ → Checked → List ℕ
+table_by ws (checked.Rows n) = kept_words ws ++ zeros (length ws - length (kept_words ws))
+table_by ws (checked.Wrong n i) = ws
 
 -- THE TABLE after it
-unfoldable pub tableKept : List ℕ → List ℕ
-tableKept ws = tableBy ws (checkOf ws)
+unfoldable pub table_kept : List ℕ → List ℕ
+table_kept ws = table_by ws (check_of ws)
 
 -- the number of an answer
-abbrev pub keptNumber : Kept → ℕ
-keptNumber (Rows n) = 0
-keptNumber (Refused n i) = n
+abbrev pub kept_number : Kept → ℕ
+kept_number (Rows n) = 0
+kept_number (Refused n i) = n
 
 -- the place of an answer
-abbrev pub keptPlace : Kept → ℕ
-keptPlace (Rows n) = 0
-keptPlace (Refused n i) = i
+abbrev pub kept_place : Kept → ℕ
+kept_place (Rows n) = 0
+kept_place (Refused n i) = i
 
 -- how many rows stay
-abbrev pub keptCount : Kept → ℕ
-keptCount (Rows n) = n
-keptCount (Refused n i) = 0
+abbrev pub kept_count : Kept → ℕ
+kept_count (Rows n) = n
+kept_count (Refused n i) = 0

@@ -8,41 +8,41 @@
 --   SameAction          the scan of the rows that stay has the action of the scan before, for every packet
 use Rattle.std.specs.Prelude.{ℕ, ◌-◌, ◌≤◌, ◌≡◌, List, ◌++◌, ◌↔◌, length}
 use Rattle.words.specs.Words.{zeros}
-use Rattle.row.specs.Row.{rowsIn, words_of, tableRows}
-use Rattle.table.specs.Table.{rowCount, checkOf, RightTable}
-use Rattle.table.specs.Scan.{scanOf, scanNumber, scanAction}
+use Rattle.row.specs.Row.{rows_in, words_of, table_rows}
+use Rattle.table.specs.Table.{row_count, check_of, RightTable}
+use Rattle.table.specs.Scan.{scan_of, scan_number, scan_action}
 use Rattle.table.specs.declared.Checked.TheVariants as checked
-use Rattle.hidden.specs.Hidden.{keptRows, keptOf, tableKept}
+use Rattle.hidden.specs.Hidden.{kept_rows, kept_of, table_kept}
 use Rattle.hidden.specs.declared.Kept.TheVariants.{Rows, Refused}
 
 -- n rows stay of a right table: their words stand at its front with zeros behind them, and they are a right table
 pub record KeptTells (ws : List ℕ) (n : ℕ) : Type 0 where
   pub right : RightTable ws
-  pub count : n ≡ length (keptRows ws)
-  pub fewer : n ≤ rowCount ws
-  pub rows : rowsIn (tableRows n (tableKept ws)) ≡ keptRows ws
-  pub check : checkOf (tableRows n (tableKept ws)) ≡ checked.Rows n
-  pub words : tableKept ws ≡ words_of (keptRows ws) ++ zeros (length ws - length (words_of (keptRows ws)))
+  pub count : n ≡ length (kept_rows ws)
+  pub fewer : n ≤ row_count ws
+  pub rows : rows_in (table_rows n (table_kept ws)) ≡ kept_rows ws
+  pub check : check_of (table_rows n (table_kept ws)) ≡ checked.Rows n
+  pub words : table_kept ws ≡ words_of (kept_rows ws) ++ zeros (length ws - length (words_of (kept_rows ws)))
 
 -- every answer of rows tells that
 abbrev pub KeptRows : Type 0
-KeptRows = (ws : List ℕ) (n : ℕ) → keptOf ws ≡ Rows n → KeptTells ws n
+KeptRows = (ws : List ℕ) (n : ℕ) → kept_of ws ≡ Rows n → KeptTells ws n
 
 -- a right table is answered by how many rows stay
 abbrev pub RightKept : Type 0
-RightKept = (ws : List ℕ) → RightTable ws → keptOf ws ≡ Rows (length (keptRows ws))
+RightKept = (ws : List ℕ) → RightTable ws → kept_of ws ≡ Rows (length (kept_rows ws))
 
 -- a table that is not right is refused as the check has it, and no other
 abbrev pub RefusedExactly : Type 0
-RefusedExactly = (ws : List ℕ) (n i : ℕ) → (keptOf ws ≡ Refused n i) ↔ (checkOf ws ≡ checked.Wrong n i)
+RefusedExactly = (ws : List ℕ) (n i : ℕ) → (kept_of ws ≡ Refused n i) ↔ (check_of ws ≡ checked.Wrong n i)
 
 -- and stays
 abbrev pub RefusedStays : Type 0
-RefusedStays = (ws : List ℕ) (n i : ℕ) → keptOf ws ≡ Refused n i → tableKept ws ≡ ws
+RefusedStays = (ws : List ℕ) (n i : ℕ) → kept_of ws ≡ Refused n i → table_kept ws ≡ ws
 
 -- the rows that stay have the same action for every packet; words that are no packet are refused alike
 abbrev pub SameAction : Type 0
-SameAction = (ws packet : List ℕ) (n : ℕ) → keptOf ws ≡ Rows n
-    → let t : List ℕ = tableRows n (tableKept ws) in
-    (scanNumber (scanOf t packet) ≡ scanNumber (scanOf ws packet))
-    × (scanAction (scanOf t packet) ≡ scanAction (scanOf ws packet))
+SameAction = (ws packet : List ℕ) (n : ℕ) → kept_of ws ≡ Rows n
+    → let t : List ℕ = table_rows n (table_kept ws) in
+    (scan_number (scan_of t packet) ≡ scan_number (scan_of ws packet))
+    × (scan_action (scan_of t packet) ≡ scan_action (scan_of ws packet))

@@ -1,10 +1,10 @@
 // The pass over a table that takes out each row whose match lies inside one earlier row's match: no packet reaches it.
 ghost use Rattle.std.specs.Prelude.{◌≡◌, length};
 ghost use Rattle.words.specs.Words.{laid};
-ghost use Rattle.theory.specs.Hidden.{insideOne};
+ghost use Rattle.theory.specs.Hidden.{inside_one};
 ghost use Rattle.flow.specs.Match.{inside};
-ghost use Rattle.row.specs.Row.{rowsIn};
-ghost use Rattle.hidden.specs.Hidden.{keptWords, keptOf, tableKept};
+ghost use Rattle.row.specs.Row.{rows_in};
+ghost use Rattle.hidden.specs.Hidden.{kept_words, kept_of, table_kept};
 
 use flow::{Match, lies_inside, read_match};
 use row::{ROW_WORDS, row_action, words_of_row};
@@ -20,8 +20,8 @@ pub enum Kept {
 
 // Takes the hidden rows out of a table: the others move to its front, in order, and the words behind them become 0.
 pub fn drop_hidden(table: &mut [u32]) -> Kept
-    ensures value { result ≡ keptOf table.old }
-    ensures table_after { table.new ≡ tableKept table.old }
+    ensures value { result ≡ kept_of table.old }
+    ensures table_after { table.new ≡ table_kept table.old }
 {
     match check(table) {
         Checked::Rows(_) => {
@@ -35,8 +35,8 @@ pub fn drop_hidden(table: &mut [u32]) -> Kept
 
 // Moves the rows that stay to the front, and answers where they end.
 fn keep_rows(table: &mut [u32]) -> usize
-    ensures value { result ≡ length (keptWords table.old) }
-    ensures table_after { table.new ≡ laid 0 (keptWords table.old) table.old }
+    ensures value { result ≡ length (kept_words table.old) }
+    ensures table_after { table.new ≡ laid 0 (kept_words table.old) table.old }
 {
     let mut from = 0;
     let mut to = 0;
@@ -56,7 +56,7 @@ fn keep_rows(table: &mut [u32]) -> usize
 
 // Whether a match lies inside that of one of some rows.
 fn inside_one(m: Match, rows: &[u32]) -> bool
-    ensures { result ≡ insideOne inside m (rowsIn rows.now) }
+    ensures { result ≡ inside_one inside m (rows_in rows.now) }
 {
     let mut from = 0;
     // It lies inside none of the rows before from.

@@ -10,7 +10,7 @@ use Rattle.theory.specs.Rows.{Row}
 use Rattle.flow.specs.declared.Match.{Match}
 use Rattle.action.specs.declared.Action.{Action}
 use Rattle.action.specs.declared.Action.TheVariants.{DontCare, Allow, Deny, Gmb}
-use Rattle.line.specs.Text.{ascii, digit, mostDigits, digits, decimal, number, value, address, matchText, actionText, line, head, refusal, longestLine}
+use Rattle.line.specs.Text.{ascii, digit, most_digits, digits, decimal, number, value, address, match_text, action_text, line, head, refusal, longest_line}
 use Rattle.line.specs.Theorems.{LineWithin, HeadWithin, RefusalWithin}
 
 -- a text of at most so many bytes
@@ -37,7 +37,7 @@ digits_long (suc k) n = by-test (ltb n 10)
 
 number-long : (n mark : ℕ) → Within (number n mark) 21
 unfolding number decimal
-number-long n mark = digits_long mostDigits n behind quoted (mark ∷ [])
+number-long n mark = digits_long most_digits n behind quoted (mark ∷ [])
 
 value-long : (c : Bool) (v : ℕ) → Within (value c v) 21
 unfolding value
@@ -48,12 +48,12 @@ address-long : (a n : ℕ) → Within (address a n) 105
 unfolding address
 address-long a n = number-long _ _ behind number-long _ _ behind number-long _ _ behind number-long _ _ behind number-long _ _
 
-match-long : (m : Match) → Within (matchText m) 294
-unfolding matchText
+match-long : (m : Match) → Within (match_text m) 294
+unfolding match_text
 match-long m = value-long _ _ behind address-long _ _ behind address-long _ _ behind value-long _ _ behind value-long _ _ behind value-long _ _
 
-action-long : (a : Action) → Within (actionText a) 25
-unfolding actionText
+action-long : (a : Action) → Within (action_text a) 25
+unfolding action_text
 action-long DontCare = record { is = omega arith }
 action-long Allow = record { is = omega arith }
 action-long Deny = record { is = omega arith }
@@ -62,7 +62,7 @@ action-long (Gmb n) = quoted (ascii "gmb ") behind number-long n 10
 pub line-within : LineWithin
 unfolding line
 line-within p r =
-    let h : Within (line p r) longestLine = number-long p 32 behind match-long r.match behind action-long r.action in
+    let h : Within (line p r) longest_line = number-long p 32 behind match-long r.match behind action-long r.action in
     h.is
 
 pub head-within : HeadWithin

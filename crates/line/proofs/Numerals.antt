@@ -8,11 +8,11 @@ use lib.Dec.{ltb}
 use lib.ListN.{length, get_or, length-append, get_or-append}
 use borrow.Author.Tests.{ltb-true, ltb-false}
 use Rattle.logic.proofs.Tests.{by-test, by_le}
-use Rattle.line.specs.Text.{digit, mostDigits, digits, decimal}
-use Rattle.line.specs.Theorems.{readsOn, Decimal, DecimalReads}
+use Rattle.line.specs.Text.{digit, most_digits, digits, decimal}
+use Rattle.line.specs.Theorems.{reads_on, Decimal, DecimalReads}
 
 -- one digit more
-reads_more : (n : ℕ) (ds : List ℕ) (d : ℕ) → readsOn n (ds ++ (digit d ∷ [])) ≡ readsOn n ds * 10 + d
+reads_more : (n : ℕ) (ds : List ℕ) (d : ℕ) → reads_on n (ds ++ (digit d ∷ [])) ≡ reads_on n ds * 10 + d
 reads_more n [] d = omega arith
 reads_more n (c ∷ ds) d = reads_more (n * 10 + (c - 48)) ds d
 
@@ -70,4 +70,4 @@ digits_decimal (suc k) n p h =
 
 pub decimal-reads : DecimalReads
 unfolding decimal
-decimal-reads n h = (digits_decimal mostDigits n (omega arith) h).0
+decimal-reads n h = (digits_decimal most_digits n (omega arith) h).0

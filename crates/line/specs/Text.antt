@@ -6,8 +6,8 @@
 --   number n mark    a number, and the mark behind it
 --   value c v        a value that is constrained or not, and a space
 --   address a n      an address with its prefix length, and a space
---   matchText m      the values and prefixes of a match
---   actionText a     an action, and the line end
+--   match_text m      the values and prefixes of a match
+--   action_text a     an action, and the line end
 --   line p r         the line of a row r of priority p
 --   head n l         the first line, for n rows and l priorities
 --   refusal n i      the only line of a refusal: its number and its place
@@ -15,7 +15,7 @@ use Rattle.std.specs.Prelude.{ℕ, zero, suc, ◌+◌, ◌/◌, ◌%◌, Bool, c
 use Prim.Native.Char.{code}
 use Prim.Native.String.{String, [] as none, ◌∷◌ as ◌then◌}
 use Rattle.theory.specs.Rows.{Row}
-use Rattle.flow.specs.Match.{constrains, inportFlag, protocolFlag, sourceportFlag, destinationportFlag}
+use Rattle.flow.specs.Match.{constrains, inport_flag, protocol_flag, sourceport_flag, destinationport_flag}
 use Rattle.flow.specs.declared.Match.{Match}
 use Rattle.action.specs.declared.Action.{Action}
 use Rattle.action.specs.declared.Action.TheVariants.{DontCare, Allow, Deny, Gmb}
@@ -30,8 +30,8 @@ abbrev pub digit : ℕ → ℕ
 digit d = code "0" + d
 
 -- every number of 64 bits has at most so many digits
-abbrev pub mostDigits : ℕ
-mostDigits = 20
+abbrev pub most_digits : ℕ
+most_digits = 20
 
 -- the digits of a number that has at most k of them
 unfoldable pub digits : ℕ → ℕ → List ℕ
@@ -40,7 +40,7 @@ digits (suc k) n = cond (ltb n 10) (digit n ∷ []) (digits k (n / 10) ++ (digit
 
 -- a number, with no zero before it
 unfoldable pub decimal : ℕ → List ℕ
-decimal n = digits mostDigits n
+decimal n = digits most_digits n
 
 -- a number, and the mark behind it
 unfoldable pub number : ℕ → ℕ → List ℕ
@@ -60,25 +60,25 @@ address a n =
     ++ number n (code " ")
 
 -- the values of a match, and its prefixes, each with a space
-unfoldable pub matchText : Match → List ℕ
-matchText m =
-    value (constrains inportFlag m) m.inport
+unfoldable pub match_text : Match → List ℕ
+match_text m =
+    value (constrains inport_flag m) m.inport
     ++ address m.source m.sourcelength
     ++ address m.destination m.destinationlength
-    ++ value (constrains protocolFlag m) m.protocol
-    ++ value (constrains sourceportFlag m) m.sourceport
-    ++ value (constrains destinationportFlag m) m.destinationport
+    ++ value (constrains protocol_flag m) m.protocol
+    ++ value (constrains sourceport_flag m) m.sourceport
+    ++ value (constrains destinationport_flag m) m.destinationport
 
 -- an action, with the line end
-unfoldable pub actionText : Action → List ℕ
-actionText DontCare = ascii "none\n"
-actionText Allow = ascii "allow\n"
-actionText Deny = ascii "deny\n"
-actionText (Gmb n) = ascii "gmb " ++ number n (code "\n")
+unfoldable pub action_text : Action → List ℕ
+action_text DontCare = ascii "none\n"
+action_text Allow = ascii "allow\n"
+action_text Deny = ascii "deny\n"
+action_text (Gmb n) = ascii "gmb " ++ number n (code "\n")
 
 -- the line of a row with its priority
 unfoldable pub line : ℕ → Row Match Action → List ℕ
-line p r = number p (code " ") ++ matchText r.match ++ actionText r.action
+line p r = number p (code " ") ++ match_text r.match ++ action_text r.action
 
 -- the first line
 unfoldable pub head : ℕ → ℕ → List ℕ
@@ -89,5 +89,5 @@ unfoldable pub refusal : ℕ → ℕ → List ℕ
 refusal n i = ascii "refused " ++ number n (code " ") ++ number i (code "\n")
 
 -- no line is longer
-abbrev pub longestLine : ℕ
-longestLine = 340
+abbrev pub longest_line : ℕ
+longest_line = 340

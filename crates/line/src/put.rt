@@ -1,7 +1,7 @@
 // Text into a buffer of bytes, from a place on. Each answers where its text ends; what lies past the buffer's end is
 // not stored.
 ghost use Rattle.std.specs.Prelude.{[], ◌∷◌};
-ghost use Rattle.line.specs.Text.{digits, number, value, address, matchText, actionText};
+ghost use Rattle.line.specs.Text.{digits, number, value, address, match_text, action_text};
 ghost use Rattle.line.specs.Puts.{Puts};
 
 use action::Action;
@@ -12,7 +12,7 @@ const MOST_DIGITS: usize = 20;
 
 // The values of a match and its prefixes, each with a space behind it.
 pub(crate) fn put_match(out: &mut [u8], at: usize, m: Match) -> usize
-    ensures { Puts (matchText m) out.old at out.new result }
+    ensures { Puts (match_text m) out.old at out.new result }
 {
     let a = put_value(out, at, constrains(m, IN_PORT), m.inport);
     let b = put_address(out, a, m.source, m.sourcelength);
@@ -24,7 +24,7 @@ pub(crate) fn put_match(out: &mut [u8], at: usize, m: Match) -> usize
 
 // An action, and the line end.
 pub(crate) fn put_action(out: &mut [u8], at: usize, a: Action) -> usize
-    ensures { Puts (actionText a) out.old at out.new result }
+    ensures { Puts (action_text a) out.old at out.new result }
 {
     match a {
         Action::DontCare => put(out, at, b"none\n"),

@@ -11,55 +11,55 @@ use Rattle.words.specs.Records.{records, rows_of}
 use Rattle.words.proofs.Records.{length-records, rows_more, rows_none}
 use Rattle.theory.specs.Rows.{Row}
 use Rattle.theory.specs.Nodes.{Listed}
-use Rattle.row.specs.Row.{rowLength, row_of}
+use Rattle.row.specs.Row.{row_length, row_of}
 use Rattle.flow.specs.declared.Match.{Match}
 use Rattle.action.specs.declared.Action.{Action}
 use Rattle.action.proofs.Cells.{cells-equal}
-use Rattle.section.specs.Numbers.{firstOperator, operatorLength, atomLength, nodeLength}
-use Rattle.section.specs.Sections.{inner_of, parent_of, siblingOf, own_of, childrenOf}
-use Rattle.whole.specs.Whole.{ownAtoms}
-use Rattle.policy.specs.Read.{nodesAt, end_of, operatorRecords}
+use Rattle.section.specs.Numbers.{first_operator, operator_length, atom_length, node_length}
+use Rattle.section.specs.Sections.{inner_of, parent_of, sibling_of, own_of, children_of}
+use Rattle.whole.specs.Whole.{own_atoms}
+use Rattle.policy.specs.Read.{nodes_at, end_of, operator_records}
 use Rattle.policy.specs.Read as read
-use Rattle.policy.specs.File.{PolicyNode, node_of, held, atomsOf}
-use Rattle.whole.specs.Meaning.{operatorAt}
+use Rattle.policy.specs.File.{PolicyNode, node_of, held, atoms_of}
+use Rattle.whole.specs.Meaning.{operator_at}
 use Rattle.section.specs.Due.{RightNode}
 use Rattle.policy.specs.WellFormed.{Otherwise}
 use Rattle.policy.proofs.Accepted.{accepted-exactly}
 use Rattle.logic.proofs.Tests.{by_le}
-use Rattle.nodes.specs.Nodes.{nodePlace, nodeAt, fromOperator, cellsAt, atomWordsAt}
-use Rattle.nodes.specs.Walk.{layout_of, list_of, recordsOf, nodeIndex, Reached, nextSpot}
+use Rattle.nodes.specs.Nodes.{node_place, node_at, from_operator, cells_at, atom_words_at}
+use Rattle.nodes.specs.Walk.{layout_of, list_of, records_of, node_index, Reached, next_spot}
 use Rattle.nodes.specs.declared.NodeWords.{NodeWords}
 use Rattle.nodes.specs.declared.Spot.{Spot}
 
 -- an operator's place in the file, and one behind it
-pub operator-there : (f : List ℕ) (i : ℕ) → let at : ℕ = firstOperator + operatorLength * i in
-    at ≤ length f → take (length f - at) (drop at f) ≡ fromOperator f i
-unfolding fromOperator
+pub operator-there : (f : List ℕ) (i : ℕ) → let at : ℕ = first_operator + operator_length * i in
+    at ≤ length f → take (length f - at) (drop at f) ≡ from_operator f i
+unfolding from_operator
 operator-there f i h =
-    let at : ℕ = firstOperator + operatorLength * i in
+    let at : ℕ = first_operator + operator_length * i in
     take_all (length f - at) (drop at f) (rw length-drop (omega arith))
 
-pub operator-missing : (f : List ℕ) (i : ℕ) → length f < firstOperator + operatorLength * i → [] ≡ fromOperator f i
-unfolding fromOperator
-operator-missing f i h = sym (drop_of_length-le f {i = firstOperator + operatorLength * i} (omega arith))
+pub operator-missing : (f : List ℕ) (i : ℕ) → length f < first_operator + operator_length * i → [] ≡ from_operator f i
+unfolding from_operator
+operator-missing f i h = sym (drop_of_length-le f {i = first_operator + operator_length * i} (omega arith))
 
 -- atoms that are all there, and others
-pub atoms-there : (f : List ℕ) (from n : ℕ) → from + atomLength * n ≤ length f → take (from + atomLength * n - from) (drop from f) ≡ atomWordsAt f from n
-unfolding atomWordsAt
-atoms-there f from n h = let e : from + atomLength * n - from ≡ atomLength * n = omega arith in rw (e, le-leb (from + atomLength * n) (length f) h)
+pub atoms-there : (f : List ℕ) (from n : ℕ) → from + atom_length * n ≤ length f → take (from + atom_length * n - from) (drop from f) ≡ atom_words_at f from n
+unfolding atom_words_at
+atoms-there f from n h = let e : from + atom_length * n - from ≡ atom_length * n = omega arith in rw (e, le-leb (from + atom_length * n) (length f) h)
 
-pub atoms-missing : (f : List ℕ) (from n : ℕ) → length f < from + atomLength * n → [] ≡ atomWordsAt f from n
-unfolding atomWordsAt
-atoms-missing f from n h = rw (lt-leb (from + atomLength * n) (length f) h)
+pub atoms-missing : (f : List ℕ) (from n : ℕ) → length f < from + atom_length * n → [] ≡ atom_words_at f from n
+unfolding atom_words_at
+atoms-missing f from n h = rw (lt-leb (from + atom_length * n) (length f) h)
 
 -- atoms are whole rows
-pub atoms-rows : (f : List ℕ) (from n : ℕ) → length (atomWordsAt f from n) % rowLength ≡ 0
+pub atoms-rows : (f : List ℕ) (from n : ℕ) → length (atom_words_at f from n) % row_length ≡ 0
 atoms-rows f from n =
-    by_le (from + atomLength * n) (length f)
+    by_le (from + atom_length * n) (length f)
     (λ h.
-    let l : length (take (from + atomLength * n - from) (drop from f)) ≡ from + atomLength * n - from = length-take-le _ (drop from f)
+    let l : length (take (from + atom_length * n - from) (drop from f)) ≡ from + atom_length * n - from = length-take-le _ (drop from f)
     (rw length-drop (omega arith)) in
-    let e : length (atomWordsAt f from n) ≡ from + atomLength * n - from = ap length (sym (atoms-there f from n h)) ∙ l in
+    let e : length (atom_words_at f from n) ≡ from + atom_length * n - from = ap length (sym (atoms-there f from n h)) ∙ l in
     omega arith)
     (λ h. rw (← atoms-missing f from n h) (omega arith))
 
@@ -103,12 +103,12 @@ module _ {R : Type 0} (k : ℕ) (read : List ℕ → R) (pos : 0 < k) where
 
 -- a node's own atoms start where those of the nodes before it end
 held_at : (os : List (List ℕ)) (xs : List (Row Match Action)) (rs : List (List ℕ)) (i : ℕ) (d : Listed PolicyNode) → i < length rs
-    → get_or (held os xs rs) i d ≡ record { what = node_of os (drop (ownAtoms (take i rs)) xs) (get_or rs i []); childCount = childrenOf (get_or rs i []) }
+    → get_or (held os xs rs) i d ≡ record { what = node_of os (drop (own_atoms (take i rs)) xs) (get_or rs i []); child_count = children_of (get_or rs i []) }
 held_at os xs [] i d h = absurd (omega arith)
 held_at os xs (r ∷ rs) zero d h = refl
 held_at os xs (r ∷ rs) (suc i) d h =
     held_at os (drop (own_of r) xs) rs i d (omega arith)
-    ∙ ap (λ ys. record { what = node_of os ys (get_or rs i []); childCount = childrenOf (get_or rs i []) }) (drop-drop (ownAtoms (take i rs)) (own_of r) xs)
+    ∙ ap (λ ys. record { what = node_of os ys (get_or rs i []); child_count = children_of (get_or rs i []) }) (drop-drop (own_atoms (take i rs)) (own_of r) xs)
 
 length-held : (os : List (List ℕ)) (xs : List (Row Match Action)) (rs : List (List ℕ)) → length (held os xs rs) ≡ length rs
 length-held os xs [] = refl
@@ -117,116 +117,116 @@ length-held os xs (r ∷ rs) = ap suc (length-held os (drop (own_of r) xs) rs)
 -- there are as many nodes as the file's count says
 pub listed-many : (f : List ℕ) → length (list_of f) ≡ (layout_of f).nodes
 listed-many f =
-    length-held (operatorRecords f (layout_of f).operators) (atomsOf f (layout_of f)) (recordsOf f)
-    ∙ length-records (layout_of f).nodes nodeLength (drop (nodesAt (layout_of f).operators (layout_of f).atoms + 1) f)
+    length-held (operator_records f (layout_of f).operators) (atoms_of f (layout_of f)) (records_of f)
+    ∙ length-records (layout_of f).nodes node_length (drop (nodes_at (layout_of f).operators (layout_of f).atoms + 1) f)
 
 -- one node's atoms more
-own-more : (rs : List (List ℕ)) (i : ℕ) → i < length rs → ownAtoms (take (suc i) rs) ≡ ownAtoms (take i rs) + own_of (get_or rs i [])
+own-more : (rs : List (List ℕ)) (i : ℕ) → i < length rs → own_atoms (take (suc i) rs) ≡ own_atoms (take i rs) + own_of (get_or rs i [])
 own-more [] i h = absurd (omega arith)
 own-more (r ∷ rs) zero h = omega arith
-own-more (r ∷ rs) (suc i) h = let e : ownAtoms (take (suc i) rs) ≡ ownAtoms (take i rs) + own_of (get_or rs i []) = own-more rs i (omega arith) in omega arith
+own-more (r ∷ rs) (suc i) h = let e : own_atoms (take (suc i) rs) ≡ own_atoms (take i rs) + own_of (get_or rs i []) = own-more rs i (omega arith) in omega arith
 
-own-within : (rs : List (List ℕ)) (i : ℕ) → ownAtoms (take i rs) ≤ ownAtoms rs
+own-within : (rs : List (List ℕ)) (i : ℕ) → own_atoms (take i rs) ≤ own_atoms rs
 own-within [] zero = omega arith
 own-within [] (suc i) = omega arith
 own-within (r ∷ rs) zero = omega arith
 own-within (r ∷ rs) (suc i) = omega (arith, own-within rs i)
 
 -- what a node holds, as the functions by place read it
-abbrev pub nodeHere : List ℕ → Spot → PolicyNode
-nodeHere f s =
-    let n : NodeWords = nodeAt f s.left in
+abbrev pub node_here : List ℕ → Spot → PolicyNode
+node_here f s =
+    let n : NodeWords = node_at f s.left in
     record {
-      inner = cellsAt f n.inner;
-      parent = cellsAt f n.parent;
-      sibling = cellsAt f n.sibling;
-      atoms = rows_of rowLength row_of (atomWordsAt f s.atom n.own);
+      inner = cells_at f n.inner;
+      parent = cells_at f n.parent;
+      sibling = cells_at f n.sibling;
+      atoms = rows_of row_length row_of (atom_words_at f s.atom n.own);
     }
 
 -- stands for a node past the last: it holds nothing
 nothing : Listed PolicyNode
-nothing = record { what = record { inner = []; parent = []; sibling = []; atoms = [] }; childCount = 0 }
+nothing = record { what = record { inner = []; parent = []; sibling = []; atoms = [] }; child_count = 0 }
 
 -- WHAT STANDS AT A PLACE that a walk reaches, with nodes left
 pub record Here (f : List ℕ) (s : Spot) : Type 0 where
-  pub stands : drop (nodeIndex f s) (list_of f)
-      ≡ record { what = nodeHere f s; childCount = (nodeAt f s.left).children } ∷ drop (nodeIndex f (nextSpot f s)) (list_of f)
-  pub atoms-fit : s.atom + atomLength * (nodeAt f s.left).own ≤ length f
-  pub next : Reached f (nextSpot f s)
+  pub stands : drop (node_index f s) (list_of f)
+      ≡ record { what = node_here f s; child_count = (node_at f s.left).children } ∷ drop (node_index f (next_spot f s)) (list_of f)
+  pub atoms-fit : s.atom + atom_length * (node_at f s.left).own ≤ length f
+  pub next : Reached f (next_spot f s)
 
 module _ (f : List ℕ) (w : Otherwise f (layout_of f).operators (layout_of f).atoms (layout_of f).nodes) where
   -- the words of a node
-  word-here : (left j : ℕ) → 0 < left → left ≤ (layout_of f).nodes → j < nodeLength
-      → get_or f (nodePlace (length f) left + j) 0 ≡ get_or (get_or (recordsOf f) ((layout_of f).nodes - left) []) j 0
-  unfolding nodePlace
+  word-here : (left j : ℕ) → 0 < left → left ≤ (layout_of f).nodes → j < node_length
+      → get_or f (node_place (length f) left + j) 0 ≡ get_or (get_or (records_of f) ((layout_of f).nodes - left) []) j 0
+  unfolding node_place
   word-here left j h k l =
       let a : ℕ = (layout_of f).operators in
       let b : ℕ = (layout_of f).atoms in
       let c : ℕ = (layout_of f).nodes in
       let i : ℕ = c - left in
       let e : length f ≡ end_of a b c = w.ends in
-      let p : length f - nodeLength * left + j ≡ nodesAt a b + 1 + (nodeLength * i + j) = omega arith in
-      rw (le-ltb (length f / nodeLength) left (omega arith), p)
-      (sym (record-at c nodeLength (drop (nodesAt a b + 1) f) i j (omega arith) l ∙ get_or-drop (nodesAt a b + 1) f (nodeLength * i + j) 0))
+      let p : length f - node_length * left + j ≡ nodes_at a b + 1 + (node_length * i + j) = omega arith in
+      rw (le-ltb (length f / node_length) left (omega arith), p)
+      (sym (record-at c node_length (drop (nodes_at a b + 1) f) i j (omega arith) l ∙ get_or-drop (nodes_at a b + 1) f (node_length * i + j) 0))
 
   -- the cells of an operator
-  cells-here : (i : ℕ) → i < (layout_of f).operators → cellsAt f i ≡ operatorAt (operatorRecords f (layout_of f).operators) i
-  unfolding cellsAt fromOperator
+  cells-here : (i : ℕ) → i < (layout_of f).operators → cells_at f i ≡ operator_at (operator_records f (layout_of f).operators) i
+  unfolding cells_at from_operator
   cells-here i h =
       let a : ℕ = (layout_of f).operators in
-      let at : ℕ = firstOperator + operatorLength * i in
-      cells-equal (drop at f) (get_or (operatorRecords f a) i []) (λ j l.
-      let e : at + j ≡ firstOperator + (operatorLength * i + j) = omega arith in
+      let at : ℕ = first_operator + operator_length * i in
+      cells-equal (drop at f) (get_or (operator_records f a) i []) (λ j l.
+      let e : at + j ≡ first_operator + (operator_length * i + j) = omega arith in
       get_or-drop at f j 0
-      ∙ rw e (sym (record-at a operatorLength (drop firstOperator f) i j h l ∙ get_or-drop firstOperator f (operatorLength * i + j) 0)))
+      ∙ rw e (sym (record-at a operator_length (drop first_operator f) i j h l ∙ get_or-drop first_operator f (operator_length * i + j) 0)))
 
   -- the rows of n atoms behind s others
   atoms-here : (s n : ℕ) → s + n ≤ (layout_of f).atoms
-      → rows_of rowLength row_of (atomWordsAt f (read.atoms_at (layout_of f).operators + 1 + atomLength * s) n) ≡ take n (drop s (atomsOf f (layout_of f)))
-  unfolding atomWordsAt
+      → rows_of row_length row_of (atom_words_at f (read.atoms_at (layout_of f).operators + 1 + atom_length * s) n) ≡ take n (drop s (atoms_of f (layout_of f)))
+  unfolding atom_words_at
   atoms-here s n h =
       let a : ℕ = (layout_of f).operators in
       let b : ℕ = (layout_of f).atoms in
       let c : ℕ = (layout_of f).nodes in
       let base : ℕ = read.atoms_at a + 1 in
       let e : length f ≡ end_of a b c = w.ends in
-      let fits : base + atomLength * s + atomLength * n ≤ length f = omega arith in
-      rw (le-leb (base + atomLength * s + atomLength * n) (length f) fits, ← drop-drop (atomLength * s) base f)
-      (rows-part rowLength row_of (omega arith) n (drop (atomLength * s) (drop base f)) (rw (length-drop, length-drop) (omega arith))
-      ∙ part-records rowLength row_of (omega arith) s n b (drop base f) h)
+      let fits : base + atom_length * s + atom_length * n ≤ length f = omega arith in
+      rw (le-leb (base + atom_length * s + atom_length * n) (length f) fits, ← drop-drop (atom_length * s) base f)
+      (rows-part row_length row_of (omega arith) n (drop (atom_length * s) (drop base f)) (rw (length-drop, length-drop) (omega arith))
+      ∙ part-records row_length row_of (omega arith) s n b (drop base f) h)
 
 pub here : (f : List ℕ) (s : Spot) → Reached f s → 0 < s.left → Here f s
-unfolding nodeAt
+unfolding node_at
 here f s reached h =
     let w : Otherwise f (layout_of f).operators (layout_of f).atoms (layout_of f).nodes = ((accepted-exactly f (layout_of f)).0 reached.accepted).otherwise in
     let a : ℕ = (layout_of f).operators in
     let b : ℕ = (layout_of f).atoms in
     let c : ℕ = (layout_of f).nodes in
-    let os : List (List ℕ) = operatorRecords f a in
-    let xs : List (Row Match Action) = atomsOf f (layout_of f) in
-    let rs : List (List ℕ) = recordsOf f in
-    let i : ℕ = nodeIndex f s in
+    let os : List (List ℕ) = operator_records f a in
+    let xs : List (Row Match Action) = atoms_of f (layout_of f) in
+    let rs : List (List ℕ) = records_of f in
+    let i : ℕ = node_index f s in
     let r : List ℕ = get_or rs i [] in
     let k : s.left ≤ c = reached.left in
-    let many : length rs ≡ c = length-records c nodeLength (drop (nodesAt a b + 1) f) in
+    let many : length rs ≡ c = length-records c node_length (drop (nodes_at a b + 1) f) in
     let ends : length f ≡ end_of a b c = w.ends in
     let right : RightNode a r = w.right-nodes i (omega arith) in
-    let taken : ℕ = ownAtoms (take i rs) in
-    let n : NodeWords = nodeAt f s.left in
+    let taken : ℕ = own_atoms (take i rs) in
+    let n : NodeWords = node_at f s.left in
     let inner : n.inner ≡ inner_of r = word-here f w s.left 0 h k (omega arith) in
     let parent : n.parent ≡ parent_of r = word-here f w s.left 1 h k (omega arith) in
-    let sibling : n.sibling ≡ siblingOf r = word-here f w s.left 2 h k (omega arith) in
+    let sibling : n.sibling ≡ sibling_of r = word-here f w s.left 2 h k (omega arith) in
     let own : n.own ≡ own_of r = word-here f w s.left 3 h k (omega arith) in
-    let children : n.children ≡ childrenOf r = word-here f w s.left 4 h k (omega arith) in
-    let more : ownAtoms (take (suc i) rs) ≡ taken + own_of r = own-more rs i (omega arith) in
-    let all : ownAtoms (take (suc i) rs) ≤ b = omega (arith, own-within rs (suc i), w.all-taken) in
-    let start : s.atom ≡ read.atoms_at a + 1 + atomLength * taken = reached.atom in
+    let children : n.children ≡ children_of r = word-here f w s.left 4 h k (omega arith) in
+    let more : own_atoms (take (suc i) rs) ≡ taken + own_of r = own-more rs i (omega arith) in
+    let all : own_atoms (take (suc i) rs) ≤ b = omega (arith, own-within rs (suc i), w.all-taken) in
+    let start : s.atom ≡ read.atoms_at a + 1 + atom_length * taken = reached.atom in
     let next : c - (s.left - 1) ≡ suc i = omega arith in
     let same = same-node
-    (ap (cellsAt f) inner ∙ cells-here f w (inner_of r) right.inner)
-    (ap (cellsAt f) parent ∙ cells-here f w (parent_of r) right.parent)
-    (ap (cellsAt f) sibling ∙ cells-here f w (siblingOf r) right.sibling)
-    (ap₂ (λ p m. rows_of rowLength row_of (atomWordsAt f p m)) start own ∙ atoms-here f w taken (own_of r) (omega arith)) children in
+    (ap (cells_at f) inner ∙ cells-here f w (inner_of r) right.inner)
+    (ap (cells_at f) parent ∙ cells-here f w (parent_of r) right.parent)
+    (ap (cells_at f) sibling ∙ cells-here f w (sibling_of r) right.sibling)
+    (ap₂ (λ p m. rows_of row_length row_of (atom_words_at f p m)) start own ∙ atoms-here f w taken (own_of r) (omega arith)) children in
     record {
       stands = drop-cons (list_of f) i nothing (rw (length-held os xs rs) (omega arith))
           ∙ ap₂ (λ x j. x ∷ drop j (list_of f)) (held_at os xs rs i nothing (omega arith) ∙ sym same) (sym next);
@@ -239,17 +239,17 @@ here f s reached h =
     }
   where
     same-node : {o₁ o₂ o₃ p₁ p₂ p₃ : List ℕ} {x y : List (Row Match Action)} {k l : ℕ} → o₁ ≡ p₁ → o₂ ≡ p₂ → o₃ ≡ p₃ → x ≡ y → k ≡ l
-        → ◌≡◌ {A = Listed PolicyNode} (record { what = record { inner = o₁; parent = o₂; sibling = o₃; atoms = x }; childCount = k })
-        (record { what = record { inner = p₁; parent = p₂; sibling = p₃; atoms = y }; childCount = l })
+        → ◌≡◌ {A = Listed PolicyNode} (record { what = record { inner = o₁; parent = o₂; sibling = o₃; atoms = x }; child_count = k })
+        (record { what = record { inner = p₁; parent = p₂; sibling = p₃; atoms = y }; child_count = l })
     same-node a b c d e = rw (a, b, c, d, e)
 
 -- the same with a node's words as the code has them
-module _ (f : List ℕ) (s : Spot) (reached : Reached f s) (h : 0 < s.left) (n : NodeWords) (e : n ≡ nodeAt f s.left) where
-  pub atoms-within : s.atom + atomLength * n.own ≤ length f
+module _ (f : List ℕ) (s : Spot) (reached : Reached f s) (h : 0 < s.left) (n : NodeWords) (e : n ≡ node_at f s.left) where
+  pub atoms-within : s.atom + atom_length * n.own ≤ length f
   atoms-within = rw e (here f s reached h).atoms-fit
 
-  pub next-spot : record { left = s.left - 1; atom = s.atom + atomLength * n.own } ≡ nextSpot f s
+  pub next-spot : record { left = s.left - 1; atom = s.atom + atom_length * n.own } ≡ next_spot f s
   next-spot = rw e
 
-  pub next-reached : Reached f (record { left = s.left - 1; atom = s.atom + atomLength * n.own })
+  pub next-reached : Reached f (record { left = s.left - 1; atom = s.atom + atom_length * n.own })
   next-reached = rw e (here f s reached h).next

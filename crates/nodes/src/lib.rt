@@ -2,7 +2,7 @@
 // and there are no atoms.
 ghost use Rattle.std.specs.Prelude.{◌≡◌, ◌≤◌};
 ghost use Rattle.action.specs.Operator.{join};
-ghost use Rattle.nodes.specs.Nodes.{nodePlace, nodeAt, fromOperator, cellsAt, atomWordsAt, firstAtom, rootSpot};
+ghost use Rattle.nodes.specs.Nodes.{node_place, node_at, from_operator, cells_at, atom_words_at, first_atom, root_spot};
 
 use action::{Action, Operator, operator_of};
 use policy::Layout;
@@ -31,7 +31,7 @@ pub struct NodeWords {
 
 // The place of the root, where a walk starts: all nodes are left, and the first atom is the next.
 pub fn root(layout: Layout) -> Spot
-    ensures { result ≡ rootSpot layout }
+    ensures { result ≡ root_spot layout }
 {
     Spot {
         left: layout.nodes,
@@ -41,7 +41,7 @@ pub fn root(layout: Layout) -> Spot
 
 // The node that has so many nodes left from it on.
 pub fn node_at(file: &[u32], left: usize) -> NodeWords
-    ensures { result ≡ nodeAt file.now left }
+    ensures { result ≡ node_at file.now left }
 {
     let at = node_place(file.len(), left);
     NodeWords {
@@ -55,14 +55,14 @@ pub fn node_at(file: &[u32], left: usize) -> NodeWords
 
 // The operator of an index.
 pub fn operator_at(file: &[u32], index: u32) -> Operator
-    ensures { result.cells ≡ cellsAt file.now index }
+    ensures { result.cells ≡ cells_at file.now index }
 {
     operator_of(from_operator(file, index))
 }
 
 // Two actions joined by the operator of an index. It is not read where one of them is don't care.
 pub fn join_at(file: &[u32], index: u32, left: Action, right: Action) -> Action
-    ensures { result ≡ join (cellsAt file.now index) left right }
+    ensures { result ≡ join (cells_at file.now index) left right }
 {
     if let Action::DontCare = left {
         return right;
@@ -75,7 +75,7 @@ pub fn join_at(file: &[u32], index: u32, left: Action, right: Action) -> Action
 
 // The words of so many atoms, from a word of the file on.
 pub fn atoms_at(file: &[u32], from: usize, count: u32) -> &[u32]
-    ensures { result.now ≡ atomWordsAt file.now from count }
+    ensures { result.now ≡ atom_words_at file.now from count }
 {
     let words = ATOM_WORDS * (count as usize);
     if file.len() < words {
@@ -90,7 +90,7 @@ pub fn atoms_at(file: &[u32], from: usize, count: u32) -> &[u32]
 
 // The word where the first atom stands, behind so many operators and the count of the atoms; 0 if no file has so many.
 fn first_atom(operators: usize) -> usize
-    ensures { result ≡ firstAtom operators }
+    ensures { result ≡ first_atom operators }
 {
     if MOST_OPERATORS < operators {
         return 0;
@@ -100,7 +100,7 @@ fn first_atom(operators: usize) -> usize
 
 // The word where the node stands, or the end of the file.
 fn node_place(length: usize, left: usize) -> usize
-    ensures { (result ≡ nodePlace length left) × (result ≤ length) }
+    ensures { (result ≡ node_place length left) × (result ≤ length) }
 {
     if length / NODE_WORDS < left {
         return length;
@@ -110,7 +110,7 @@ fn node_place(length: usize, left: usize) -> usize
 
 // The words from the operator of an index on, none if it stands outside the file.
 fn from_operator(file: &[u32], index: u32) -> &[u32]
-    ensures { result.now ≡ fromOperator file.now index }
+    ensures { result.now ≡ from_operator file.now index }
 {
     let at = FIRST_OPERATOR + OPERATOR_WORDS * (index as usize);
     if file.len() < at {

@@ -3,7 +3,7 @@
 // has zeros for its number, a refusal for its value. False where the input ends inside the table, it is longer than its
 // buffer, or an answer could not be written.
 ghost use Rattle.std.specs.Prelude.{◌≡◌};
-ghost use Rattle.hidden.specs.Hidden.{tableKept};
+ghost use Rattle.hidden.specs.Hidden.{table_kept};
 
 use hidden::{Kept, drop_hidden};
 use wire::{give, low, take_slice};
@@ -19,7 +19,7 @@ pub fn call_hidden(table: &mut [u32]) -> bool {
 
 // Takes the hidden rows out of a table, which is written too.
 pub fn reply_hidden(table: &mut [u32]) -> bool
-    ensures { table.new ≡ tableKept table.old }
+    ensures { table.new ≡ table_kept table.old }
 {
     let kept = drop_hidden(table);
     give_kept(kept) & give(table)

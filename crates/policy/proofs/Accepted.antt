@@ -15,13 +15,13 @@ use Rattle.theory.specs.Tree.{bare, ◌▸◌}
 use Rattle.row.specs.Row.{row_of}
 use Rattle.flow.specs.declared.Match.{Match}
 use Rattle.action.specs.declared.Action.{Action}
-use Rattle.section.specs.Numbers.{latest, headerLengthIn, operatorLengthIn, atomLength, extraWords, wrongSum}
-use Rattle.section.specs.Sections.{headerFault, sectionFault, childrenOf, own_of}
-use Rattle.whole.specs.Whole.{shape, shapeFault, ownAtoms, sumFault, lawsFault}
-use Rattle.policy.specs.Read.{extraFault, atomsAtIn, nodesAtIn, end_in, operatorsIn, nodesIn, atoms_at, operatorRecords, atomRecords, nodeRecords}
-use Rattle.policy.specs.Read.{wholeStages, stages, layout, answer, readAs}
-use Rattle.section.specs.Cells.{operatorRows}
-use Rattle.policy.specs.File.{held, atomsOfIn, fileNodesIn, atomsOf, fileNodes, firstTree, tree_of, allAtoms}
+use Rattle.section.specs.Numbers.{latest, header_length_in, operator_length_in, atom_length, extra_words, wrong_sum}
+use Rattle.section.specs.Sections.{header_fault, section_fault, children_of, own_of}
+use Rattle.whole.specs.Whole.{shape, shape_fault, own_atoms, sum_fault, laws_fault}
+use Rattle.policy.specs.Read.{extra_fault, atoms_at_in, nodes_at_in, end_in, operators_in, nodes_in, atoms_at, operator_records, atom_records, node_records}
+use Rattle.policy.specs.Read.{whole_stages, stages, layout, answer, read_as}
+use Rattle.section.specs.Cells.{operator_rows}
+use Rattle.policy.specs.File.{held, atoms_of_in, file_nodes_in, atoms_of, file_nodes, first_tree, tree_of, all_atoms}
 use Rattle.whole.specs.Meaning.{OneTree}
 use Rattle.policy.specs.WellFormed.{OtherwiseIn, WellFormedIn}
 use Rattle.policy.specs.Order.{GoodSections}
@@ -40,13 +40,13 @@ use Rattle.logic.proofs.Lists.{all_split}
 
 -- the stages that are passed, each by its name
 pub record Stages (e : Edition) (f : List ℕ) (a b c : ℕ) : Type 0 where
-  pub header : headerFault e f ≡ Passed
-  pub operators : sectionFault f (headerLengthIn e) (Operators e) ≡ Passed
-  pub atoms : sectionFault f (atomsAtIn e a) (Atoms e) ≡ Passed
-  pub nodes : sectionFault f (nodesAtIn e a b) (Nodes a) ≡ Passed
-  pub extra : extraFault f (end_in e a b c) ≡ Passed
-  pub tree : shapeFault (nodesIn e f a b c) ≡ Passed
-  pub sum : sumFault (nodesIn e f a b c) b ≡ Passed
+  pub header : header_fault e f ≡ Passed
+  pub operators : section_fault f (header_length_in e) (Operators e) ≡ Passed
+  pub atoms : section_fault f (atoms_at_in e a) (Atoms e) ≡ Passed
+  pub nodes : section_fault f (nodes_at_in e a b) (Nodes a) ≡ Passed
+  pub extra : extra_fault f (end_in e a b c) ≡ Passed
+  pub tree : shape_fault (nodes_in e f a b c) ≡ Passed
+  pub sum : sum_fault (nodes_in e f a b c) b ≡ Passed
 
 -- all of some stages are passed
 abbrev pub AllPassed : List Test → Type 0
@@ -56,13 +56,13 @@ module _ (e : Edition) (f : List ℕ) (a b c : ℕ) where
   -- the stages before the laws
   abbrev pub before : List Test
   before =
-      headerFault e f
-      ∷ sectionFault f (headerLengthIn e) (Operators e)
-      ∷ sectionFault f (atomsAtIn e a) (Atoms e)
-      ∷ sectionFault f (nodesAtIn e a b) (Nodes a)
-      ∷ extraFault f (end_in e a b c)
-      ∷ shapeFault (nodesIn e f a b c)
-      ∷ sumFault (nodesIn e f a b c) b
+      header_fault e f
+      ∷ section_fault f (header_length_in e) (Operators e)
+      ∷ section_fault f (atoms_at_in e a) (Atoms e)
+      ∷ section_fault f (nodes_at_in e a b) (Nodes a)
+      ∷ extra_fault f (end_in e a b c)
+      ∷ shape_fault (nodes_in e f a b c)
+      ∷ sum_fault (nodes_in e f a b c) b
       ∷ []
 
   -- where all of them are passed, each by its name
@@ -85,30 +85,30 @@ all-passed (Passed ∷ ts) l m e = let r : AllPassed ts × (l ≡ m) = all-passe
 all-passed (Failed r ∷ ts) l m e = let z : ◌≡◌ {A = ℕ} 0 1 = cc in absurd (omega arith)
 
 answer-passed : (e : Edition) (f : List ℕ) (a b c : ℕ) (m : Layout) → answer (stages e f a b c) (layout a b c) ≡ Accepted m
-    → Stages e f a b c × (lawsFault (nodesIn e f a b c) (operatorRows e (operatorsIn e f a)) ≡ Passed) × (layout a b c ≡ m)
-unfolding stages wholeStages
+    → Stages e f a b c × (laws_fault (nodes_in e f a b c) (operator_rows e (operators_in e f a)) ≡ Passed) × (layout a b c ≡ m)
+unfolding stages whole_stages
 answer-passed e f a b c m g =
     let r : AllPassed (stages e f a b c) × (layout a b c ≡ m) = all-passed (stages e f a b c) (layout a b c) m g in
-    let laws : Test = lawsFault (nodesIn e f a b c) (operatorRows e (operatorsIn e f a)) in
+    let laws : Test = laws_fault (nodes_in e f a b c) (operator_rows e (operators_in e f a)) in
     let p = all_split (λ t. t ≡ Passed) (before e f a b c) (laws ∷ []) r.0 in
     (by_name e f a b c p.0, p.1.0, r.1)
 
-passed-answer : (e : Edition) (f : List ℕ) (a b c : ℕ) → Stages e f a b c → lawsFault (nodesIn e f a b c) (operatorRows e (operatorsIn e f a)) ≡ Passed
+passed-answer : (e : Edition) (f : List ℕ) (a b c : ℕ) → Stages e f a b c → laws_fault (nodes_in e f a b c) (operator_rows e (operators_in e f a)) ≡ Passed
     → answer (stages e f a b c) (layout a b c) ≡ Accepted (layout a b c)
-unfolding stages wholeStages answer
+unfolding stages whole_stages answer
 passed-answer e f a b c s laws = rw (s.header, s.operators, s.atoms, s.nodes, s.extra, s.tree, s.sum, laws)
 
 -- the child counts of the nodes are those of their records
-held-children : (os : List (List ℕ)) (xs : List (Row Match Action)) (rs : List (List ℕ)) → map (λ n. n.childCount) (held os xs rs) ≡ map childrenOf rs
+held-children : (os : List (List ℕ)) (xs : List (Row Match Action)) (rs : List (List ℕ)) → map (λ n. n.child_count) (held os xs rs) ≡ map children_of rs
 held-children os xs [] = refl
-held-children os xs (r ∷ rs) = ap (λ l. childrenOf r ∷ l) (held-children os (drop (own_of r) xs) rs)
+held-children os xs (r ∷ rs) = ap (λ l. children_of r ∷ l) (held-children os (drop (own_of r) xs) rs)
 
 module _ (e : Edition) (f : List ℕ) (a b c : ℕ) where
-  pub children-shape : shape (map (λ n. n.childCount) (fileNodesIn e f (layout a b c))) (1 ∷ []) 0 ≡ shape (map childrenOf (nodesIn e f a b c)) (1 ∷ []) 0
-  children-shape = ap (λ ks. shape ks (1 ∷ []) 0) (held-children (operatorRows e (operatorsIn e f a)) (atomsOfIn e f (layout a b c)) (nodesIn e f a b c))
+  pub children-shape : shape (map (λ n. n.child_count) (file_nodes_in e f (layout a b c))) (1 ∷ []) 0 ≡ shape (map children_of (nodes_in e f a b c)) (1 ∷ []) 0
+  children-shape = ap (λ ks. shape ks (1 ∷ []) 0) (held-children (operator_rows e (operators_in e f a)) (atoms_of_in e f (layout a b c)) (nodes_in e f a b c))
 
   -- a file well formed but for the laws is one of good sections that ends with them, and whose nodes are one tree and take all atoms
-  pub good-otherwise : GoodSections e f a b c → length f ≡ end_in e a b c → OneTree (fileNodesIn e f (layout a b c)) → ownAtoms (nodesIn e f a b c) ≡ b
+  pub good-otherwise : GoodSections e f a b c → length f ≡ end_in e a b c → OneTree (file_nodes_in e f (layout a b c)) → own_atoms (nodes_in e f a b c) ≡ b
       → OtherwiseIn e f a b c
   good-otherwise g ends tree sum = record {
     header = g.header;
@@ -125,66 +125,66 @@ module _ (e : Edition) (f : List ℕ) (a b c : ℕ) where
   }
 
   -- what the stages before the laws say
-  pub otherwise-of : a ≡ get_or f (headerLengthIn e) 0 → b ≡ get_or f (atomsAtIn e a) 0 → c ≡ get_or f (nodesAtIn e a b) 0 → Stages e f a b c → OtherwiseIn e f a b c
-  unfolding shapeFault sumFault
+  pub otherwise-of : a ≡ get_or f (header_length_in e) 0 → b ≡ get_or f (atoms_at_in e a) 0 → c ≡ get_or f (nodes_at_in e a b) 0 → Stages e f a b c → OtherwiseIn e f a b c
+  unfolding shape_fault sum_fault
   otherwise-of p q w s =
       let g : GoodSections e f a b c = record {
         header = header-passed e f s.header;
-        operators = passed-good f (headerLengthIn e) (Operators e) a (sym p) s.operators;
-        atoms = passed-good f (atomsAtIn e a) (Atoms e) b (sym q) s.atoms;
-        nodes = passed-good f (nodesAtIn e a b) (Nodes a) c (sym w) s.nodes;
+        operators = passed-good f (header_length_in e) (Operators e) a (sym p) s.operators;
+        atoms = passed-good f (atoms_at_in e a) (Atoms e) b (sym q) s.atoms;
+        nodes = passed-good f (nodes_at_in e a b) (Nodes a) c (sym w) s.nodes;
       } in
-      let extra : length f ≤ end_in e a b c = leb-true _ _ (unless-true (leb (length f) (end_in e a b c)) extraWords (end_in e a b c) s.extra) in
+      let extra : length f ≤ end_in e a b c = leb-true _ _ (unless-true (leb (length f) (end_in e a b c)) extra_words (end_in e a b c) s.extra) in
       good-otherwise g (omega (arith, g.nodes.present.whole))
-      (shape-one-tree (fileNodesIn e f (layout a b c)) (children-shape ∙ s.tree))
-      (eqb-true _ _ (unless-true (eqb (ownAtoms (nodesIn e f a b c)) b) wrongSum 0 s.sum))
+      (shape-one-tree (file_nodes_in e f (layout a b c)) (children-shape ∙ s.tree))
+      (eqb-true _ _ (unless-true (eqb (own_atoms (nodes_in e f a b c)) b) wrong_sum 0 s.sum))
 
   -- and the other way round
   pub of-otherwise : OtherwiseIn e f a b c → Stages e f a b c
-  unfolding shapeFault sumFault
+  unfolding shape_fault sum_fault
   of-otherwise o = record {
     header = passed-header e f o.header;
-    operators = good-passed f (headerLengthIn e) (Operators e) a (record { present = o.operators; right = λ i l j m. o.cells i j l m });
-    atoms = good-passed f (atomsAtIn e a) (Atoms e) b (record { present = o.atoms; right = λ i l. (o.matches i l, o.actions i l) });
-    nodes = good-passed f (nodesAtIn e a b) (Nodes a) c (record { present = o.nodes; right = o.right-nodes });
+    operators = good-passed f (header_length_in e) (Operators e) a (record { present = o.operators; right = λ i l j m. o.cells i j l m });
+    atoms = good-passed f (atoms_at_in e a) (Atoms e) b (record { present = o.atoms; right = λ i l. (o.matches i l, o.actions i l) });
+    nodes = good-passed f (nodes_at_in e a b) (Nodes a) c (record { present = o.nodes; right = o.right-nodes });
     extra = rw (le-leb (length f) (end_in e a b c) (omega (arith, o.ends)));
-    tree = sym children-shape ∙ one-tree-shape (fileNodesIn e f (layout a b c)) o.one-tree;
-    sum = rw (eq-eqb (ownAtoms (nodesIn e f a b c)) b o.all-taken);
+    tree = sym children-shape ∙ one-tree-shape (file_nodes_in e f (layout a b c)) o.one-tree;
+    sum = rw (eq-eqb (own_atoms (nodes_in e f a b c)) b o.all-taken);
   }
 
 -- ACCEPTED EXACTLY WHEN WELL FORMED
 pub accepted-as : AcceptedAs
-unfolding readAs
+unfolding read_as
 accepted-as e f l = (well, accepts)
   where
-    well : readAs e f ≡ Accepted l → WellFormedIn e f l
+    well : read_as e f ≡ Accepted l → WellFormedIn e f l
     well g =
-        let a : ℕ = get_or f (headerLengthIn e) 0 in
-        let b : ℕ = get_or f (atomsAtIn e a) 0 in
-        let c : ℕ = get_or f (nodesAtIn e a b) 0 in
+        let a : ℕ = get_or f (header_length_in e) 0 in
+        let b : ℕ = get_or f (atoms_at_in e a) 0 in
+        let c : ℕ = get_or f (nodes_at_in e a b) 0 in
         let p = answer-passed e f a b c l g in
-        let os : List (List ℕ) = operatorsIn e f a in
-        let raw : length os ≡ a = length-records a (operatorLengthIn e) (drop (headerLengthIn e + 1) f) in
-        let many : length (operatorRows e os) ≡ a = operators-many e os ∙ raw in
+        let os : List (List ℕ) = operators_in e f a in
+        let raw : length os ≡ a = length-records a (operator_length_in e) (drop (header_length_in e + 1) f) in
+        let many : length (operator_rows e os) ≡ a = operators-many e os ∙ raw in
         let o : OtherwiseIn e f a b c = otherwise-of e f a b c refl refl refl p.0 in
         rw (← p.2) (record {
           otherwise = o;
-          lawful = laws-kept a (operatorRows e os) (nodesIn e f a b c) many (right-operators e os a raw o.cells)
+          lawful = laws-kept a (operator_rows e os) (nodes_in e f a b c) many (right-operators e os a raw o.cells)
               (λ i h. o.right-nodes i (rw length-records at h)) p.1;
         })
 
-    accepts : WellFormedIn e f l → readAs e f ≡ Accepted l
+    accepts : WellFormedIn e f l → read_as e f ≡ Accepted l
     accepts w =
         let a : ℕ = l.operators in
         let b : ℕ = l.atoms in
         let c : ℕ = l.nodes in
-        let os : List (List ℕ) = operatorsIn e f a in
-        let raw : length os ≡ a = length-records a (operatorLengthIn e) (drop (headerLengthIn e + 1) f) in
-        let many : length (operatorRows e os) ≡ a = operators-many e os ∙ raw in
+        let os : List (List ℕ) = operators_in e f a in
+        let raw : length os ≡ a = length-records a (operator_length_in e) (drop (header_length_in e + 1) f) in
+        let many : length (operator_rows e os) ≡ a = operators-many e os ∙ raw in
         let o : OtherwiseIn e f a b c = w.otherwise in
         rw (o.operators.count, o.atoms.count, o.nodes.count)
         (passed-answer e f a b c (of-otherwise e f a b c o)
-        (kept_laws a (operatorRows e os) (nodesIn e f a b c) many (right-operators e os a raw o.cells) (λ i h. o.right-nodes i (rw length-records at h))
+        (kept_laws a (operator_rows e os) (nodes_in e f a b c) many (right-operators e os a raw o.cells) (λ i h. o.right-nodes i (rw length-records at h))
         w.lawful))
 
 pub accepted-exactly : AcceptedExactly
@@ -193,29 +193,29 @@ accepted-exactly f l = accepted-as latest f l
 -- ONE TREE, whose nodes in file order are the file's
 pub accepted-tree : AcceptedTree
 accepted-tree f l e =
-    let o : OneTree (fileNodes f l) = ((accepted-exactly f l).0 e).otherwise.one-tree in
-    let p : plant (fileNodes f l) ≡ o.tree ▸ bare = one-tree-planted (fileNodes f l) o in
-    let q : tree_of f l ≡ o.tree = ap firstTree p in
+    let o : OneTree (file_nodes f l) = ((accepted-exactly f l).0 e).otherwise.one-tree in
+    let p : plant (file_nodes f l) ≡ o.tree ▸ bare = one-tree-planted (file_nodes f l) o in
+    let q : tree_of f l ≡ o.tree = ap first_tree p in
     record { planted = rw q p; lists = rw q o.lists; shallow = rw q o.shallow }
 
 -- the own atoms of some nodes, and what they leave
-taken : (os : List (List ℕ)) (xs : List (Row Match Action)) (rs : List (List ℕ)) → allAtoms (held os xs rs) ++ drop (ownAtoms rs) xs ≡ xs
+taken : (os : List (List ℕ)) (xs : List (Row Match Action)) (rs : List (List ℕ)) → all_atoms (held os xs rs) ++ drop (own_atoms rs) xs ≡ xs
 taken os xs [] = refl
 taken os xs (r ∷ rs) =
     let n : ℕ = own_of r in
-    append_assoc (take n xs) (allAtoms (held os (drop n xs) rs)) (drop (n + ownAtoms rs) xs)
-    ∙ ap (λ l. take n xs ++ (allAtoms (held os (drop n xs) rs) ++ l)) (sym (drop-drop (ownAtoms rs) n xs))
+    append_assoc (take n xs) (all_atoms (held os (drop n xs) rs)) (drop (n + own_atoms rs) xs)
+    ∙ ap (λ l. take n xs ++ (all_atoms (held os (drop n xs) rs) ++ l)) (sym (drop-drop (own_atoms rs) n xs))
     ∙ ap (λ l. take n xs ++ l) (taken os (drop n xs) rs)
     ∙ take-append-drop n xs
 
 -- EVERY ATOM BELONGS TO ONE NODE
 pub accepted-atoms : AcceptedAtoms
 accepted-atoms f l e =
-    let os : List (List ℕ) = operatorRecords f l.operators in
-    let xs : List (Row Match Action) = atomsOf f l in
-    let rs : List (List ℕ) = nodeRecords f l.operators l.atoms l.nodes in
+    let os : List (List ℕ) = operator_records f l.operators in
+    let xs : List (Row Match Action) = atoms_of f l in
+    let rs : List (List ℕ) = node_records f l.operators l.atoms l.nodes in
     let many : length xs ≡ l.atoms =
-    length-map (atomRecords f l.operators l.atoms) row_of ∙ length-records l.atoms atomLength (drop (atoms_at l.operators + 1) f) in
-    let sum : ownAtoms rs ≡ l.atoms = ((accepted-exactly f l).0 e).otherwise.all-taken in
-    let none : drop (ownAtoms rs) xs ≡ [] = drop_of_length-le xs {i = ownAtoms rs} (omega arith) in
-    sym (append-nil (allAtoms (held os xs rs))) ∙ ap (λ l. allAtoms (held os xs rs) ++ l) (sym none) ∙ taken os xs rs
+    length-map (atom_records f l.operators l.atoms) row_of ∙ length-records l.atoms atom_length (drop (atoms_at l.operators + 1) f) in
+    let sum : own_atoms rs ≡ l.atoms = ((accepted-exactly f l).0 e).otherwise.all-taken in
+    let none : drop (own_atoms rs) xs ≡ [] = drop_of_length-le xs {i = own_atoms rs} (omega arith) in
+    sym (append-nil (all_atoms (held os xs rs))) ∙ ap (λ l. all_atoms (held os xs rs) ++ l) (sym none) ∙ taken os xs rs

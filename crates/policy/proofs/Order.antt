@@ -10,18 +10,18 @@ use lib.ListN.{get_or, length, drop, length-map}
 use borrow.Author.Tests.{le-leb, lt-leb, eqb-true, eqb-false, ne_eqb}
 use Rattle.words.proofs.Records.{length-records}
 use Rattle.action.specs.Operator.{RightCodes}
-use Rattle.section.specs.Numbers.{headerLengthIn, operatorLengthIn, nodeLength, extraWords, noTree, wrongSum, lawBroken}
-use Rattle.section.specs.Cells.{operatorRows}
+use Rattle.section.specs.Numbers.{header_length_in, operator_length_in, node_length, extra_words, no_tree, wrong_sum, law_broken}
+use Rattle.section.specs.Cells.{operator_rows}
 use Rattle.refusal.specs.Plain.{plain}
-use Rattle.section.specs.Sections.{childrenOf}
-use Rattle.whole.specs.Whole.{shape, shapeFault, ownAtoms, sumFault, lawsFault}
-use Rattle.policy.specs.Read.{atomsAtIn, nodesAtIn, end_in, operatorsIn, nodesIn, wholeStages, stages, layout, answer, readAs, readRefusal}
-use Rattle.policy.specs.Steps.{withWhole}
-use Rattle.whole.specs.Meaning.{operatorAt, OneTree, ended, HasPlace}
-use Rattle.policy.specs.File.{fileNodesIn}
+use Rattle.section.specs.Sections.{children_of}
+use Rattle.whole.specs.Whole.{shape, shape_fault, own_atoms, sum_fault, laws_fault}
+use Rattle.policy.specs.Read.{atoms_at_in, nodes_at_in, end_in, operators_in, nodes_in, whole_stages, stages, layout, answer, read_as, read_refusal}
+use Rattle.policy.specs.Steps.{with_whole}
+use Rattle.whole.specs.Meaning.{operator_at, OneTree, ended, HasPlace}
+use Rattle.policy.specs.File.{file_nodes_in}
 use Rattle.section.specs.Due.{RightNode}
 use Rattle.policy.specs.WellFormed.{OtherwiseIn, WellFormedIn}
-use Rattle.policy.specs.Order.{childCountsIn, GoodSections, Due, in-header, in-operators, in-atoms, in-nodes, extra, no_place, missing, sum, FileOrder}
+use Rattle.policy.specs.Order.{child_counts_in, GoodSections, Due, in-header, in-operators, in-atoms, in-nodes, extra, no_place, missing, sum, FileOrder}
 use Rattle.section.specs.declared.Edition.{Edition}
 use Rattle.policy.specs.declared.Reading.TheVariants.{Accepted, Refused}
 use Rattle.section.specs.declared.Section.TheVariants.{Operators, Atoms, Nodes}
@@ -37,76 +37,76 @@ use Rattle.section.proofs.Due.{first-wrong, passed-or-not, section-due, section-
 
 -- THE FILE. Once the header and all three sections are good the other stages answer.
 module _ (e : Edition) (f : List ℕ) (a b c : ℕ) where
-  sections-read : GoodSections e f a b c → readAs e f ≡ withWhole e f (headerLengthIn e) a b c (nodesAtIn e a b)
-  unfolding readAs withWhole stages answer
+  sections-read : GoodSections e f a b c → read_as e f ≡ with_whole e f (header_length_in e) a b c (nodes_at_in e a b)
+  unfolding read_as with_whole stages answer
   sections-read g =
       rw (g.operators.present.count, g.atoms.present.count, g.nodes.present.count)
       (rw (
         passed-header e f g.header,
-        good-passed f (headerLengthIn e) (Operators e) a g.operators,
-        good-passed f (atomsAtIn e a) (Atoms e) b g.atoms,
-        good-passed f (nodesAtIn e a b) (Nodes a) c g.nodes,
+        good-passed f (header_length_in e) (Operators e) a g.operators,
+        good-passed f (atoms_at_in e a) (Atoms e) b g.atoms,
+        good-passed f (nodes_at_in e a b) (Nodes a) c g.nodes,
       ))
 
-  extra-read : end_in e a b c < length f → withWhole e f (headerLengthIn e) a b c (nodesAtIn e a b) ≡ Refused (plain extraWords (end_in e a b c))
-  unfolding withWhole wholeStages answer
+  extra-read : end_in e a b c < length f → with_whole e f (header_length_in e) a b c (nodes_at_in e a b) ≡ Refused (plain extra_words (end_in e a b c))
+  unfolding with_whole whole_stages answer
   extra-read h = rw (lt-leb (length f) (end_in e a b c) h)
 
-  shape-read : length f ≡ end_in e a b c → (i : ℕ) → shape (childCountsIn e f a b c) (1 ∷ []) 0 ≡ Failed (plain noTree i)
-      → withWhole e f (headerLengthIn e) a b c (nodesAtIn e a b) ≡ Refused (plain noTree i)
-  unfolding withWhole wholeStages answer shapeFault
+  shape-read : length f ≡ end_in e a b c → (i : ℕ) → shape (child_counts_in e f a b c) (1 ∷ []) 0 ≡ Failed (plain no_tree i)
+      → with_whole e f (header_length_in e) a b c (nodes_at_in e a b) ≡ Refused (plain no_tree i)
+  unfolding with_whole whole_stages answer shape_fault
   shape-read h i x = rw (le-leb (length f) (end_in e a b c) (omega arith), x)
 
-  sum-read : length f ≡ end_in e a b c → shape (childCountsIn e f a b c) (1 ∷ []) 0 ≡ Passed → ¬ (ownAtoms (nodesIn e f a b c) ≡ b)
-      → withWhole e f (headerLengthIn e) a b c (nodesAtIn e a b) ≡ Refused (plain wrongSum 0)
-  unfolding withWhole wholeStages answer shapeFault sumFault
-  sum-read h x n = rw (le-leb (length f) (end_in e a b c) (omega arith), x, ne_eqb (ownAtoms (nodesIn e f a b c)) b n)
+  sum-read : length f ≡ end_in e a b c → shape (child_counts_in e f a b c) (1 ∷ []) 0 ≡ Passed → ¬ (own_atoms (nodes_in e f a b c) ≡ b)
+      → with_whole e f (header_length_in e) a b c (nodes_at_in e a b) ≡ Refused (plain wrong_sum 0)
+  unfolding with_whole whole_stages answer shape_fault sum_fault
+  sum-read h x n = rw (le-leb (length f) (end_in e a b c) (omega arith), x, ne_eqb (own_atoms (nodes_in e f a b c)) b n)
 
-  nodes-many : length (childCountsIn e f a b c) ≡ c
-  nodes-many = length-map (nodesIn e f a b c) childrenOf ∙ length-records c nodeLength (drop (nodesAtIn e a b + 1) f)
+  nodes-many : length (child_counts_in e f a b c) ≡ c
+  nodes-many = length-map (nodes_in e f a b c) children_of ∙ length-records c node_length (drop (nodes_at_in e a b + 1) f)
 
 -- WHAT IS DUE IS GIVEN
-due-read : (e : Edition) (f : List ℕ) {n at : ℕ} → Due e f n at → readAs e f ≡ Refused (plain n at)
-unfolding readAs stages answer
+due-read : (e : Edition) (f : List ℕ) {n at : ℕ} → Due e f n at → read_as e f ≡ Refused (plain n at)
+unfolding read_as stages answer
 due-read e f (in-header {n} {at} d) = rw (header-due e f n at d)
-due-read e f (in-operators h d) = rw (passed-header e f h, section-due f (headerLengthIn e) (Operators e) d)
+due-read e f (in-operators h d) = rw (passed-header e f h, section-due f (header_length_in e) (Operators e) d)
 due-read e f (in-atoms {a} h g d) =
-    rw g.present.count (rw (passed-header e f h, good-passed f (headerLengthIn e) (Operators e) a g, section-due f (atomsAtIn e a) (Atoms e) d))
+    rw g.present.count (rw (passed-header e f h, good-passed f (header_length_in e) (Operators e) a g, section-due f (atoms_at_in e a) (Atoms e) d))
 due-read e f (in-nodes {a} {b} h g k d) =
     rw (g.present.count, k.present.count)
     (rw (
       passed-header e f h,
-      good-passed f (headerLengthIn e) (Operators e) a g,
-      good-passed f (atomsAtIn e a) (Atoms e) b k,
-      section-due f (nodesAtIn e a b) (Nodes a) d,
+      good-passed f (header_length_in e) (Operators e) a g,
+      good-passed f (atoms_at_in e a) (Atoms e) b k,
+      section-due f (nodes_at_in e a b) (Nodes a) d,
     ))
 due-read e f (extra {a} {b} {c} g h) = sections-read e f a b c g ∙ extra-read e f a b c h
 due-read e f (no_place {a} {b} {c} {i} g h w) =
-    sections-read e f a b c g ∙ shape-read e f a b c h i (shape-first (childCountsIn e f a b c) i (rw (nodes-many e f a b c) w))
+    sections-read e f a b c g ∙ shape-read e f a b c h i (shape-first (child_counts_in e f a b c) i (rw (nodes-many e f a b c) w))
 due-read e f (missing {a} {b} {c} g h p x) =
-    let ks : List ℕ = childCountsIn e f a b c in
+    let ks : List ℕ = child_counts_in e f a b c in
     let l : length ks ≡ c = nodes-many e f a b c in
     sections-read e f a b c g ∙ shape-read e f a b c h c (shape-places ks (λ i m. p i (omega arith)) ∙ rw (x, l))
 due-read e f (sum {a} {b} {c} g h t n) =
-    sections-read e f a b c g ∙ sum-read e f a b c h (sym (children-shape e f a b c) ∙ one-tree-shape (fileNodesIn e f (layout a b c)) t) n
+    sections-read e f a b c g ∙ sum-read e f a b c h (sym (children-shape e f a b c) ∙ one-tree-shape (file_nodes_in e f (layout a b c)) t) n
 
 -- a file is well formed but for the laws, or something is due to it
 abbrev Cases : Edition → List ℕ → Type 0
 Cases e f = ((a : ℕ) × (b : ℕ) × (c : ℕ) × OtherwiseIn e f a b c) ⊎ ((n : ℕ) × (at : ℕ) × Due e f n at)
 
 module _ (e : Edition) (f : List ℕ) (a b c : ℕ) (g : GoodSections e f a b c) where
-  tree-cases : length f ≡ end_in e a b c → OneTree (fileNodesIn e f (layout a b c)) → Cases e f
-  tree-cases h t = by-test (eqb (ownAtoms (nodesIn e f a b c)) b)
+  tree-cases : length f ≡ end_in e a b c → OneTree (file_nodes_in e f (layout a b c)) → Cases e f
+  tree-cases h t = by-test (eqb (own_atoms (nodes_in e f a b c)) b)
       (λ x. inl (a, b, c, good-otherwise e f a b c g h t (eqb-true _ _ x)))
       (λ x. inr (_, _, sum g h t (eqb-false _ _ x)))
 
   shape-cases : length f ≡ end_in e a b c → Cases e f
   shape-cases h =
-      let ks : List ℕ = childCountsIn e f a b c in
+      let ks : List ℕ = child_counts_in e f a b c in
       let l : length ks ≡ c = nodes-many e f a b c in
       ⊎_elim
       (λ p. by-test (ended ks)
-      (λ x. tree-cases h (shape-one-tree (fileNodesIn e f (layout a b c)) (children-shape e f a b c ∙ shape-places ks (λ i m. p i (omega arith)) ∙ rw x)))
+      (λ x. tree-cases h (shape-one-tree (file_nodes_in e f (layout a b c)) (children-shape e f a b c ∙ shape-places ks (λ i m. p i (omega arith)) ∙ rw x)))
       (λ x. inr (_, _, missing g h p x)))
       (λ w. inr (_, _, no_place g h w.1))
       (first-wrong (HasPlace ks) (has-place ks) c)
@@ -118,53 +118,53 @@ module _ (e : Edition) (f : List ℕ) (a b c : ℕ) (g : GoodSections e f a b c)
 
 cases : (e : Edition) (f : List ℕ) → Cases e f
 cases e f =
-    let a : ℕ = get_or f (headerLengthIn e) 0 in
-    let b : ℕ = get_or f (atomsAtIn e a) 0 in
-    let c : ℕ = get_or f (nodesAtIn e a b) 0 in
+    let a : ℕ = get_or f (header_length_in e) 0 in
+    let b : ℕ = get_or f (atoms_at_in e a) 0 in
+    let c : ℕ = get_or f (nodes_at_in e a b) 0 in
     ⊎_elim
     (λ h. ⊎_elim
     (λ g. ⊎_elim
     (λ k. ⊎_elim
     (λ m. end-cases e f a b c (record { header = h; operators = g; atoms = k; nodes = m }))
     (λ d. inr (_, _, in-nodes h g k d.2))
-    (section-cases f (nodesAtIn e a b) (Nodes a)))
+    (section-cases f (nodes_at_in e a b) (Nodes a)))
     (λ d. inr (_, _, in-atoms h g d.2))
-    (section-cases f (atomsAtIn e a) (Atoms e)))
+    (section-cases f (atoms_at_in e a) (Atoms e)))
     (λ d. inr (_, _, in-operators h d.2))
-    (section-cases f (headerLengthIn e) (Operators e)))
+    (section-cases f (header_length_in e) (Operators e)))
     (λ d. inr (_, _, in-header d.2))
     (header-cases e f)
 
 -- a refusal without a law is given to no file that is well formed but for the laws: it is accepted, or a law is shown
-lawless : (e : Edition) (f : List ℕ) (a b c n at : ℕ) → OtherwiseIn e f a b c → ¬ (readAs e f ≡ Refused (plain n at))
+lawless : (e : Edition) (f : List ℕ) (a b c n at : ℕ) → OtherwiseIn e f a b c → ¬ (read_as e f ≡ Refused (plain n at))
 lawless e f a b c n at o r =
-    let raw : List (List ℕ) = operatorsIn e f a in
-    let os : List (List ℕ) = operatorRows e raw in
-    let ns : List (List ℕ) = nodesIn e f a b c in
-    let counted : length raw ≡ a = length-records a (operatorLengthIn e) (drop (headerLengthIn e + 1) f) in
+    let raw : List (List ℕ) = operators_in e f a in
+    let os : List (List ℕ) = operator_rows e raw in
+    let ns : List (List ℕ) = nodes_in e f a b c in
+    let counted : length raw ≡ a = length-records a (operator_length_in e) (drop (header_length_in e + 1) f) in
     let many : length os ≡ a = operators-many e raw ∙ counted in
-    let codes : (i : ℕ) → i < a → RightCodes (operatorAt os i) = right-operators e raw a counted o.cells in
+    let codes : (i : ℕ) → i < a → RightCodes (operator_at os i) = right-operators e raw a counted o.cells in
     let nodes : (i : ℕ) → i < length ns → RightNode a (get_or ns i []) = λ i h. o.right-nodes i (rw length-records at h) in
     ⊎_elim
     (λ p.
     let w : WellFormedIn e f (layout a b c) = record { otherwise = o; lawful = laws-kept a os ns many codes nodes p } in
-    let g : readAs e f ≡ Accepted (layout a b c) = (accepted-as e f (layout a b c)).1 w in
+    let g : read_as e f ≡ Accepted (layout a b c) = (accepted-as e f (layout a b c)).1 w in
     let z : ◌≡◌ {A = ℕ} 0 1 = cc in
     omega arith)
     (λ h.
     let w = broken-refused-as e f a b c o (λ k. h (kept_laws a os ns many codes nodes k)) in
-    let q : n ≡ lawBroken = ap (λ x. (readRefusal x).number) (sym r ∙ w.1) ∙ w.2 in
+    let q : n ≡ law_broken = ap (λ x. (read_refusal x).number) (sym r ∙ w.1) ∙ w.2 in
     (refused-law-as e f (plain n at) r q).shows)
-    (passed-or-not (lawsFault ns os))
+    (passed-or-not (laws_fault ns os))
 
 -- AND NOTHING ELSE IS
-given-due : (e : Edition) (f : List ℕ) (n at : ℕ) → readAs e f ≡ Refused (plain n at) → Due e f n at
+given-due : (e : Edition) (f : List ℕ) (n at : ℕ) → read_as e f ≡ Refused (plain n at) → Due e f n at
 given-due e f n at r = ⊎_elim
     (λ o. absurd (lawless e f o.0 o.1 o.2 n at o.3 r))
     (λ d.
     let q : Refused (plain d.0 d.1) ≡ Refused (plain n at) = sym (due-read e f d.2) ∙ r in
-    let p : d.0 ≡ n = ap (λ x. (readRefusal x).number) q in
-    let w : d.1 ≡ at = ap (λ x. (readRefusal x).place) q in
+    let p : d.0 ≡ n = ap (λ x. (read_refusal x).number) q in
+    let w : d.1 ≡ at = ap (λ x. (read_refusal x).place) q in
     rw (p, w) at d.2)
     (cases e f)
 

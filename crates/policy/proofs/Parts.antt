@@ -8,11 +8,11 @@ use lib.ListN.{get_or, length, take, drop, length-append, length-drop, take-appe
 use lib.Seq.{drop-cons, drop-drop, take_at, drop_at, length-take-le}
 use Rattle.words.specs.Records.{records}
 use Rattle.words.proofs.Records.{length-records}
-use Rattle.section.specs.Numbers.{headerLengthIn, headerOf, operatorLengthIn, atomLengthIn, nodeLength, mostOperators, mostAtoms, mostNodes}
-use Rattle.policy.specs.Read.{atomsAtIn, nodesAtIn, end_in, operatorsIn, atomsIn, nodesIn, layout}
+use Rattle.section.specs.Numbers.{header_length_in, header_of, operator_length_in, atom_length_in, node_length, most_operators, most_atoms, most_nodes}
+use Rattle.policy.specs.Read.{atoms_at_in, nodes_at_in, end_in, operators_in, atoms_in, nodes_in, layout}
 use Rattle.section.specs.Due.{Present, RightHeader}
 use Rattle.policy.specs.WellFormed.{OtherwiseIn, WellFormedIn}
-use Rattle.policy.specs.Parts.{Parts, recordWords, sectionWords, fileWordsIn, parts_in, layoutOfParts, EachLong, RightPartsIn, LawfulPartsIn}
+use Rattle.policy.specs.Parts.{Parts, record_words, section_words, file_words_in, parts_in, layout_of_parts, EachLong, RightPartsIn, LawfulPartsIn}
 use Rattle.policy.specs.Theorems.{PartsAccepted, AcceptedParts, PartsWhole, PartsRead}
 use Rattle.section.specs.declared.Edition.{Edition}
 use Rattle.section.specs.declared.Edition.TheVariants.{First}
@@ -25,39 +25,39 @@ each_long (suc n) k ws h =
     let g : k * suc n ≡ k + k * n = omega arith in
     (length-take-le k ws (omega arith), each_long n k (drop k ws) (rw length-drop (omega arith)))
 
-words-records : (n k : ℕ) (ws : List ℕ) → k * n ≤ length ws → recordWords (records n k ws) ++ drop (k * n) ws ≡ ws
+words-records : (n k : ℕ) (ws : List ℕ) → k * n ≤ length ws → record_words (records n k ws) ++ drop (k * n) ws ≡ ws
 words-records zero k ws h = let g : k * 0 ≡ 0 = omega arith in rw g
 words-records (suc n) k ws h =
     let g : k * suc n ≡ k + k * n = omega arith in
     let r : drop (k * suc n) ws ≡ drop (k * n) (drop k ws) = ap (λ m. drop m ws) g ∙ sym (drop-drop (k * n) k ws) in
-    append_assoc (take k ws) (recordWords (records n k (drop k ws))) (drop (k * suc n) ws)
-    ∙ ap (λ l. take k ws ++ (recordWords (records n k (drop k ws)) ++ l)) r
+    append_assoc (take k ws) (record_words (records n k (drop k ws))) (drop (k * suc n) ws)
+    ∙ ap (λ l. take k ws ++ (record_words (records n k (drop k ws)) ++ l)) r
     ∙ ap (λ l. take k ws ++ l) (words-records n k (drop k ws) (rw length-drop (omega arith)))
     ∙ take-append-drop k ws
 
 -- and the other way round
-long-words : (k : ℕ) (rs : List (List ℕ)) → EachLong k rs → length (recordWords rs) ≡ k * length rs
+long-words : (k : ℕ) (rs : List (List ℕ)) → EachLong k rs → length (record_words rs) ≡ k * length rs
 long-words k [] e = omega arith
 long-words k (r ∷ rs) e =
     let g : k * suc (length rs) ≡ k + k * length rs = omega arith in
-    length-append r (recordWords rs) ∙ omega (arith, e.0, long-words k rs e.1)
+    length-append r (record_words rs) ∙ omega (arith, e.0, long-words k rs e.1)
 
-records-words : (k : ℕ) (rs : List (List ℕ)) (rest : List ℕ) → EachLong k rs → records (length rs) k (recordWords rs ++ rest) ≡ rs
+records-words : (k : ℕ) (rs : List (List ℕ)) (rest : List ℕ) → EachLong k rs → records (length rs) k (record_words rs ++ rest) ≡ rs
 records-words k [] rest e = refl
 records-words k (r ∷ rs) rest e =
-    let s : (r ++ recordWords rs) ++ rest ≡ r ++ (recordWords rs ++ rest) = append_assoc r (recordWords rs) rest in
+    let s : (r ++ record_words rs) ++ rest ≡ r ++ (record_words rs ++ rest) = append_assoc r (record_words rs) rest in
     ap (λ l. take k l ∷ records (length rs) k (drop k l)) s
-    ∙ ap₂ (λ x y. x ∷ records (length rs) k y) (take_at r (recordWords rs ++ rest) k e.0) (drop_at r (recordWords rs ++ rest) k e.0)
+    ∙ ap₂ (λ x y. x ∷ records (length rs) k y) (take_at r (record_words rs ++ rest) k e.0) (drop_at r (record_words rs ++ rest) k e.0)
     ∙ ap (λ l. r ∷ l) (records-words k rs rest e.1)
 
 -- a section that stands at a place of a file: its count, its records, and what is behind
 section-whole : (f : List ℕ) (at low high k n : ℕ) → Present f at low high k n → (rest : List ℕ) → rest ≡ drop (at + 1 + k * n) f
-    → sectionWords (records n k (drop (at + 1) f)) rest ≡ drop at f
+    → section_words (records n k (drop (at + 1) f)) rest ≡ drop at f
 section-whole f at low high k n p rest g =
     let s : at + 1 ≡ suc at = omega arith in
     let rs : List (List ℕ) = records n k (drop (at + 1) f) in
     let d : rest ≡ drop (k * n) (drop (at + 1) f) = g ∙ sym (drop-drop (k * n) (at + 1) f) in
-    ap₂ (λ (m : ℕ) (l : List ℕ). m ∷ (recordWords rs ++ l)) (length-records n k (drop (at + 1) f)) d
+    ap₂ (λ (m : ℕ) (l : List ℕ). m ∷ (record_words rs ++ l)) (length-records n k (drop (at + 1) f)) d
     ∙ ap (λ l. n ∷ l) (words-records n k (drop (at + 1) f) (rw length-drop (omega (arith, p.whole))))
     ∙ ap₂ (λ (x : ℕ) (y : List ℕ). x ∷ y) (sym p.count) (ap (λ m. drop m f) s)
     ∙ sym (drop-cons f at 0 p.there)
@@ -66,22 +66,22 @@ section-whole f at low high k n p rest g =
 pub parts_whole : PartsWhole
 parts_whole e f a b c o =
     let last : [] ≡ drop (end_in e a b c) f = sym (drop_of_length-le f {i = end_in e a b c} (omega (arith, o.ends))) in
-    let third : sectionWords (nodesIn e f a b c) [] ≡ drop (nodesAtIn e a b) f =
-    section-whole f (nodesAtIn e a b) 1 mostNodes nodeLength c o.nodes [] last in
-    let second : sectionWords (atomsIn e f a b) (sectionWords (nodesIn e f a b c) []) ≡ drop (atomsAtIn e a) f =
-    section-whole f (atomsAtIn e a) 0 mostAtoms (atomLengthIn e) b o.atoms _ third in
-    ap₂ (λ x y. x ++ y) (sym o.header) (section-whole f (headerLengthIn e) 1 mostOperators (operatorLengthIn e) a o.operators _ second)
-    ∙ take-append-drop (headerLengthIn e) f
+    let third : section_words (nodes_in e f a b c) [] ≡ drop (nodes_at_in e a b) f =
+    section-whole f (nodes_at_in e a b) 1 most_nodes node_length c o.nodes [] last in
+    let second : section_words (atoms_in e f a b) (section_words (nodes_in e f a b c) []) ≡ drop (atoms_at_in e a) f =
+    section-whole f (atoms_at_in e a) 0 most_atoms (atom_length_in e) b o.atoms _ third in
+    ap₂ (λ x y. x ++ y) (sym o.header) (section-whole f (header_length_in e) 1 most_operators (operator_length_in e) a o.operators _ second)
+    ∙ take-append-drop (header_length_in e) f
 
 parts-right : (e : Edition) (f : List ℕ) (a b c : ℕ) → OtherwiseIn e f a b c → RightPartsIn e (parts_in e f (layout a b c))
 parts-right e f a b c o =
-    let la : length (operatorsIn e f a) ≡ a = length-records a (operatorLengthIn e) (drop (headerLengthIn e + 1) f) in
-    let lb : length (atomsIn e f a b) ≡ b = length-records b (atomLengthIn e) (drop (atomsAtIn e a + 1) f) in
-    let lc : length (nodesIn e f a b c) ≡ c = length-records c nodeLength (drop (nodesAtIn e a b + 1) f) in
+    let la : length (operators_in e f a) ≡ a = length-records a (operator_length_in e) (drop (header_length_in e + 1) f) in
+    let lb : length (atoms_in e f a b) ≡ b = length-records b (atom_length_in e) (drop (atoms_at_in e a + 1) f) in
+    let lc : length (nodes_in e f a b c) ≡ c = length-records c node_length (drop (nodes_at_in e a b + 1) f) in
     record {
-      operators-long = each_long a (operatorLengthIn e) (drop (headerLengthIn e + 1) f) (rw length-drop (omega (arith, o.operators.whole)));
-      atoms-long = each_long b (atomLengthIn e) (drop (atomsAtIn e a + 1) f) (rw length-drop (omega (arith, o.atoms.whole)));
-      nodes-long = each_long c nodeLength (drop (nodesAtIn e a b + 1) f) (rw length-drop (omega (arith, o.nodes.whole)));
+      operators-long = each_long a (operator_length_in e) (drop (header_length_in e + 1) f) (rw length-drop (omega (arith, o.operators.whole)));
+      atoms-long = each_long b (atom_length_in e) (drop (atoms_at_in e a + 1) f) (rw length-drop (omega (arith, o.atoms.whole)));
+      nodes-long = each_long c node_length (drop (nodes_at_in e a b + 1) f) (rw length-drop (omega (arith, o.nodes.whole)));
       some-operators = omega (arith, o.operators.least);
       few-operators = omega (arith, o.operators.most);
       few-atoms = omega (arith, o.atoms.most);
@@ -95,7 +95,7 @@ parts-right e f a b c o =
       all-taken = o.all-taken ∙ sym lb;
     }
 
-header-many : (e : Edition) → length (headerOf e) ≡ headerLengthIn e
+header-many : (e : Edition) → length (header_of e) ≡ header_length_in e
 header-many First = refl
 
 first_of : (l : List ℕ) (n x : ℕ) (xs : List ℕ) → drop n l ≡ x ∷ xs → get_or l n 0 ≡ x
@@ -109,13 +109,13 @@ record Standing (f : List ℕ) (at k : ℕ) (rs : List (List ℕ)) (rest : List 
   read : records (length rs) k (drop (at + 1) f) ≡ rs
   after : drop (at + 1 + k * length rs) f ≡ rest
 
-standing : (f : List ℕ) (at k : ℕ) (rs : List (List ℕ)) (rest : List ℕ) → EachLong k rs → drop at f ≡ sectionWords rs rest → Standing f at k rs rest
+standing : (f : List ℕ) (at k : ℕ) (rs : List (List ℕ)) (rest : List ℕ) → EachLong k rs → drop at f ≡ section_words rs rest → Standing f at k rs rest
 standing f at k rs rest long e =
-    let d : drop (at + 1) f ≡ recordWords rs ++ rest = sym (drop-drop 1 at f) ∙ ap (drop 1) e in
+    let d : drop (at + 1) f ≡ record_words rs ++ rest = sym (drop-drop 1 at f) ∙ ap (drop 1) e in
     record {
-      count = first_of f at (length rs) (recordWords rs ++ rest) e;
+      count = first_of f at (length rs) (record_words rs ++ rest) e;
       read = ap (records (length rs) k) d ∙ records-words k rs rest long;
-      after = sym (drop-drop (k * length rs) (at + 1) f) ∙ ap (drop (k * length rs)) d ∙ drop_at (recordWords rs) rest (k * length rs) (long-words k rs long);
+      after = sym (drop-drop (k * length rs) (at + 1) f) ∙ ap (drop (k * length rs)) d ∙ drop_at (record_words rs) rest (k * length rs) (long-words k rs long);
     }
 
 -- the three sections of the words of parts
@@ -130,60 +130,60 @@ module _ (e : Edition) (P : Parts) (r : RightPartsIn e P) where
   c = length P.nodes
 
   abbrev f : List ℕ
-  f = fileWordsIn e P
+  f = file_words_in e P
 
   abbrev third : List ℕ
-  third = sectionWords P.nodes []
+  third = section_words P.nodes []
 
   abbrev second : List ℕ
-  second = sectionWords P.atoms third
+  second = section_words P.atoms third
 
-  operators-stand : Standing f (headerLengthIn e) (operatorLengthIn e) P.operators second
-  operators-stand = standing f (headerLengthIn e) (operatorLengthIn e) P.operators second r.operators-long
-      (drop_at (headerOf e) (sectionWords P.operators second) (headerLengthIn e) (header-many e))
+  operators-stand : Standing f (header_length_in e) (operator_length_in e) P.operators second
+  operators-stand = standing f (header_length_in e) (operator_length_in e) P.operators second r.operators-long
+      (drop_at (header_of e) (section_words P.operators second) (header_length_in e) (header-many e))
 
-  atoms-stand : Standing f (atomsAtIn e a) (atomLengthIn e) P.atoms third
-  atoms-stand = standing f (atomsAtIn e a) (atomLengthIn e) P.atoms third r.atoms-long operators-stand.after
+  atoms-stand : Standing f (atoms_at_in e a) (atom_length_in e) P.atoms third
+  atoms-stand = standing f (atoms_at_in e a) (atom_length_in e) P.atoms third r.atoms-long operators-stand.after
 
-  nodes-stand : Standing f (nodesAtIn e a b) nodeLength P.nodes []
-  nodes-stand = standing f (nodesAtIn e a b) nodeLength P.nodes [] r.nodes-long atoms-stand.after
+  nodes-stand : Standing f (nodes_at_in e a b) node_length P.nodes []
+  nodes-stand = standing f (nodes_at_in e a b) node_length P.nodes [] r.nodes-long atoms-stand.after
 
   -- how long it is
   long : length f ≡ end_in e a b c
   long =
-      let x = long-words (operatorLengthIn e) P.operators r.operators-long in
-      let y = long-words (atomLengthIn e) P.atoms r.atoms-long in
-      let z = long-words nodeLength P.nodes r.nodes-long in
+      let x = long-words (operator_length_in e) P.operators r.operators-long in
+      let y = long-words (atom_length_in e) P.atoms r.atoms-long in
+      let z = long-words node_length P.nodes r.nodes-long in
       omega (
         arith,
         x,
         y,
         z,
         header-many e,
-        length-append (headerOf e) (sectionWords P.operators second),
-        length-append (recordWords P.operators) second,
-        length-append (recordWords P.atoms) third,
-        length-append (recordWords P.nodes) [],
+        length-append (header_of e) (section_words P.operators second),
+        length-append (record_words P.operators) second,
+        length-append (record_words P.atoms) third,
+        length-append (record_words P.nodes) [],
       )
 
   begins : RightHeader e f
-  begins = take_at (headerOf e) (sectionWords P.operators second) (headerLengthIn e) (header-many e)
+  begins = take_at (header_of e) (section_words P.operators second) (header_length_in e) (header-many e)
 
 -- WHAT RIGHT PARTS MAKE READS BACK AS THESE PARTS, and is well formed but for the laws
 pub parts-read : PartsRead
 parts-read e P r =
     rw ((operators-stand e P r).read, (atoms-stand e P r).read, (nodes-stand e P r).read)
 
-right-whole : (e : Edition) (P : Parts) → RightPartsIn e P → OtherwiseIn e (fileWordsIn e P) (length P.operators) (length P.atoms) (length P.nodes)
+right-whole : (e : Edition) (P : Parts) → RightPartsIn e P → OtherwiseIn e (file_words_in e P) (length P.operators) (length P.atoms) (length P.nodes)
 right-whole e P r =
     let A : ℕ = length P.operators in
     let B : ℕ = length P.atoms in
     let C : ℕ = length P.nodes in
-    let F : List ℕ = fileWordsIn e P in
+    let F : List ℕ = file_words_in e P in
     let L : length F ≡ end_in e A B C = long e P r in
-    let ro : operatorsIn e F A ≡ P.operators = (operators-stand e P r).read in
-    let ra : atomsIn e F A B ≡ P.atoms = (atoms-stand e P r).read in
-    let rn : nodesIn e F A B C ≡ P.nodes = (nodes-stand e P r).read in
+    let ro : operators_in e F A ≡ P.operators = (operators-stand e P r).read in
+    let ra : atoms_in e F A B ≡ P.atoms = (atoms-stand e P r).read in
+    let rn : nodes_in e F A B C ≡ P.nodes = (nodes-stand e P r).read in
     record {
       header = begins e P r;
       operators = record { there = omega arith; count = (operators-stand e P r).count; least = r.some-operators; most = r.few-operators; whole = omega arith };
@@ -201,7 +201,7 @@ right-whole e P r =
 -- ACCEPTED EXACTLY WHEN THE PARTS ARE RIGHT AND LAWFUL
 pub parts-accepted : PartsAccepted
 parts-accepted e P r laws =
-    (accepted-as e (fileWordsIn e P) (layoutOfParts P)).1
+    (accepted-as e (file_words_in e P) (layout_of_parts P)).1
     (record { otherwise = right-whole e P r; lawful = subst (λ (Q : Parts). LawfulPartsIn e Q) (sym (parts-read e P r)) laws })
 
 pub accepted-parts : AcceptedParts

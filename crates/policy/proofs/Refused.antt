@@ -10,20 +10,20 @@ use lib.ListN.{get_or, length, drop}
 use Rattle.logic.specs.Lists.{All}
 use Rattle.words.proofs.Records.{length-records}
 use Rattle.words.specs.Records.{records}
-use Rattle.action.specs.Laws.{lawSearch, Shows}
+use Rattle.action.specs.Laws.{law_search, Shows}
 use Rattle.action.specs.declared.Lawful.{Lawful}
 use Rattle.action.specs.declared.Lawful.TheVariants.{Yes, Broken}
 use Rattle.action.proofs.Exact.{search-exact, search-shows}
-use Rattle.section.specs.Numbers.{latest, headerLengthIn, operatorLengthIn, mostAtoms, mostChildren, deepest, short, wrongCount, wrongCell, wrongMatch}
-use Rattle.section.specs.Numbers.{wrongAction, wrongNode, extraWords, noTree, wrongSum, lawBroken}
+use Rattle.section.specs.Numbers.{latest, header_length_in, operator_length_in, most_atoms, most_children, deepest, short, wrong_count, wrong_cell, wrong_match}
+use Rattle.section.specs.Numbers.{wrong_action, wrong_node, extra_words, no_tree, wrong_sum, law_broken}
 use Rattle.refusal.specs.Plain.{plain}
-use Rattle.section.specs.Sections.{unless, ◌else◌, each, recordLength, least, most, headerFault, countFault, cellFault, cellsFault, atomFault}
-use Rattle.section.specs.Sections.{nodeFault, recordFault, behind, sectionFault, inner_of, parent_of, siblingOf, own_of, childrenOf}
-use Rattle.whole.specs.Whole.{waitingNodes, oneLess, shape, shapeFault, ownAtoms, sumFault, named, broken, operatorFault, lawsFault}
-use Rattle.policy.specs.Read.{atomsAtIn, nodesAtIn, end_in, operatorsIn, nodesIn, extraFault, wholeStages, stages, layout, answer, readAs}
-use Rattle.section.specs.Atom.{rightAtomMatch, rightAtomAction}
-use Rattle.section.specs.Cells.{rightCellIn, operatorRows}
-use Rattle.whole.specs.Meaning.{operatorAt}
+use Rattle.section.specs.Sections.{unless, ◌else◌, each, record_length, least, most, header_fault, count_fault, cell_fault, cells_fault, atom_fault}
+use Rattle.section.specs.Sections.{node_fault, record_fault, behind, section_fault, inner_of, parent_of, sibling_of, own_of, children_of}
+use Rattle.whole.specs.Whole.{waiting_nodes, one_less, shape, shape_fault, own_atoms, sum_fault, named, broken, operator_fault, laws_fault}
+use Rattle.policy.specs.Read.{atoms_at_in, nodes_at_in, end_in, operators_in, nodes_in, extra_fault, whole_stages, stages, layout, answer, read_as}
+use Rattle.section.specs.Atom.{right_atom_match, right_atom_action}
+use Rattle.section.specs.Cells.{right_cell_in, operator_rows}
+use Rattle.whole.specs.Meaning.{operator_at}
 use Rattle.policy.specs.WellFormed.{OtherwiseIn}
 use Rattle.policy.specs.Theorems.{RefusedLawAs, RefusedLaw, BrokenRefusedAs, BrokenRefused, RefusedPlainAs, RefusedPlain}
 use Rattle.section.specs.declared.Edition.{Edition}
@@ -43,7 +43,7 @@ use Rattle.action.specs.Operator.{cells_of}
 
 -- a refusal that names no law, with a number from 1 to 9
 abbrev PlainRefusal : Refusal → Type 0
-PlainRefusal r = (1 ≤ r.number) × (r.number < lawBroken) × (r ≡ plain r.number r.place)
+PlainRefusal r = (1 ≤ r.number) × (r.number < law_broken) × (r ≡ plain r.number r.place)
 
 -- a test whose refusals are such
 record Plain (t : Test) : Type 0 where
@@ -52,10 +52,10 @@ record Plain (t : Test) : Type 0 where
 passed-plain : Plain Passed
 passed-plain = record { only = λ r e. let z : ◌≡◌ {A = ℕ} 0 1 = cc in absurd (omega arith) }
 
-failed-plain : (n at : ℕ) → 1 ≤ n → n < lawBroken → Plain (Failed (plain n at))
+failed-plain : (n at : ℕ) → 1 ≤ n → n < law_broken → Plain (Failed (plain n at))
 failed-plain n at h k = record { only = λ r e. let q : r ≡ plain n at = cc in rw q (h, k, refl) }
 
-unless-plain : (b : Bool) (n at : ℕ) → 1 ≤ n → n < lawBroken → Plain (unless b n at)
+unless-plain : (b : Bool) (n at : ℕ) → 1 ≤ n → n < law_broken → Plain (unless b n at)
 unless-plain true n at h k = passed-plain
 unless-plain false n at h k = failed-plain n at h k
 
@@ -67,44 +67,44 @@ each-plain : {X : Type 0} (t : ℕ → X → Test) (at k : ℕ) (xs : List X) �
 each-plain t at k [] h = passed-plain
 each-plain t at k (x ∷ xs) h = else-plain (t at x) (each t (at + k) k xs) (h at x) (each-plain t (at + k) k xs h)
 
-record-plain : (s : Section) (at : ℕ) (r : List ℕ) → Plain (recordFault s at r)
-unfolding cellsFault atomFault nodeFault
+record-plain : (s : Section) (at : ℕ) (r : List ℕ) → Plain (record_fault s at r)
+unfolding cells_fault atom_fault node_fault
 record-plain (Operators e) at r =
-    each-plain (cellFault e at) 0 1 r (λ j c. unless-plain (rightCellIn e j c) wrongCell (at + j) (omega arith) (omega arith))
+    each-plain (cell_fault e at) 0 1 r (λ j c. unless-plain (right_cell_in e j c) wrong_cell (at + j) (omega arith) (omega arith))
 record-plain (Atoms e) at r =
-    else-plain (unless (rightAtomMatch e r) wrongMatch at) (unless (rightAtomAction e r) wrongAction at)
-    (unless-plain (rightAtomMatch e r) wrongMatch at (omega arith) (omega arith))
-    (unless-plain (rightAtomAction e r) wrongAction at (omega arith) (omega arith))
+    else-plain (unless (right_atom_match e r) wrong_match at) (unless (right_atom_action e r) wrong_action at)
+    (unless-plain (right_atom_match e r) wrong_match at (omega arith) (omega arith))
+    (unless-plain (right_atom_action e r) wrong_action at (omega arith) (omega arith))
 record-plain (Nodes n) at r =
-    unless-plain (ltb (inner_of r) n && ltb (parent_of r) n && ltb (siblingOf r) n && leb (own_of r) mostAtoms && leb (childrenOf r) mostChildren) wrongNode at
+    unless-plain (ltb (inner_of r) n && ltb (parent_of r) n && ltb (sibling_of r) n && leb (own_of r) most_atoms && leb (children_of r) most_children) wrong_node at
     (omega arith) (omega arith)
 
-header-plain : (e : Edition) (f : List ℕ) → Plain (headerFault e f)
+header-plain : (e : Edition) (f : List ℕ) → Plain (header_fault e f)
 header-plain First f = passed-plain
 
-section-plain : (f : List ℕ) (at : ℕ) (s : Section) → Plain (sectionFault f at s)
-unfolding sectionFault countFault
+section-plain : (f : List ℕ) (at : ℕ) (s : Section) → Plain (section_fault f at s)
+unfolding section_fault count_fault
 section-plain f at s =
     let n : ℕ = get_or f at 0 in
-    let k : ℕ = recordLength s in
+    let k : ℕ = record_length s in
     let there : Test = unless (ltb at (length f)) short (length f) in
-    let limits : Test = unless (leb (least s) n && leb n (most s)) wrongCount at in
+    let limits : Test = unless (leb (least s) n && leb n (most s)) wrong_count at in
     let whole : Test = unless (leb (behind at s n) (length f)) short (length f) in
-    let all : Test = each (recordFault s) (at + 1) k (records n k (drop (at + 1) f)) in
+    let all : Test = each (record_fault s) (at + 1) k (records n k (drop (at + 1) f)) in
     else-plain (◌else◌ there limits) (◌else◌ whole all)
     (else-plain there limits (unless-plain (ltb at (length f)) short (length f) (omega arith) (omega arith))
-    (unless-plain (leb (least s) n && leb n (most s)) wrongCount at (omega arith) (omega arith)))
+    (unless-plain (leb (least s) n && leb n (most s)) wrong_count at (omega arith) (omega arith)))
     (else-plain whole all (unless-plain (leb (behind at s n) (length f)) short (length f) (omega arith) (omega arith))
-    (each-plain (recordFault s) (at + 1) k (records n k (drop (at + 1) f)) (record-plain s)))
+    (each-plain (record_fault s) (at + 1) k (records n k (drop (at + 1) f)) (record-plain s)))
 
 shape-plain : (ks st : List ℕ) (i : ℕ) → Plain (shape ks st i)
-shape-plain [] st i = unless-plain (eqb (length (waitingNodes st)) 0) noTree i (omega arith) (omega arith)
+shape-plain [] st i = unless-plain (eqb (length (waiting_nodes st)) 0) no_tree i (omega arith) (omega arith)
 shape-plain (k ∷ ks) st i =
-    go (leb 1 (length (waitingNodes st)) && leb (length (waitingNodes st)) deepest) (shape-plain ks (k ∷ oneLess (waitingNodes st)) (suc i))
+    go (leb 1 (length (waiting_nodes st)) && leb (length (waiting_nodes st)) deepest) (shape-plain ks (k ∷ one_less (waiting_nodes st)) (suc i))
   where
-    go : (b : Bool) {t : Test} → Plain t → Plain (cond b t (Failed (plain noTree i)))
+    go : (b : Bool) {t : Test} → Plain t → Plain (cond b t (Failed (plain no_tree i)))
     go true p = p
-    go false p = failed-plain noTree i (omega arith) (omega arith)
+    go false p = failed-plain no_tree i (omega arith) (omega arith)
 
 -- of stages with plain refusals and one more, the answer is plain, or all but the last are passed
 first-refusal : (ts : List Test) (u : Test) (l : Layout) (r : Refusal) → All Plain ts → answer (ts ++ (u ∷ [])) l ≡ Refused r
@@ -118,20 +118,20 @@ first-refusal (Failed s ∷ ts) u l r p e = inl (p.0.only r (cc))
 module _ (e : Edition) (f : List ℕ) (a b c : ℕ) where
   -- the stages before the laws refuse plainly
   before-plain : All Plain (before e f a b c)
-  unfolding shapeFault sumFault
+  unfolding shape_fault sum_fault
   before-plain = (
     header-plain e f,
     (
-      section-plain f (headerLengthIn e) (Operators e),
+      section-plain f (header_length_in e) (Operators e),
       (
-        section-plain f (atomsAtIn e a) (Atoms e),
+        section-plain f (atoms_at_in e a) (Atoms e),
         (
-          section-plain f (nodesAtIn e a b) (Nodes a),
+          section-plain f (nodes_at_in e a b) (Nodes a),
           (
-            unless-plain (leb (length f) (end_in e a b c)) extraWords (end_in e a b c) (omega arith) (omega arith),
+            unless-plain (leb (length f) (end_in e a b c)) extra_words (end_in e a b c) (omega arith) (omega arith),
             (
-              shape-plain (map childrenOf (nodesIn e f a b c)) (1 ∷ []) 0,
-              (unless-plain (eqb (ownAtoms (nodesIn e f a b c)) b) wrongSum 0 (omega arith) (omega arith), tt),
+              shape-plain (map children_of (nodes_in e f a b c)) (1 ∷ []) 0,
+              (unless-plain (eqb (own_atoms (nodes_in e f a b c)) b) wrong_sum 0 (omega arith) (omega arith), tt),
             ),
           ),
         ),
@@ -140,10 +140,10 @@ module _ (e : Edition) (f : List ℕ) (a b c : ℕ) where
   )
 
   laws : Test
-  laws = lawsFault (nodesIn e f a b c) (operatorRows e (operatorsIn e f a))
+  laws = laws_fault (nodes_in e f a b c) (operator_rows e (operators_in e f a))
 
   split : (r : Refusal) → answer (stages e f a b c) (layout a b c) ≡ Refused r → PlainRefusal r ⊎ (Stages e f a b c × (laws ≡ Failed r))
-  unfolding stages wholeStages laws
+  unfolding stages whole_stages laws
   split r g =
       ⊎_elim
       (λ h. inl h)
@@ -153,54 +153,54 @@ module _ (e : Edition) (f : List ℕ) (a b c : ℕ) where
 -- what the refusal of the operator i shows: it is named and breaks a law
 record Found (ns : List (List ℕ)) (i : ℕ) (o : List ℕ) (r : Refusal) : Type 0 where
   used : named i ns ≡ true
-  number : r.number ≡ lawBroken
+  number : r.number ≡ law_broken
   place : r.place ≡ i
   shows : Shows (cells_of o) r.law r.first r.second r.third
 
-found : (ns : List (List ℕ)) (i : ℕ) (o : List ℕ) (r : Refusal) → operatorFault ns i o ≡ Failed r → Found ns i o r
-unfolding operatorFault
+found : (ns : List (List ℕ)) (i : ℕ) (o : List ℕ) (r : Refusal) → operator_fault ns i o ≡ Failed r → Found ns i o r
+unfolding operator_fault
 found ns i o r e =
     by-test (named i ns)
-    (λ t. searched (lawSearch (cells_of o)) t refl (rw t at e))
+    (λ t. searched (law_search (cells_of o)) t refl (rw t at e))
     (λ t. let k : Passed ≡ Failed r = rw t at e in let z : ◌≡◌ {A = ℕ} 0 1 = cc in absurd (omega arith))
   where
-    searched : (x : Lawful) → named i ns ≡ true → lawSearch (cells_of o) ≡ x → broken i x ≡ Failed r → Found ns i o r
+    searched : (x : Lawful) → named i ns ≡ true → law_search (cells_of o) ≡ x → broken i x ≡ Failed r → Found ns i o r
     searched Yes t p g = let z : ◌≡◌ {A = ℕ} 0 1 = cc in absurd (omega arith)
     searched (Broken l a b c) t p g =
-        let q : r ≡ record { number = lawBroken; place = i; law = l; first = a; second = b; third = c } = cc in
+        let q : r ≡ record { number = law_broken; place = i; law = l; first = a; second = b; third = c } = cc in
         rw q (record { used = t; number = refl; place = refl; shows = search-shows (cells_of o) l a b c p })
 
 -- the laws are refused with the first operator that is
-first-broken : (ns os : List (List ℕ)) (r : Refusal) → lawsFault ns os ≡ Failed r
-    → (i : ℕ) × FirstFault [] (operatorFault ns) 1 0 os i r × Found ns i (get_or os i []) r
-unfolding lawsFault
+first-broken : (ns os : List (List ℕ)) (r : Refusal) → laws_fault ns os ≡ Failed r
+    → (i : ℕ) × FirstFault [] (operator_fault ns) 1 0 os i r × Found ns i (get_or os i []) r
+unfolding laws_fault
 first-broken ns os r e =
-    let f = each_first [] (operatorFault ns) 1 0 os r e in
+    let f = each_first [] (operator_fault ns) 1 0 os r e in
     (f.0, f.1, found ns f.0 (get_or os f.0 []) r (f.1.fails f.0 (omega arith)))
 
 -- EVERY REFUSAL BUT THE LAST STAGE'S IS PLAIN
 pub refused-plain-as : RefusedPlainAs
-unfolding readAs laws
+unfolding read_as laws
 refused-plain-as e f r g n =
-    let a : ℕ = get_or f (headerLengthIn e) 0 in
-    let b : ℕ = get_or f (atomsAtIn e a) 0 in
-    let c : ℕ = get_or f (nodesAtIn e a b) 0 in
+    let a : ℕ = get_or f (header_length_in e) 0 in
+    let b : ℕ = get_or f (atoms_at_in e a) 0 in
+    let c : ℕ = get_or f (nodes_at_in e a b) 0 in
     ⊎_elim
     (λ h. h)
-    (λ h. absurd (n (first-broken (nodesIn e f a b c) (operatorRows e (operatorsIn e f a)) r h.1).2.number))
+    (λ h. absurd (n (first-broken (nodes_in e f a b c) (operator_rows e (operators_in e f a)) r h.1).2.number))
     (split e f a b c r g)
 
 -- THE LAST STAGE'S SHOWS A BROKEN LAW
 pub refused-law-as : RefusedLawAs
-unfolding readAs laws
+unfolding read_as laws
 refused-law-as e f r g n =
-    let a : ℕ = get_or f (headerLengthIn e) 0 in
-    let b : ℕ = get_or f (atomsAtIn e a) 0 in
-    let c : ℕ = get_or f (nodesAtIn e a b) 0 in
-    let raw : List (List ℕ) = operatorsIn e f a in
-    let os : List (List ℕ) = operatorRows e raw in
-    let counted : length raw ≡ a = length-records a (operatorLengthIn e) (drop (headerLengthIn e + 1) f) in
-    let ns : List (List ℕ) = nodesIn e f a b c in
+    let a : ℕ = get_or f (header_length_in e) 0 in
+    let b : ℕ = get_or f (atoms_at_in e a) 0 in
+    let c : ℕ = get_or f (nodes_at_in e a b) 0 in
+    let raw : List (List ℕ) = operators_in e f a in
+    let os : List (List ℕ) = operator_rows e raw in
+    let counted : length raw ≡ a = length-records a (operator_length_in e) (drop (header_length_in e + 1) f) in
+    let ns : List (List ℕ) = nodes_in e f a b c in
     ⊎_elim
     (λ h. absurd (omega (arith, h.1)))
     (λ h.
@@ -217,7 +217,7 @@ refused-law-as e f r g n =
       used = rw z w.2.used;
       shows = rw z w.2.shows;
       first-such = λ i l t.
-          (search-exact (operatorAt os i) (right-operators e raw a counted o.cells i (omega (arith, w.1.within)))).0
+          (search-exact (operator_at os i) (right-operators e raw a counted o.cells i (omega (arith, w.1.within)))).0
           (passed-search ns i (get_or os i []) (w.1.before i (omega arith) i (omega arith)) t);
     })
     (split e f a b c r g)
@@ -230,15 +230,15 @@ last-answer (Failed r) l n = (r, refl, refl)
 
 -- A BROKEN LAW IS REFUSED
 pub broken-refused-as : BrokenRefusedAs
-unfolding readAs stages wholeStages answer
+unfolding read_as stages whole_stages answer
 broken-refused-as e f a b c o n =
-    let raw : List (List ℕ) = operatorsIn e f a in
-    let os : List (List ℕ) = operatorRows e raw in
-    let counted : length raw ≡ a = length-records a (operatorLengthIn e) (drop (headerLengthIn e + 1) f) in
-    let ns : List (List ℕ) = nodesIn e f a b c in
+    let raw : List (List ℕ) = operators_in e f a in
+    let os : List (List ℕ) = operator_rows e raw in
+    let counted : length raw ≡ a = length-records a (operator_length_in e) (drop (header_length_in e + 1) f) in
+    let ns : List (List ℕ) = nodes_in e f a b c in
     let s : Stages e f a b c = of-otherwise e f a b c o in
-    let w : (r : Refusal) × (answer (lawsFault ns os ∷ []) (layout a b c) ≡ Refused r) × (lawsFault ns os ≡ Failed r) =
-    last-answer (lawsFault ns os) (layout a b c)
+    let w : (r : Refusal) × (answer (laws_fault ns os ∷ []) (layout a b c) ≡ Refused r) × (laws_fault ns os ≡ Failed r) =
+    last-answer (laws_fault ns os) (layout a b c)
     (λ p. n (laws-kept a os ns (operators-many e raw ∙ counted) (right-operators e raw a counted o.cells)
     (λ i h. o.right-nodes i (rw length-records at h)) p)) in (
       w.0,

@@ -2,11 +2,11 @@
 -- docs/FORMAT.md, "The policy file".
 --
 --   PolicyNode, PolicyTree   a node with its operators' cells and its atoms; a tree of such nodes
---   atomsOfIn, atomsOf       the atoms of a file of an edition, each a match and an action; of the newest
+--   atoms_of_in, atoms_of       the atoms of a file of an edition, each a match and an action; of the newest
 --   held                     the nodes, each with its own atoms, taken from where the node before it stopped
---   fileNodesIn, fileNodes   the nodes of a file
---   treeIn, tree_of           the tree that they are
---   allAtoms                 the atoms of some nodes, one node's behind the other's
+--   file_nodes_in, file_nodes   the nodes of a file
+--   tree_in, tree_of           the tree that they are
+--   all_atoms                 the atoms of some nodes, one node's behind the other's
 use Rattle.std.specs.Prelude.{ℕ, List, [], ◌∷◌, ◌++◌, map, take, drop}
 use Rattle.theory.specs.Rows.{Row}
 use Rattle.theory.specs.Tree.{Tree, Forest, node, bare, ◌▸◌, Node}
@@ -15,13 +15,13 @@ use Rattle.row.specs.Row.{row_of}
 use Rattle.flow.specs.declared.Match.{Match}
 use Rattle.action.specs.declared.Action.{Action}
 use Rattle.section.specs.Numbers.{latest}
-use Rattle.section.specs.Atom.{atomRow}
-use Rattle.section.specs.Cells.{operatorRows}
-use Rattle.section.specs.Sections.{inner_of, parent_of, siblingOf, own_of, childrenOf}
-use Rattle.policy.specs.Read.{operatorsIn, atomsIn, nodesIn}
+use Rattle.section.specs.Atom.{atom_row}
+use Rattle.section.specs.Cells.{operator_rows}
+use Rattle.section.specs.Sections.{inner_of, parent_of, sibling_of, own_of, children_of}
+use Rattle.policy.specs.Read.{operators_in, atoms_in, nodes_in}
 use Rattle.section.specs.declared.Edition.{Edition}
 use Rattle.policy.specs.declared.Layout.{Layout}
-use Rattle.whole.specs.Meaning.{operatorAt}
+use Rattle.whole.specs.Meaning.{operator_at}
 
 -- a node: its operators, each by its cells, and its atoms
 abbrev pub PolicyNode : Type 0
@@ -34,47 +34,47 @@ PolicyTree = Tree PolicyNode
 -- a node, with its atoms off the front of those that are left
 abbrev pub node_of : List (List ℕ) → List (Row Match Action) → List ℕ → PolicyNode
 node_of os xs r = record {
-  inner = operatorAt os (inner_of r);
-  parent = operatorAt os (parent_of r);
-  sibling = operatorAt os (siblingOf r);
+  inner = operator_at os (inner_of r);
+  parent = operator_at os (parent_of r);
+  sibling = operator_at os (sibling_of r);
   atoms = take (own_of r) xs;
 }
 
 -- the nodes in order: each takes its atoms from where the node before it stopped
 abbrev pub held : List (List ℕ) → List (Row Match Action) → List (List ℕ) → List (Listed PolicyNode)
 held os xs [] = []
-held os xs (r ∷ rs) = record { what = node_of os xs r; childCount = childrenOf r } ∷ held os (drop (own_of r) xs) rs
+held os xs (r ∷ rs) = record { what = node_of os xs r; child_count = children_of r } ∷ held os (drop (own_of r) xs) rs
 
 -- the atoms of a file
-abbrev pub atomsOfIn : Edition → List ℕ → Layout → List (Row Match Action)
-atomsOfIn e f l = map (λ r. row_of (atomRow e r)) (atomsIn e f l.operators l.atoms)
+abbrev pub atoms_of_in : Edition → List ℕ → Layout → List (Row Match Action)
+atoms_of_in e f l = map (λ r. row_of (atom_row e r)) (atoms_in e f l.operators l.atoms)
 
 -- the nodes of a file
-abbrev pub fileNodesIn : Edition → List ℕ → Layout → List (Listed PolicyNode)
-fileNodesIn e f l =
-    held (operatorRows e (operatorsIn e f l.operators)) (atomsOfIn e f l)
-    (nodesIn e f l.operators l.atoms l.nodes)
+abbrev pub file_nodes_in : Edition → List ℕ → Layout → List (Listed PolicyNode)
+file_nodes_in e f l =
+    held (operator_rows e (operators_in e f l.operators)) (atoms_of_in e f l)
+    (nodes_in e f l.operators l.atoms l.nodes)
 
 -- the first tree of a forest; a forest without trees has none, and a node that holds nothing stands for it
-abbrev pub firstTree : Forest PolicyNode → PolicyTree
-firstTree bare = node (record { inner = []; parent = []; sibling = []; atoms = [] }) bare
-firstTree (t ▸ ts) = t
+abbrev pub first_tree : Forest PolicyNode → PolicyTree
+first_tree bare = node (record { inner = []; parent = []; sibling = []; atoms = [] }) bare
+first_tree (t ▸ ts) = t
 
 -- the tree that the nodes of a file are
-abbrev pub treeIn : Edition → List ℕ → Layout → PolicyTree
-treeIn e f l = firstTree (plant (fileNodesIn e f l))
+abbrev pub tree_in : Edition → List ℕ → Layout → PolicyTree
+tree_in e f l = first_tree (plant (file_nodes_in e f l))
 
 -- the same for the newest edition
-abbrev pub atomsOf : List ℕ → Layout → List (Row Match Action)
-atomsOf f l = atomsOfIn latest f l
+abbrev pub atoms_of : List ℕ → Layout → List (Row Match Action)
+atoms_of f l = atoms_of_in latest f l
 
-abbrev pub fileNodes : List ℕ → Layout → List (Listed PolicyNode)
-fileNodes f l = fileNodesIn latest f l
+abbrev pub file_nodes : List ℕ → Layout → List (Listed PolicyNode)
+file_nodes f l = file_nodes_in latest f l
 
 abbrev pub tree_of : List ℕ → Layout → PolicyTree
-tree_of f l = treeIn latest f l
+tree_of f l = tree_in latest f l
 
 -- the atoms of some nodes, one node's behind the other's
-abbrev pub allAtoms : List (Listed PolicyNode) → List (Row Match Action)
-allAtoms [] = []
-allAtoms (n ∷ ns) = n.what.atoms ++ allAtoms ns
+abbrev pub all_atoms : List (Listed PolicyNode) → List (Row Match Action)
+all_atoms [] = []
+all_atoms (n ∷ ns) = n.what.atoms ++ all_atoms ns

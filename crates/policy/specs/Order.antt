@@ -1,20 +1,20 @@
 -- Which of the refusals 1 to 9 a file gets where several could be given, and at which place, in the words of the format
--- and not by the stages of `readAs`: "Reading goes section by section: count, then the whole section present, then
+-- and not by the stages of `read_as`: "Reading goes section by section: count, then the whole section present, then
 -- records in order (4 before 5); then 7, 8, 9, 10. In 8, nodes go in order: first whether the tree had already ended,
 -- then depth." What is due to a section stands in the crate section, specs/Due.antt, and what place a tree has for a
 -- node in the crate whole. See docs/FORMAT.md, "The policy file" and "Numbers a caller can get back".
 --
---   childCountsIn            the child counts of the nodes of a file of an edition
+--   child_counts_in            the child counts of the nodes of a file of an edition
 --   GoodSections             the header and all three sections are good
 --   Due e f n at             the refusal n at a place is due to the file f of the edition e
 --   FileOrder                a file of any edition gets the refusal that is due
 use Rattle.std.specs.Prelude.{ℕ, ◌<◌, ◌≡◌, false, List, map, ◌↔◌, length}
-use Rattle.section.specs.Numbers.{headerLengthIn, extraWords, noTree, wrongSum}
+use Rattle.section.specs.Numbers.{header_length_in, extra_words, no_tree, wrong_sum}
 use Rattle.refusal.specs.Plain.{plain}
-use Rattle.section.specs.Sections.{childrenOf}
-use Rattle.whole.specs.Whole.{ownAtoms}
-use Rattle.policy.specs.Read.{readAs, atomsAtIn, nodesAtIn, end_in, nodesIn}
-use Rattle.policy.specs.File.{fileNodesIn}
+use Rattle.section.specs.Sections.{children_of}
+use Rattle.whole.specs.Whole.{own_atoms}
+use Rattle.policy.specs.Read.{read_as, atoms_at_in, nodes_at_in, end_in, nodes_in}
+use Rattle.policy.specs.File.{file_nodes_in}
 use Rattle.section.specs.Due.{RightHeader, FirstWrong, Good, SectionDue, HeaderDue}
 use Rattle.whole.specs.Meaning.{OneTree, ended, HasPlace}
 use Rattle.policy.specs.WellFormed.{OtherwiseIn}
@@ -23,43 +23,43 @@ use Rattle.policy.specs.declared.Reading.TheVariants.{Refused}
 use Rattle.section.specs.declared.Section.TheVariants.{Operators, Atoms, Nodes}
 
 -- the child counts of the nodes of a file of an edition
-abbrev pub childCountsIn : Edition → List ℕ → ℕ → ℕ → ℕ → List ℕ
-childCountsIn e f a b c = map childrenOf (nodesIn e f a b c)
+abbrev pub child_counts_in : Edition → List ℕ → ℕ → ℕ → ℕ → List ℕ
+child_counts_in e f a b c = map children_of (nodes_in e f a b c)
 
 -- the header and all three sections are good: a operators, b atoms and c nodes
 pub record GoodSections (e : Edition) (f : List ℕ) (a b c : ℕ) : Type 0 where
   pub header : RightHeader e f
-  pub operators : Good f (headerLengthIn e) (Operators e) a
-  pub atoms : Good f (atomsAtIn e a) (Atoms e) b
-  pub nodes : Good f (nodesAtIn e a b) (Nodes a) c
+  pub operators : Good f (header_length_in e) (Operators e) a
+  pub atoms : Good f (atoms_at_in e a) (Atoms e) b
+  pub nodes : Good f (nodes_at_in e a b) (Nodes a) c
 
 -- WHICH REFUSAL IS DUE to a file of an edition: its number and its place
 pub data Due (e : Edition) (f : List ℕ) : ℕ → ℕ → Type 0 where
   in-header : {n at : ℕ} → HeaderDue e f n at → Due e f n at
   -- "Reading goes section by section": a section's refusal, where the header and the sections before it are good
-  in-operators : {n at : ℕ} → RightHeader e f → SectionDue f (headerLengthIn e) (Operators e) n at → Due e f n at
-  in-atoms : {a n at : ℕ} → RightHeader e f → Good f (headerLengthIn e) (Operators e) a
-      → SectionDue f (atomsAtIn e a) (Atoms e) n at → Due e f n at
-  in-nodes : {a b n at : ℕ} → RightHeader e f → Good f (headerLengthIn e) (Operators e) a
-      → Good f (atomsAtIn e a) (Atoms e) b → SectionDue f (nodesAtIn e a b) (Nodes a) n at → Due e f n at
+  in-operators : {n at : ℕ} → RightHeader e f → SectionDue f (header_length_in e) (Operators e) n at → Due e f n at
+  in-atoms : {a n at : ℕ} → RightHeader e f → Good f (header_length_in e) (Operators e) a
+      → SectionDue f (atoms_at_in e a) (Atoms e) n at → Due e f n at
+  in-nodes : {a b n at : ℕ} → RightHeader e f → Good f (header_length_in e) (Operators e) a
+      → Good f (atoms_at_in e a) (Atoms e) b → SectionDue f (nodes_at_in e a b) (Nodes a) n at → Due e f n at
   -- "then 7": words after the last node; the first of them
-  extra : {a b c : ℕ} → GoodSections e f a b c → end_in e a b c < length f → Due e f extraWords (end_in e a b c)
+  extra : {a b c : ℕ} → GoodSections e f a b c → end_in e a b c < length f → Due e f extra_words (end_in e a b c)
   -- "8": the first node that the tree has no place for; its index
   no_place : {a b c i : ℕ} → GoodSections e f a b c → length f ≡ end_in e a b c
-      → FirstWrong (HasPlace (childCountsIn e f a b c)) c i → Due e f noTree i
+      → FirstWrong (HasPlace (child_counts_in e f a b c)) c i → Due e f no_tree i
   -- every node has its place and children are missing; the node count
   missing : {a b c : ℕ} → GoodSections e f a b c → length f ≡ end_in e a b c
-      → ((i : ℕ) → i < c → HasPlace (childCountsIn e f a b c) i) → ended (childCountsIn e f a b c) ≡ false
-      → Due e f noTree c
+      → ((i : ℕ) → i < c → HasPlace (child_counts_in e f a b c) i) → ended (child_counts_in e f a b c) ≡ false
+      → Due e f no_tree c
   -- "9": the nodes are one tree, and their own-atom counts do not add up to the atoms; place 0
   sum : {a b c : ℕ} → GoodSections e f a b c → length f ≡ end_in e a b c
-      → OneTree (fileNodesIn e f (record { operators = a; atoms = b; nodes = c }))
-      → ¬ (ownAtoms (nodesIn e f a b c) ≡ b) → Due e f wrongSum 0
+      → OneTree (file_nodes_in e f (record { operators = a; atoms = b; nodes = c }))
+      → ¬ (own_atoms (nodes_in e f a b c) ≡ b) → Due e f wrong_sum 0
 
 -- THE ORDER OF REFUSALS 1 TO 9, in a file of any edition (file-order)
 pub record FileOrder : Type 0 where
   -- a file gets the refusal that is due, and without a law none but that
-  pub due : (e : Edition) (f : List ℕ) (n at : ℕ) → (readAs e f ≡ Refused (plain n at)) ↔ Due e f n at
+  pub due : (e : Edition) (f : List ℕ) (n at : ℕ) → (read_as e f ≡ Refused (plain n at)) ↔ Due e f n at
   -- "10" comes last: where none of these is due the file is well formed but for the laws
   pub last : (e : Edition) (f : List ℕ) → ((n at : ℕ) → ¬ Due e f n at)
       → (a : ℕ) × (b : ℕ) × (c : ℕ) × OtherwiseIn e f a b c

@@ -2,9 +2,9 @@
 -- count and then its records. What changes a file in its parts needs no places.
 --
 --   Parts              the operators, atoms and nodes of a policy, each by its words
---   fileWordsIn e P    the file that they make
+--   file_words_in e P    the file that they make
 --   parts_in e f l      the parts of a file of a layout
---   layoutOfParts P    how many there are of each
+--   layout_of_parts P    how many there are of each
 --   EachLong k rs      each record has k words
 --   RightPartsIn e P   the parts are right, but for the laws
 --   LawfulPartsIn e P  the operators keep the laws where nodes name them as inner or sibling
@@ -12,12 +12,12 @@ use Rattle.std.specs.Prelude.{ℕ, ◌≤◌, ◌<◌, ◌≡◌, true, List, []
 use Rattle.logic.specs.Lists.{All}
 use Rattle.words.specs.Records.{flat}
 use Rattle.row.specs.Row.{row_of}
-use Rattle.section.specs.Numbers.{headerOf, operatorLengthIn, atomLengthIn, nodeLength}
-use Rattle.section.specs.Numbers.{mostOperators, mostAtoms, mostNodes}
-use Rattle.section.specs.Atom.{atomRow, rightAtomMatch, rightAtomAction}
-use Rattle.section.specs.Cells.{rightCellIn, operatorRows}
-use Rattle.whole.specs.Whole.{ownAtoms}
-use Rattle.policy.specs.Read.{operatorsIn, atomsIn, nodesIn, layout}
+use Rattle.section.specs.Numbers.{header_of, operator_length_in, atom_length_in, node_length}
+use Rattle.section.specs.Numbers.{most_operators, most_atoms, most_nodes}
+use Rattle.section.specs.Atom.{atom_row, right_atom_match, right_atom_action}
+use Rattle.section.specs.Cells.{right_cell_in, operator_rows}
+use Rattle.whole.specs.Whole.{own_atoms}
+use Rattle.policy.specs.Read.{operators_in, atoms_in, nodes_in, layout}
 use Rattle.policy.specs.File.{held}
 use Rattle.whole.specs.Meaning.{OneTree, LawsKept}
 use Rattle.section.specs.Due.{RightNode}
@@ -31,28 +31,28 @@ pub record Parts : Type 0 where
   pub nodes : List (List ℕ)
 
 -- the words of some records
-abbrev pub recordWords : List (List ℕ) → List ℕ
-recordWords rs = flat (λ r. r) rs
+abbrev pub record_words : List (List ℕ) → List ℕ
+record_words rs = flat (λ r. r) rs
 
 -- a section: its count, its records, and what stands behind
-abbrev pub sectionWords : List (List ℕ) → List ℕ → List ℕ
-sectionWords rs rest = length rs ∷ (recordWords rs ++ rest)
+abbrev pub section_words : List (List ℕ) → List ℕ → List ℕ
+section_words rs rest = length rs ∷ (record_words rs ++ rest)
 
 -- the file that some parts make
-abbrev pub fileWordsIn : Edition → Parts → List ℕ
-fileWordsIn e P = headerOf e ++ sectionWords P.operators (sectionWords P.atoms (sectionWords P.nodes []))
+abbrev pub file_words_in : Edition → Parts → List ℕ
+file_words_in e P = header_of e ++ section_words P.operators (section_words P.atoms (section_words P.nodes []))
 
 -- the parts of a file
 abbrev pub parts_in : Edition → List ℕ → Layout → Parts
 parts_in e f l = record {
-  operators = operatorsIn e f l.operators;
-  atoms = atomsIn e f l.operators l.atoms;
-  nodes = nodesIn e f l.operators l.atoms l.nodes;
+  operators = operators_in e f l.operators;
+  atoms = atoms_in e f l.operators l.atoms;
+  nodes = nodes_in e f l.operators l.atoms l.nodes;
 }
 
 -- how many there are of each
-abbrev pub layoutOfParts : Parts → Layout
-layoutOfParts P = layout (length P.operators) (length P.atoms) (length P.nodes)
+abbrev pub layout_of_parts : Parts → Layout
+layout_of_parts P = layout (length P.operators) (length P.atoms) (length P.nodes)
 
 -- each record has k words
 abbrev pub EachLong : ℕ → List (List ℕ) → Type 0
@@ -60,22 +60,22 @@ EachLong k rs = All (λ r. length r ≡ k) rs
 
 -- right parts, but for the laws
 pub record RightPartsIn (e : Edition) (P : Parts) : Type 0 where
-  pub operators-long : EachLong (operatorLengthIn e) P.operators
-  pub atoms-long : EachLong (atomLengthIn e) P.atoms
-  pub nodes-long : EachLong nodeLength P.nodes
+  pub operators-long : EachLong (operator_length_in e) P.operators
+  pub atoms-long : EachLong (atom_length_in e) P.atoms
+  pub nodes-long : EachLong node_length P.nodes
   pub some-operators : 1 ≤ length P.operators
-  pub few-operators : length P.operators ≤ mostOperators
-  pub few-atoms : length P.atoms ≤ mostAtoms
+  pub few-operators : length P.operators ≤ most_operators
+  pub few-atoms : length P.atoms ≤ most_atoms
   pub some-nodes : 1 ≤ length P.nodes
-  pub few-nodes : length P.nodes ≤ mostNodes
-  pub cells : (i j : ℕ) → i < length P.operators → j < operatorLengthIn e
-      → rightCellIn e j (get_or (get_or P.operators i []) j 0) ≡ true
-  pub matches : (i : ℕ) → i < length P.atoms → rightAtomMatch e (get_or P.atoms i []) ≡ true
-  pub actions : (i : ℕ) → i < length P.atoms → rightAtomAction e (get_or P.atoms i []) ≡ true
+  pub few-nodes : length P.nodes ≤ most_nodes
+  pub cells : (i j : ℕ) → i < length P.operators → j < operator_length_in e
+      → right_cell_in e j (get_or (get_or P.operators i []) j 0) ≡ true
+  pub matches : (i : ℕ) → i < length P.atoms → right_atom_match e (get_or P.atoms i []) ≡ true
+  pub actions : (i : ℕ) → i < length P.atoms → right_atom_action e (get_or P.atoms i []) ≡ true
   pub right-nodes : (i : ℕ) → i < length P.nodes → RightNode (length P.operators) (get_or P.nodes i [])
-  pub one-tree : OneTree (held (operatorRows e P.operators) (map (λ r. row_of (atomRow e r)) P.atoms) P.nodes)
-  pub all-taken : ownAtoms P.nodes ≡ length P.atoms
+  pub one-tree : OneTree (held (operator_rows e P.operators) (map (λ r. row_of (atom_row e r)) P.atoms) P.nodes)
+  pub all-taken : own_atoms P.nodes ≡ length P.atoms
 
 -- the operators keep the laws where nodes name them as inner or sibling
 abbrev pub LawfulPartsIn : Edition → Parts → Type 0
-LawfulPartsIn e P = LawsKept (operatorRows e P.operators) P.nodes
+LawfulPartsIn e P = LawsKept (operator_rows e P.operators) P.nodes

@@ -2,16 +2,16 @@
 -- stages, or the layout.
 -- See docs/FORMAT.md, "The policy file" and "Numbers a caller can get back".
 --
---   extraFault             no words stand behind the last node (7)
---   wholeStages            once the sections are good: the end, the tree, the sum and the laws
+--   extra_fault             no words stand behind the last node (7)
+--   whole_stages            once the sections are good: the end, the tree, the sum and the laws
 --   stages, answer         all stages in order
---   readAs, read_of         the answer, for an edition and for the newest
---   readRefusal               the answer's number, place, law and actions
+--   read_as, read_of         the answer, for an edition and for the newest
+--   read_refusal               the answer's number, place, law and actions
 use Rattle.std.specs.Prelude.{ℕ, ◌+◌, List, [], ◌∷◌, leb, get_or, length, drop}
 use Rattle.words.specs.Records.{records}
-use Rattle.section.specs.Numbers.{latest, headerLengthIn, operatorLengthIn, atomLengthIn, nodeLength}
-use Rattle.section.specs.Numbers.{extraWords}
-use Rattle.section.specs.Cells.{operatorRows}
+use Rattle.section.specs.Numbers.{latest, header_length_in, operator_length_in, atom_length_in, node_length}
+use Rattle.section.specs.Numbers.{extra_words}
+use Rattle.section.specs.Cells.{operator_rows}
 use Rattle.section.specs.declared.Edition.{Edition}
 use Rattle.policy.specs.declared.Layout.{Layout}
 use Rattle.policy.specs.declared.Reading.{Reading}
@@ -20,75 +20,75 @@ use Rattle.refusal.specs.declared.Refusal.{Refusal}
 use Rattle.section.specs.declared.Section.TheVariants.{Operators, Atoms, Nodes}
 use Rattle.section.specs.declared.Test.{Test}
 use Rattle.section.specs.declared.Test.TheVariants.{Passed, Failed}
-use Rattle.section.specs.Sections.{unless, headerFault, sectionFault, behind}
+use Rattle.section.specs.Sections.{unless, header_fault, section_fault, behind}
 use Rattle.refusal.specs.Plain.{plain}
-use Rattle.whole.specs.Whole.{shapeFault, sumFault, lawsFault}
+use Rattle.whole.specs.Whole.{shape_fault, sum_fault, laws_fault}
 
 -- where the count of the atoms stands in a file of a operators
-abbrev pub atomsAtIn : Edition → ℕ → ℕ
-atomsAtIn e a = behind (headerLengthIn e) (Operators e) a
+abbrev pub atoms_at_in : Edition → ℕ → ℕ
+atoms_at_in e a = behind (header_length_in e) (Operators e) a
 
 -- where the count of the nodes stands in a file of a operators and b atoms
-abbrev pub nodesAtIn : Edition → ℕ → ℕ → ℕ
-nodesAtIn e a b = behind (atomsAtIn e a) (Atoms e) b
+abbrev pub nodes_at_in : Edition → ℕ → ℕ → ℕ
+nodes_at_in e a b = behind (atoms_at_in e a) (Atoms e) b
 
 -- where a file of a operators, b atoms and c nodes ends
 abbrev pub end_in : Edition → ℕ → ℕ → ℕ → ℕ
-end_in e a b c = behind (nodesAtIn e a b) (Nodes a) c
+end_in e a b c = behind (nodes_at_in e a b) (Nodes a) c
 
 -- the operators of a file, each by its words
-abbrev pub operatorsIn : Edition → List ℕ → ℕ → List (List ℕ)
-operatorsIn e f a = records a (operatorLengthIn e) (drop (headerLengthIn e + 1) f)
+abbrev pub operators_in : Edition → List ℕ → ℕ → List (List ℕ)
+operators_in e f a = records a (operator_length_in e) (drop (header_length_in e + 1) f)
 
 -- the atoms
-abbrev pub atomsIn : Edition → List ℕ → ℕ → ℕ → List (List ℕ)
-atomsIn e f a b = records b (atomLengthIn e) (drop (atomsAtIn e a + 1) f)
+abbrev pub atoms_in : Edition → List ℕ → ℕ → ℕ → List (List ℕ)
+atoms_in e f a b = records b (atom_length_in e) (drop (atoms_at_in e a + 1) f)
 
 -- the nodes
-abbrev pub nodesIn : Edition → List ℕ → ℕ → ℕ → ℕ → List (List ℕ)
-nodesIn e f a b c = records c nodeLength (drop (nodesAtIn e a b + 1) f)
+abbrev pub nodes_in : Edition → List ℕ → ℕ → ℕ → ℕ → List (List ℕ)
+nodes_in e f a b c = records c node_length (drop (nodes_at_in e a b + 1) f)
 
 -- the same for the newest edition
 abbrev pub atoms_at : ℕ → ℕ
-atoms_at a = atomsAtIn latest a
+atoms_at a = atoms_at_in latest a
 
-abbrev pub nodesAt : ℕ → ℕ → ℕ
-nodesAt a b = nodesAtIn latest a b
+abbrev pub nodes_at : ℕ → ℕ → ℕ
+nodes_at a b = nodes_at_in latest a b
 
 abbrev pub end_of : ℕ → ℕ → ℕ → ℕ
 end_of a b c = end_in latest a b c
 
-abbrev pub operatorRecords : List ℕ → ℕ → List (List ℕ)
-operatorRecords f a = operatorsIn latest f a
+abbrev pub operator_records : List ℕ → ℕ → List (List ℕ)
+operator_records f a = operators_in latest f a
 
-abbrev pub atomRecords : List ℕ → ℕ → ℕ → List (List ℕ)
-atomRecords f a b = atomsIn latest f a b
+abbrev pub atom_records : List ℕ → ℕ → ℕ → List (List ℕ)
+atom_records f a b = atoms_in latest f a b
 
-abbrev pub nodeRecords : List ℕ → ℕ → ℕ → ℕ → List (List ℕ)
-nodeRecords f a b c = nodesIn latest f a b c
+abbrev pub node_records : List ℕ → ℕ → ℕ → ℕ → List (List ℕ)
+node_records f a b c = nodes_in latest f a b c
 
 -- no words stand behind the end of a file
-abbrev pub extraFault : List ℕ → ℕ → Test
-extraFault f end = unless (leb (length f) end) extraWords end
+abbrev pub extra_fault : List ℕ → ℕ → Test
+extra_fault f end = unless (leb (length f) end) extra_words end
 
 -- what is tested once all three sections are good: the count of the operators stands at h, that of the nodes at q
-unfoldable pub wholeStages : Edition → List ℕ → ℕ → ℕ → ℕ → ℕ → ℕ → List Test
-wholeStages e f h a b c q =
-    let ns : List (List ℕ) = records c nodeLength (drop (q + 1) f) in
-    extraFault f (behind q (Nodes a) c)
-    ∷ shapeFault ns
-    ∷ sumFault ns b
-    ∷ lawsFault ns (operatorRows e (records a (operatorLengthIn e) (drop (h + 1) f)))
+unfoldable pub whole_stages : Edition → List ℕ → ℕ → ℕ → ℕ → ℕ → ℕ → List Test
+whole_stages e f h a b c q =
+    let ns : List (List ℕ) = records c node_length (drop (q + 1) f) in
+    extra_fault f (behind q (Nodes a) c)
+    ∷ shape_fault ns
+    ∷ sum_fault ns b
+    ∷ laws_fault ns (operator_rows e (records a (operator_length_in e) (drop (h + 1) f)))
     ∷ []
 
 -- the stages of reading a file of a operators, b atoms and c nodes, in order
 unfoldable pub stages : Edition → List ℕ → ℕ → ℕ → ℕ → List Test
 stages e f a b c =
-    headerFault e f
-    ∷ sectionFault f (headerLengthIn e) (Operators e)
-    ∷ sectionFault f (atomsAtIn e a) (Atoms e)
-    ∷ sectionFault f (nodesAtIn e a b) (Nodes a)
-    ∷ wholeStages e f (headerLengthIn e) a b c (nodesAtIn e a b)
+    header_fault e f
+    ∷ section_fault f (header_length_in e) (Operators e)
+    ∷ section_fault f (atoms_at_in e a) (Atoms e)
+    ∷ section_fault f (nodes_at_in e a b) (Nodes a)
+    ∷ whole_stages e f (header_length_in e) a b c (nodes_at_in e a b)
 
 -- the layout of a file of a operators, b atoms and c nodes
 abbrev pub layout : ℕ → ℕ → ℕ → Layout
@@ -101,18 +101,18 @@ answer (Passed ∷ ts) l = answer ts l
 answer (Failed r ∷ ts) l = Refused r
 
 -- WHAT READING ANSWERS, for each edition: the three counts are the words that stand in their places
-unfoldable pub readAs : Edition → List ℕ → Reading
-readAs e f =
-    let a : ℕ = get_or f (headerLengthIn e) 0 in
-    let b : ℕ = get_or f (atomsAtIn e a) 0 in
-    let c : ℕ = get_or f (nodesAtIn e a b) 0 in
+unfoldable pub read_as : Edition → List ℕ → Reading
+read_as e f =
+    let a : ℕ = get_or f (header_length_in e) 0 in
+    let b : ℕ = get_or f (atoms_at_in e a) 0 in
+    let c : ℕ = get_or f (nodes_at_in e a b) 0 in
     answer (stages e f a b c) (layout a b c)
 
 -- for the newest edition
 abbrev pub read_of : List ℕ → Reading
-read_of f = readAs latest f
+read_of f = read_as latest f
 
 -- the number, place, law and actions of an answer: 0, 0, no law and three don't cares where the file is accepted
-abbrev pub readRefusal : Reading → Refusal
-readRefusal (Accepted l) = plain 0 0
-readRefusal (Refused r) = r
+abbrev pub read_refusal : Reading → Refusal
+read_refusal (Accepted l) = plain 0 0
+read_refusal (Refused r) = r

@@ -10,17 +10,17 @@
 --   PartsWhole, PartsRead                  a file is what its parts make, and has the parts that it is made of
 use Rattle.std.specs.Prelude.{ℕ, ◌≤◌, ◌<◌, ◌≡◌, true, List, ◌↔◌}
 use Rattle.theory.specs.Tree.{bare, ◌▸◌}
-use Rattle.theory.specs.Nodes.{plant, listTree}
+use Rattle.theory.specs.Nodes.{plant, list_tree}
 use Rattle.action.specs.Laws.{Shows}
-use Rattle.section.specs.Numbers.{latest, deepest, lawBroken}
-use Rattle.policy.specs.Read.{operatorsIn, nodesIn, operatorRecords, nodeRecords, layout, readAs, read_of}
+use Rattle.section.specs.Numbers.{latest, deepest, law_broken}
+use Rattle.policy.specs.Read.{operators_in, nodes_in, operator_records, node_records, layout, read_as, read_of}
 use Rattle.whole.specs.Whole.{named}
 use Rattle.refusal.specs.Plain.{plain}
-use Rattle.section.specs.Cells.{operatorRows}
-use Rattle.whole.specs.Meaning.{operatorAt, depth, LawsKept, KeepsLaws}
-use Rattle.policy.specs.File.{atomsOf, fileNodes, tree_of, allAtoms}
+use Rattle.section.specs.Cells.{operator_rows}
+use Rattle.whole.specs.Meaning.{operator_at, depth, LawsKept, KeepsLaws}
+use Rattle.policy.specs.File.{atoms_of, file_nodes, tree_of, all_atoms}
 use Rattle.policy.specs.WellFormed.{OtherwiseIn, Otherwise, WellFormedIn, WellFormed}
-use Rattle.policy.specs.Parts.{Parts, fileWordsIn, parts_in, layoutOfParts, RightPartsIn, LawfulPartsIn}
+use Rattle.policy.specs.Parts.{Parts, file_words_in, parts_in, layout_of_parts, RightPartsIn, LawfulPartsIn}
 use Rattle.section.specs.declared.Edition.{Edition}
 use Rattle.policy.specs.declared.Layout.{Layout}
 use Rattle.policy.specs.declared.Reading.TheVariants.{Accepted, Refused}
@@ -28,15 +28,15 @@ use Rattle.refusal.specs.declared.Refusal.{Refusal}
 
 -- a file is accepted exactly when it is well formed (accepted-as, accepted-exactly)
 abbrev pub AcceptedAs : Type 0
-AcceptedAs = (e : Edition) (f : List ℕ) (l : Layout) → (readAs e f ≡ Accepted l) ↔ WellFormedIn e f l
+AcceptedAs = (e : Edition) (f : List ℕ) (l : Layout) → (read_as e f ≡ Accepted l) ↔ WellFormedIn e f l
 
 abbrev pub AcceptedExactly : Type 0
 AcceptedExactly = (f : List ℕ) (l : Layout) → (read_of f ≡ Accepted l) ↔ WellFormed f l
 
 -- the nodes of an accepted file are one tree, and that tree's nodes in file order are the file's (accepted-tree)
 pub record FileTree (f : List ℕ) (l : Layout) : Type 0 where
-  pub planted : plant (fileNodes f l) ≡ tree_of f l ▸ bare
-  pub lists : listTree (tree_of f l) ≡ fileNodes f l
+  pub planted : plant (file_nodes f l) ≡ tree_of f l ▸ bare
+  pub lists : list_tree (tree_of f l) ≡ file_nodes f l
   pub shallow : depth (tree_of f l) ≤ deepest
 
 abbrev pub AcceptedTree : Type 0
@@ -45,7 +45,7 @@ AcceptedTree = (f : List ℕ) (l : Layout) → read_of f ≡ Accepted l → File
 -- every atom of an accepted file belongs to exactly one node: the nodes' atoms, one node's behind the other's, are the
 -- file's (accepted-atoms)
 abbrev pub AcceptedAtoms : Type 0
-AcceptedAtoms = (f : List ℕ) (l : Layout) → read_of f ≡ Accepted l → allAtoms (fileNodes f l) ≡ atomsOf f l
+AcceptedAtoms = (f : List ℕ) (l : Layout) → read_of f ≡ Accepted l → all_atoms (file_nodes f l) ≡ atoms_of f l
 
 -- a file otherwise well formed, in which the operator that a refusal names by its place is used inside a node or
 -- between siblings and breaks the law that it names, at the actions that it shows; the operators before it that are
@@ -56,11 +56,11 @@ pub record BrokenLawIn (e : Edition) (f : List ℕ) (r : Refusal) : Type 0 where
   pub nodes : ℕ
   pub otherwise : OtherwiseIn e f operators atoms nodes
   pub within : r.place < operators
-  pub used : named r.place (nodesIn e f operators atoms nodes) ≡ true
-  pub shows : Shows (operatorAt (operatorRows e (operatorsIn e f operators)) r.place) r.law r.first r.second
+  pub used : named r.place (nodes_in e f operators atoms nodes) ≡ true
+  pub shows : Shows (operator_at (operator_rows e (operators_in e f operators)) r.place) r.law r.first r.second
       r.third
-  pub first-such : (i : ℕ) → i < r.place → named i (nodesIn e f operators atoms nodes) ≡ true
-      → KeepsLaws (operatorAt (operatorRows e (operatorsIn e f operators)) i)
+  pub first-such : (i : ℕ) → i < r.place → named i (nodes_in e f operators atoms nodes) ≡ true
+      → KeepsLaws (operator_at (operator_rows e (operators_in e f operators)) i)
 
 abbrev pub BrokenLaw : List ℕ → Refusal → Type 0
 BrokenLaw f r = BrokenLawIn latest f r
@@ -68,45 +68,45 @@ BrokenLaw f r = BrokenLawIn latest f r
 -- the refusal for a broken law says so (refused-law-as, refused-law), and is given wherever one is broken in a file
 -- otherwise well formed (broken-refused-as, broken-refused)
 abbrev pub RefusedLawAs : Type 0
-RefusedLawAs = (e : Edition) (f : List ℕ) (r : Refusal) → readAs e f ≡ Refused r → r.number ≡ lawBroken
+RefusedLawAs = (e : Edition) (f : List ℕ) (r : Refusal) → read_as e f ≡ Refused r → r.number ≡ law_broken
     → BrokenLawIn e f r
 
 abbrev pub RefusedLaw : Type 0
-RefusedLaw = (f : List ℕ) (r : Refusal) → read_of f ≡ Refused r → r.number ≡ lawBroken → BrokenLaw f r
+RefusedLaw = (f : List ℕ) (r : Refusal) → read_of f ≡ Refused r → r.number ≡ law_broken → BrokenLaw f r
 
 abbrev pub BrokenRefusedAs : Type 0
 BrokenRefusedAs = (e : Edition) (f : List ℕ) (a b c : ℕ) → OtherwiseIn e f a b c
-    → ¬ LawsKept (operatorRows e (operatorsIn e f a)) (nodesIn e f a b c)
-    → (r : Refusal) × (readAs e f ≡ Refused r) × (r.number ≡ lawBroken)
+    → ¬ LawsKept (operator_rows e (operators_in e f a)) (nodes_in e f a b c)
+    → (r : Refusal) × (read_as e f ≡ Refused r) × (r.number ≡ law_broken)
 
 abbrev pub BrokenRefused : Type 0
-BrokenRefused = (f : List ℕ) (a b c : ℕ) → Otherwise f a b c → ¬ LawsKept (operatorRecords f a) (nodeRecords f a b c)
-    → (r : Refusal) × (read_of f ≡ Refused r) × (r.number ≡ lawBroken)
+BrokenRefused = (f : List ℕ) (a b c : ℕ) → Otherwise f a b c → ¬ LawsKept (operator_records f a) (node_records f a b c)
+    → (r : Refusal) × (read_of f ≡ Refused r) × (r.number ≡ law_broken)
 
 -- every other refusal has a number below it, and names no law and three don't cares (refused-plain-as, refused-plain)
 abbrev pub RefusedPlainAs : Type 0
-RefusedPlainAs = (e : Edition) (f : List ℕ) (r : Refusal) → readAs e f ≡ Refused r → ¬ (r.number ≡ lawBroken)
-    → (1 ≤ r.number) × (r.number < lawBroken) × (r ≡ plain r.number r.place)
+RefusedPlainAs = (e : Edition) (f : List ℕ) (r : Refusal) → read_as e f ≡ Refused r → ¬ (r.number ≡ law_broken)
+    → (1 ≤ r.number) × (r.number < law_broken) × (r ≡ plain r.number r.place)
 
 abbrev pub RefusedPlain : Type 0
-RefusedPlain = (f : List ℕ) (r : Refusal) → read_of f ≡ Refused r → ¬ (r.number ≡ lawBroken)
-    → (1 ≤ r.number) × (r.number < lawBroken) × (r ≡ plain r.number r.place)
+RefusedPlain = (f : List ℕ) (r : Refusal) → read_of f ≡ Refused r → ¬ (r.number ≡ law_broken)
+    → (1 ≤ r.number) × (r.number < law_broken) × (r ≡ plain r.number r.place)
 
 -- the file that right and lawful parts make is accepted, with their layout (parts-accepted)
 abbrev pub PartsAccepted : Type 0
 PartsAccepted = (e : Edition) (P : Parts) → RightPartsIn e P → LawfulPartsIn e P
-    → readAs e (fileWordsIn e P) ≡ Accepted (layoutOfParts P)
+    → read_as e (file_words_in e P) ≡ Accepted (layout_of_parts P)
 
 -- and an accepted file's parts are right and lawful (accepted-parts)
 abbrev pub AcceptedParts : Type 0
-AcceptedParts = (e : Edition) (f : List ℕ) (l : Layout) → readAs e f ≡ Accepted l
+AcceptedParts = (e : Edition) (f : List ℕ) (l : Layout) → read_as e f ≡ Accepted l
     → RightPartsIn e (parts_in e f l) × LawfulPartsIn e (parts_in e f l)
 
 -- a file well formed but for the laws is what its parts make (parts-whole)
 abbrev pub PartsWhole : Type 0
 PartsWhole = (e : Edition) (f : List ℕ) (a b c : ℕ) → OtherwiseIn e f a b c
-    → fileWordsIn e (parts_in e f (layout a b c)) ≡ f
+    → file_words_in e (parts_in e f (layout a b c)) ≡ f
 
 -- and the file that right parts make has these parts (parts-read)
 abbrev pub PartsRead : Type 0
-PartsRead = (e : Edition) (P : Parts) → RightPartsIn e P → parts_in e (fileWordsIn e P) (layoutOfParts P) ≡ P
+PartsRead = (e : Edition) (P : Parts) → RightPartsIn e P → parts_in e (file_words_in e P) (layout_of_parts P) ≡ P

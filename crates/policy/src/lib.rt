@@ -1,10 +1,10 @@
 // Reading a policy file: every list of words gets its layout or one refusal.
 ghost use Rattle.std.specs.Prelude.{◌≡◌, ◌≤◌, length};
-ghost use Rattle.section.specs.Numbers.{mostNodes};
+ghost use Rattle.section.specs.Numbers.{most_nodes};
 ghost use Rattle.section.specs.Sections.{behind};
-ghost use Rattle.policy.specs.Read.{extraFault, readAs, read_of};
+ghost use Rattle.policy.specs.Read.{extra_fault, read_as, read_of};
 ghost use Rattle.section.specs.Sections.{Reaches};
-ghost use Rattle.policy.specs.Steps.{withWhole, with_nodes, withAtoms, withOperators};
+ghost use Rattle.policy.specs.Steps.{with_whole, with_nodes, with_atoms, with_operators};
 
 use refusal::Refusal;
 use section::{
@@ -38,7 +38,7 @@ pub fn read(file: &[u32]) -> Reading
 // Reads a policy file of an edition: its header, section by section, then words after the last node, the tree, the
 // own-atom counts and the laws.
 pub fn read_as(file: &[u32], edition: Edition) -> Reading
-    ensures { result ≡ readAs edition file.now }
+    ensures { result ≡ read_as edition file.now }
 {
     let found = header_fault(file, edition);
     if let Test::Failed(r) = found {
@@ -50,7 +50,7 @@ pub fn read_as(file: &[u32], edition: Edition) -> Reading
 // The sections. The count of the operators stands at a place.
 fn read_operators(file: &[u32], edition: Edition, at: usize) -> Reading
     requires { at ≤ length file.now }
-    ensures { result ≡ withOperators edition file.now at }
+    ensures { result ≡ with_operators edition file.now at }
 {
     let section = Section::Operators(edition);
     let found = section_fault(file, at, section);
@@ -64,7 +64,7 @@ fn read_operators(file: &[u32], edition: Edition, at: usize) -> Reading
 // The second section and what follows it, in a file of a operators, whose count stands at h.
 fn read_atoms(file: &[u32], edition: Edition, h: usize, a: usize, at: usize) -> Reading
     requires { Reaches edition file.now h a at }
-    ensures { result ≡ withAtoms edition file.now h a at }
+    ensures { result ≡ with_atoms edition file.now h a at }
 {
     let section = Section::Atoms(edition);
     let found = section_fault(file, at, section);
@@ -97,8 +97,8 @@ fn read_whole(
     c: usize,
     at: usize,
 ) -> Reading
-    requires { (c ≤ mostNodes) × Reaches edition file.now h a (behind at (Section.Nodes a) c) }
-    ensures { result ≡ withWhole edition file.now h a b c at }
+    requires { (c ≤ most_nodes) × Reaches edition file.now h a (behind at (Section.Nodes a) c) }
+    ensures { result ≡ with_whole edition file.now h a b c at }
 {
     let first = at + 1;
     let extra = extra_fault(file, at, a, c);
@@ -127,7 +127,7 @@ fn read_whole(
 // Words after the last of c nodes, in a file of a operators.
 fn extra_fault(file: &[u32], at: usize, a: usize, c: usize) -> Test
     requires { behind at (Section.Nodes a) c ≤ length file.now }
-    ensures { result ≡ extraFault file.now (behind at (Section.Nodes a) c) }
+    ensures { result ≡ extra_fault file.now (behind at (Section.Nodes a) c) }
 {
     let end = behind(at, Section::Nodes(a), c);
     unless(file.len() <= end, EXTRA_WORDS, end)

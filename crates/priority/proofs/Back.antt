@@ -6,13 +6,13 @@ use mathlib.Core.Bool.{Bool, true, false, cond}
 use mathlib.Core.List.{List, [], ◌∷◌, ◌++◌}
 use lib.ListN.{get_or}
 use Rattle.logic.proofs.Tests.{by-test}
-use Rattle.theory.specs.Number.{above, levels, levelCount}
+use Rattle.theory.specs.Number.{above, levels, level_count}
 use Rattle.theory.proofs.Levels.{level-below, length-levels}
 use Rattle.flow.specs.Match.{overlap}
 use Rattle.flow.specs.declared.Match.{Match}
 use Rattle.table.specs.Table.{past}
 use Rattle.priority.specs.Numbering.{over}
-use Rattle.row.specs.Row.{rowsIn}
+use Rattle.row.specs.Row.{rows_in}
 
 -- what a row of a level makes of the best so far, by whether it overlaps
 pub raised-low : (best level : ℕ) (b : Bool) → level < best → best ≡ max best (cond b (suc level) 0)
@@ -41,8 +41,8 @@ above-last test ls i (suc k) h = let q : suc k - 1 ≡ k = omega arith in rw q
 
 -- the loop that goes back: a turn, its end, and where no row before can raise the best
 module _ (ws ls : List ℕ) (i j best w : ℕ) (inv : max best (above (over ws) ls i j) ≡ w) where
-  pub back-turn : 0 < j → (m : Match) → m ≡ (get_or (rowsIn ws) i past).match → (b : ℕ)
-      → b ≡ max best (cond (overlap (get_or (rowsIn ws) (j - 1) past).match m) (suc (get_or ls (j - 1) 0)) 0) → max b (above (over ws) ls i (j - 1)) ≡ w
+  pub back-turn : 0 < j → (m : Match) → m ≡ (get_or (rows_in ws) i past).match → (b : ℕ)
+      → b ≡ max best (cond (overlap (get_or (rows_in ws) (j - 1) past).match m) (suc (get_or ls (j - 1) 0)) 0) → max b (above (over ws) ls i (j - 1)) ≡ w
   unfolding over
   back-turn h m e b d =
       let y : ℕ = cond (over ws (j - 1) i) (suc (get_or ls (j - 1) 0)) 0 in
@@ -64,14 +64,14 @@ pub level-most : (ws ls : List ℕ) (i count l : ℕ) → ((j : ℕ) → j < i �
 level-most ws ls i count l f e = (e, rw e (above_most (over ws) ls i i count f))
 
 -- one level more, at the end of some levels
-pub count-snoc : (ls : List ℕ) (l : ℕ) → levelCount (ls ++ (l ∷ [])) ≡ max (levelCount ls) (l + 1)
+pub count-snoc : (ls : List ℕ) (l : ℕ) → level_count (ls ++ (l ∷ [])) ≡ max (level_count ls) (l + 1)
 count-snoc [] l = omega arith
 count-snoc (x ∷ ls) l = omega (arith, count-snoc ls l)
 
 -- there are no more levels than rows
-pub count-few : (test : ℕ → ℕ → Bool) (n : ℕ) → levelCount (levels test n) ≤ n
+pub count-few : (test : ℕ → ℕ → Bool) (n : ℕ) → level_count (levels test n) ≤ n
 count-few test zero = omega arith
 count-few test (suc n) =
     let ls : List ℕ = levels test n in
-    let h : above test ls n n ≤ levelCount ls = above_most test ls n n (levelCount ls) (λ j g. level-below ls j (omega (arith, length-levels test n))) in
+    let h : above test ls n n ≤ level_count ls = above_most test ls n n (level_count ls) (λ j g. level-below ls j (omega (arith, length-levels test n))) in
     omega (arith, count-snoc ls (above test ls n n), count-few test n)

@@ -5,10 +5,10 @@ use native.Mathlib.Numerals.{add-one}
 use mathlib.Core.Path.{◌≡◌, refl, sym, ap, ◌∙◌}
 use mathlib.Core.List.{List, [], ◌∷◌, ◌++◌, append-nil}
 use lib.ListN.{length, get_or, drop, set, length-set, drop_of_length-le, get_or-append}
-use Rattle.theory.specs.Number.{above, levels, levelCount}
+use Rattle.theory.specs.Number.{above, levels, level_count}
 use Rattle.theory.proofs.Levels.{above-prefix, level-below, length-levels}
-use Rattle.table.specs.Table.{rowCount}
-use Rattle.priority.specs.Numbering.{over, levelsOf}
+use Rattle.table.specs.Table.{row_count}
+use Rattle.priority.specs.Numbering.{over, levels_of}
 use Rattle.priority.proofs.Back.{count-snoc, count-few}
 use Rattle.priority.proofs.Stores.{store-next}
 
@@ -17,7 +17,7 @@ pub record Levelling (ws l₀ l : List ℕ) (i count : ℕ) : Type 0 where
   pub within : i ≤ length l
   pub same : length l ≡ length l₀
   pub done : l ≡ levels (over ws) i ++ drop i l₀
-  pub counted : count ≡ levelCount (levels (over ws) i)
+  pub counted : count ≡ level_count (levels (over ws) i)
   pub few : count ≤ i
 
 pub levelling-start : (ws l : List ℕ) → Levelling ws l l 0 0
@@ -44,8 +44,8 @@ module _ {ws l₀ l : List ℕ} {i count : ℕ} (g : Levelling ws l₀ l i count
         let n : length (set l i v) ≡ length l = length-set l i v in
         let more : levels (over ws) (i + 1) ≡ levels (over ws) i ++ (v ∷ []) =
         ap (levels (over ws)) (add-one i) ∙ ap (λ x. levels (over ws) i ++ (x ∷ [])) (sym next_level) in
-        let c' : c ≡ levelCount (levels (over ws) (i + 1)) =
-        d ∙ ap (λ x. max x (v + 1)) g.counted ∙ sym (count-snoc (levels (over ws) i) v) ∙ ap levelCount (sym more) in
+        let c' : c ≡ level_count (levels (over ws) (i + 1)) =
+        d ∙ ap (λ x. max x (v + 1)) g.counted ∙ sym (count-snoc (levels (over ws) i) v) ∙ ap level_count (sym more) in
         record {
           within = omega arith;
           same = n ∙ g.same;
@@ -56,11 +56,11 @@ module _ {ws l₀ l : List ℕ} {i count : ℕ} (g : Levelling ws l₀ l i count
           few = rw c' (count-few (over ws) (i + 1));
         }
 
-  pub levelling-end : length l₀ ≡ rowCount ws → length l ≤ i → (count ≡ levelCount (levelsOf ws)) × (l ≡ levelsOf ws)
-  unfolding levelsOf
+  pub levelling-end : length l₀ ≡ row_count ws → length l ≤ i → (count ≡ level_count (levels_of ws)) × (l ≡ levels_of ws)
+  unfolding levels_of
   levelling-end e h =
-      let q : i ≡ rowCount ws = omega (arith, g.within, g.same) in (
-        g.counted ∙ ap (λ n. levelCount (levels (over ws) n)) q,
+      let q : i ≡ row_count ws = omega (arith, g.within, g.same) in (
+        g.counted ∙ ap (λ n. level_count (levels (over ws) n)) q,
         g.done
             ∙ ap (λ x. levels (over ws) i ++ x) (drop_of_length-le l₀ {i = i} (omega arith))
             ∙ append-nil (levels (over ws) i)

@@ -8,12 +8,12 @@ use mathlib.Core.List.{List}
 use lib.Dec.{eqb}
 use lib.ListN.{get_or}
 use Rattle.logic.proofs.Tests.{by-test}
-use Rattle.theory.specs.Number.{seek, overlapsAt}
+use Rattle.theory.specs.Number.{seek, overlaps_at}
 use Rattle.flow.specs.Match.{overlap}
 use Rattle.flow.specs.declared.Match.{Match}
 use Rattle.table.specs.Table.{past}
 use Rattle.priority.specs.Numbering.{over}
-use Rattle.row.specs.Row.{rowsIn}
+use Rattle.row.specs.Row.{rows_in}
 
 -- one place less is left
 seek-more : (test : ℕ → Bool) (n i : ℕ) → i < n → seek test (n - i) i ≡ cond (test i) i (seek test (n - (i + 1)) (i + 1))
@@ -40,7 +40,7 @@ seek-within test (suc n) at =
     by-test (test at) (λ t. rw t (omega arith)) (λ t. rw t (omega (arith, seek-within test n (suc at))))
 
 -- the test of a step back, as the loop makes it
-pub step-test : (ws ls : List ℕ) (i l j : ℕ) (m : Match) → m ≡ (get_or (rowsIn ws) i past).match → (b : Bool)
-    → b ≡ (overlap (get_or (rowsIn ws) j past).match m && eqb (get_or ls j 0) l) → overlapsAt (over ws) ls i l j ≡ b
+pub step-test : (ws ls : List ℕ) (i l j : ℕ) (m : Match) → m ≡ (get_or (rows_in ws) i past).match → (b : Bool)
+    → b ≡ (overlap (get_or (rows_in ws) j past).match m && eqb (get_or ls j 0) l) → overlaps_at (over ws) ls i l j ≡ b
 unfolding over
 step-test ws ls i l j m e b d = sym (rw e at d)

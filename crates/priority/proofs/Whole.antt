@@ -9,66 +9,66 @@ use lib.ListN.{length, get_or, drop, length-map}
 use borrow.Author.Tests.{leb-true}
 use Rattle.logic.proofs.Tests.{and_left, and_right}
 use Rattle.words.specs.Words.{laid}
-use Rattle.theory.specs.Number.{levelCount, chainUnder}
+use Rattle.theory.specs.Number.{level_count, chain_under}
 use Rattle.theory.proofs.Levels.{level-below, length-levels}
-use Rattle.table.specs.Table.{rowCount, checkOf, RightTable}
+use Rattle.table.specs.Table.{row_count, check_of, RightTable}
 use Rattle.table.specs.declared.Checked.{Checked}
 use Rattle.table.specs.declared.Checked.TheVariants.{Rows, Wrong}
 use Rattle.table.proofs.Tables.{check-exactly}
-use Rattle.priority.specs.Numbering.{shortBuffer, over, levelsOf, prioritiesOf, chainOf, number_of, prioritiesAfter, chainAfter, Answered}
+use Rattle.priority.specs.Numbering.{short_buffer, over, levels_of, priorities_of, chain_of, number_of, priorities_after, chain_after, Answered}
 use Rattle.priority.specs.declared.Numbered.TheVariants.{Priorities, Refused}
 use Rattle.priority.proofs.Back.{count-few}
 use Rattle.words.proofs.Laid.{laid-front}
 
 -- a level for each row, and no more levels than rows
-pub levels-many : (ws : List ℕ) → length (levelsOf ws) ≡ rowCount ws
-unfolding levelsOf
-levels-many ws = length-levels (over ws) (rowCount ws)
+pub levels-many : (ws : List ℕ) → length (levels_of ws) ≡ row_count ws
+unfolding levels_of
+levels-many ws = length-levels (over ws) (row_count ws)
 
-pub levels-few : (ws : List ℕ) → levelCount (levelsOf ws) ≤ rowCount ws
-unfolding levelsOf
-levels-few ws = count-few (over ws) (rowCount ws)
+pub levels-few : (ws : List ℕ) → level_count (levels_of ws) ≤ row_count ws
+unfolding levels_of
+levels-few ws = count-few (over ws) (row_count ws)
 
 -- and a priority for each row
-pub priorities-many : (ws : List ℕ) → length (prioritiesOf ws) ≡ rowCount ws
-priorities-many ws = length-map (levelsOf ws) (λ l. levelCount (levelsOf ws) - l) ∙ levels-many ws
+pub priorities-many : (ws : List ℕ) → length (priorities_of ws) ≡ row_count ws
+priorities-many ws = length-map (levels_of ws) (λ l. level_count (levels_of ws) - l) ∙ levels-many ws
 
 -- what the levels that were stored are to the next steps
-module _ (ws ls : List ℕ) (count : ℕ) (e : count ≡ levelCount (levelsOf ws)) (d : ls ≡ levelsOf ws) where
-  pub stored-many : length ls ≡ rowCount ws
+module _ (ws ls : List ℕ) (count : ℕ) (e : count ≡ level_count (levels_of ws)) (d : ls ≡ levels_of ws) where
+  pub stored-many : length ls ≡ row_count ws
   stored-many = ap length d ∙ levels-many ws
 
-  pub stored-count : count ≡ levelCount ls
-  stored-count = e ∙ ap levelCount (sym d)
+  pub stored-count : count ≡ level_count ls
+  stored-count = e ∙ ap level_count (sym d)
 
-  pub stored-few : count ≤ rowCount ws
+  pub stored-few : count ≤ row_count ws
   stored-few = rw e (levels-few ws)
 
   pub stored-below : (j : ℕ) → j < length ls → get_or ls j 0 ≤ count
-  stored-below j h = rw (e, d) (let l : get_or (levelsOf ws) j 0 < levelCount (levelsOf ws) = level-below (levelsOf ws) j (rw (← d) h) in omega arith)
+  stored-below j h = rw (e, d) (let l : get_or (levels_of ws) j 0 < level_count (levels_of ws) = level-below (levels_of ws) j (rw (← d) h) in omega arith)
 
-  pub stored-priorities : (l : List ℕ) → l ≡ map (λ x. count - x) ls → l ≡ prioritiesOf ws
+  pub stored-priorities : (l : List ℕ) → l ≡ map (λ x. count - x) ls → l ≡ priorities_of ws
   stored-priorities l h = h ∙ ap₂ (λ n k. map (λ x. n - x) k) e d
 
-  pub stored-chain : (l l₀ : List ℕ) → l ≡ laid 0 (chainUnder (over ws) ls count) l₀ → l ≡ laid 0 (chainOf ws) l₀
-  stored-chain l l₀ h = h ∙ ap₂ (λ n k. laid 0 (chainUnder (over ws) k n) l₀) e d
+  pub stored-chain : (l l₀ : List ℕ) → l ≡ laid 0 (chain_under (over ws) ls count) l₀ → l ≡ laid 0 (chain_of ws) l₀
+  stored-chain l l₀ h = h ∙ ap₂ (λ n k. laid 0 (chain_under (over ws) k n) l₀) e d
 
 -- a table that is not right
-pub wrong-table : (ws ps cs : List ℕ) (x : Checked) → x ≡ checkOf ws → (n i : ℕ) → x ≡ Wrong n i → Answered ws ps cs (Refused n i) ps cs
-unfolding number_of prioritiesAfter chainAfter
+pub wrong-table : (ws ps cs : List ℕ) (x : Checked) → x ≡ check_of ws → (n i : ℕ) → x ≡ Wrong n i → Answered ws ps cs (Refused n i) ps cs
+unfolding number_of priorities_after chain_after
 wrong-table ws ps cs x e n i d = rw (← e, d) (refl, refl, refl)
 
 -- a right table, and its row count
-pub right-table : (ws : List ℕ) (x : Checked) → x ≡ checkOf ws → (n : ℕ) → x ≡ Rows n → RightTable ws × (n ≡ rowCount ws)
+pub right-table : (ws : List ℕ) (x : Checked) → x ≡ check_of ws → (n : ℕ) → x ≡ Rows n → RightTable ws × (n ≡ row_count ws)
 right-table ws x e n d = (check-exactly ws n).0 (sym e ∙ d)
 
-module _ (ws ps cs : List ℕ) (n : ℕ) (t : RightTable ws × (n ≡ rowCount ws)) where
-  passed : checkOf ws ≡ Rows n
+module _ (ws ps cs : List ℕ) (n : ℕ) (t : RightTable ws × (n ≡ row_count ws)) where
+  passed : check_of ws ≡ Rows n
   passed = (check-exactly ws n).1 t
 
   -- a buffer is too short
-  pub short-buffer : (leb n (length ps) && leb n (length cs)) ≡ false → Answered ws ps cs (Refused shortBuffer 0) ps cs
-  unfolding number_of prioritiesAfter chainAfter
+  pub short-buffer : (leb n (length ps) && leb n (length cs)) ≡ false → Answered ws ps cs (Refused short_buffer 0) ps cs
+  unfolding number_of priorities_after chain_after
   short-buffer h = rw (passed, h) (refl, refl, refl)
 
   module _ (h : (leb n (length ps) && leb n (length cs)) ≡ true) where
@@ -79,12 +79,12 @@ module _ (ws ps cs : List ℕ) (n : ℕ) (t : RightTable ws × (n ≡ rowCount w
       leb-true n (length cs) (and_right (leb n (length ps)) (leb n (length cs)) h),
     )
 
-    pub numbered-right : (count : ℕ) → count ≡ levelCount (levelsOf ws) → (out : List ℕ) → out ≡ prioritiesOf ws
-        → (cs' : List ℕ) → cs' ≡ laid 0 (chainOf ws) cs → Answered ws ps cs (Priorities count) (out ++ drop n ps) cs'
-    unfolding number_of prioritiesAfter chainAfter
+    pub numbered-right : (count : ℕ) → count ≡ level_count (levels_of ws) → (out : List ℕ) → out ≡ priorities_of ws
+        → (cs' : List ℕ) → cs' ≡ laid 0 (chain_of ws) cs → Answered ws ps cs (Priorities count) (out ++ drop n ps) cs'
+    unfolding number_of priorities_after chain_after
     numbered-right count e out d cs' f =
         rw (passed, h) (
           ap Priorities e,
-          ap (λ x. x ++ drop n ps) d ∙ sym (laid-front (prioritiesOf ws) ps n (priorities-many ws ∙ sym t.1) long-enough.0),
+          ap (λ x. x ++ drop n ps) d ∙ sym (laid-front (priorities_of ws) ps n (priorities-many ws ∙ sym t.1) long-enough.0),
           f,
         )

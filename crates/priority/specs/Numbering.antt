@@ -1,63 +1,63 @@
 -- The numbering of a table: its answer, and every word of both buffers after it. See docs/FORMAT.md, "Priorities" and
 -- "Numbers a caller can get back".
 --
---   shortBuffer                   the number of a buffer that is too short
+--   short_buffer                   the number of a buffer that is too short
 --   over ws j i                   whether rows j and i overlap
---   levelsOf ws                   the rows' levels
---   prioritiesOf ws               the rows' priorities
---   chainOf ws                    the chain
+--   levels_of ws                   the rows' levels
+--   priorities_of ws               the rows' priorities
+--   chain_of ws                    the chain
 --   numbered x p c l              the answer of l priorities, where the check x passes and the buffers are long enough
 --   number_of ws p c               the answer, for buffers of p and c words
 --   stored r F buffer             a buffer with the words F at its start, unless the answer r is a refusal
---   prioritiesAfter, chainAfter   the priority buffer and the chain buffer afterwards
+--   priorities_after, chain_after   the priority buffer and the chain buffer afterwards
 --   Answered                      the answer and both buffers, together
 --   NumbersFit ws ps cs           what the numbering of a table needs: a word for each row, and room for the chain
 --   LevelsBefore ws ls i count    what the level of row i needs: the levels of the rows before it, all below count
 --   ChainFits ws ls count cs      what the chain needs: the rows' levels, how many there are, and as many words
---   answerNumber, answerPlace     the number and the place of an answer; both are 0 where it is no refusal
---   answerCount                   how many priorities an answer counts; 0 where it is a refusal
+--   answer_number, answer_place     the number and the place of an answer; both are 0 where it is no refusal
+--   answer_count                   how many priorities an answer counts; 0 where it is a refusal
 --   Ready                         a right table, and neither buffer is shorter than its row count
 --   Shared ws j i                 some packet in range matches rows j and i
 --   count, priority i, link k     how many priorities, row i's priority and the k-th place of the chain afterwards
 use Rattle.std.specs.Prelude.{ℕ, ◌≤◌, ◌<◌, ◌≡◌, Bool, cond, ◌&&◌, List, leb, length, get_or}
 use Rattle.words.specs.Words.{laid}
-use Rattle.theory.specs.Number.{rowsOverlap, levels, levelCount, priorities, chain}
+use Rattle.theory.specs.Number.{rows_overlap, levels, level_count, priorities, chain}
 use Rattle.flow.specs.Match.{overlap, SharedPacket}
-use Rattle.row.specs.Row.{mostRows, rowsIn}
-use Rattle.table.specs.Table.{rowCount, past, checkOf, RightTable}
+use Rattle.row.specs.Row.{most_rows, rows_in}
+use Rattle.table.specs.Table.{row_count, past, check_of, RightTable}
 use Rattle.table.specs.declared.Checked.{Checked}
 use Rattle.table.specs.declared.Checked.TheVariants.{Rows, Wrong}
 use Rattle.priority.specs.declared.Numbered.{Numbered}
 use Rattle.priority.specs.declared.Numbered.TheVariants.{Priorities, Refused}
 
 -- the number of a buffer that is shorter than the row count
-abbrev pub shortBuffer : ℕ
-shortBuffer = 17
+abbrev pub short_buffer : ℕ
+short_buffer = 17
 
 -- whether rows j and i overlap
 unfoldable pub over : List ℕ → ℕ → ℕ → Bool
-over ws j i = rowsOverlap overlap past (rowsIn ws) j i
+over ws j i = rows_overlap overlap past (rows_in ws) j i
 
 -- the rows' levels
-unfoldable pub levelsOf : List ℕ → List ℕ
-levelsOf ws = levels (over ws) (rowCount ws)
+unfoldable pub levels_of : List ℕ → List ℕ
+levels_of ws = levels (over ws) (row_count ws)
 
 -- the rows' priorities
-abbrev pub prioritiesOf : List ℕ → List ℕ
-prioritiesOf ws = priorities (levelsOf ws)
+abbrev pub priorities_of : List ℕ → List ℕ
+priorities_of ws = priorities (levels_of ws)
 
 -- the chain
-abbrev pub chainOf : List ℕ → List ℕ
-chainOf ws = chain (over ws) (levelsOf ws)
+abbrev pub chain_of : List ℕ → List ℕ
+chain_of ws = chain (over ws) (levels_of ws)
 
 -- the answer of l priorities, where the table is right and neither buffer is shorter than the row count
 abbrev pub numbered : Checked → ℕ → ℕ → ℕ → Numbered
-numbered (Rows n) p c l = cond (leb n p && leb n c) (Priorities l) (Refused shortBuffer 0)
+numbered (Rows n) p c l = cond (leb n p && leb n c) (Priorities l) (Refused short_buffer 0)
 numbered (Wrong n i) p c l = Refused n i
 
 -- the answer, for buffers of p and c words
 unfoldable pub number_of : List ℕ → ℕ → ℕ → Numbered
-number_of ws p c = numbered (checkOf ws) p c (levelCount (levelsOf ws))
+number_of ws p c = numbered (check_of ws) p c (level_count (levels_of ws))
 
 -- words at the start of a buffer, unless the answer is a refusal; every other word stays
 abbrev pub stored : Numbered → List ℕ → List ℕ → List ℕ
@@ -65,66 +65,66 @@ stored (Priorities l) F buffer = laid 0 F buffer
 stored (Refused n i) F buffer = buffer
 
 -- the priority buffer afterwards
-unfoldable pub prioritiesAfter : List ℕ → List ℕ → List ℕ → List ℕ
-prioritiesAfter ws ps cs = stored (number_of ws (length ps) (length cs)) (prioritiesOf ws) ps
+unfoldable pub priorities_after : List ℕ → List ℕ → List ℕ → List ℕ
+priorities_after ws ps cs = stored (number_of ws (length ps) (length cs)) (priorities_of ws) ps
 
 -- the chain buffer afterwards
-unfoldable pub chainAfter : List ℕ → List ℕ → List ℕ → List ℕ
-chainAfter ws ps cs = stored (number_of ws (length ps) (length cs)) (chainOf ws) cs
+unfoldable pub chain_after : List ℕ → List ℕ → List ℕ → List ℕ
+chain_after ws ps cs = stored (number_of ws (length ps) (length cs)) (chain_of ws) cs
 
 -- what the numbering leaves: the answer, the priority buffer and the chain buffer
 abbrev pub Answered : List ℕ → List ℕ → List ℕ → Numbered → List ℕ → List ℕ → Type 0
 Answered ws ps cs r ps' cs' =
-    (r ≡ number_of ws (length ps) (length cs)) × (ps' ≡ prioritiesAfter ws ps cs) × (cs' ≡ chainAfter ws ps cs)
+    (r ≡ number_of ws (length ps) (length cs)) × (ps' ≡ priorities_after ws ps cs) × (cs' ≡ chain_after ws ps cs)
 
 -- a table of few enough rows, a word for each row's priority, and room for a chain of all rows
 abbrev pub NumbersFit : List ℕ → List ℕ → List ℕ → Type 0
-NumbersFit ws ps cs = (length ps ≡ rowCount ws) × (rowCount ws ≤ mostRows) × (rowCount ws ≤ length cs)
+NumbersFit ws ps cs = (length ps ≡ row_count ws) × (row_count ws ≤ most_rows) × (row_count ws ≤ length cs)
 
 -- i is a row, and the rows before it have levels below a count of levels, which is not too large
 abbrev pub LevelsBefore : List ℕ → List ℕ → ℕ → ℕ → Type 0
-LevelsBefore ws ls i count = (i < rowCount ws) × (i ≤ length ls) × (count ≤ mostRows)
+LevelsBefore ws ls i count = (i < row_count ws) × (i ≤ length ls) × (count ≤ most_rows)
     × ((j : ℕ) → j < i → get_or ls j 0 < count)
 
 -- each row of a table of few enough rows has its level, and there is room for as many places as there are levels
 abbrev pub ChainFits : List ℕ → List ℕ → ℕ → List ℕ → Type 0
-ChainFits ws ls count cs = (length ls ≡ rowCount ws) × (count ≡ levelCount ls) × (rowCount ws ≤ mostRows)
+ChainFits ws ls count cs = (length ls ≡ row_count ws) × (count ≡ level_count ls) × (row_count ws ≤ most_rows)
     × (count ≤ length cs)
 
 -- the number of an answer, 0 where it is no refusal
-abbrev pub answerNumber : Numbered → ℕ
-answerNumber (Priorities l) = 0
-answerNumber (Refused n i) = n
+abbrev pub answer_number : Numbered → ℕ
+answer_number (Priorities l) = 0
+answer_number (Refused n i) = n
 
 -- the place of an answer, 0 where it is no refusal
-abbrev pub answerPlace : Numbered → ℕ
-answerPlace (Priorities l) = 0
-answerPlace (Refused n i) = i
+abbrev pub answer_place : Numbered → ℕ
+answer_place (Priorities l) = 0
+answer_place (Refused n i) = i
 
 -- how many priorities an answer counts, 0 where it is a refusal
-abbrev pub answerCount : Numbered → ℕ
-answerCount (Priorities l) = l
-answerCount (Refused n i) = 0
+abbrev pub answer_count : Numbered → ℕ
+answer_count (Priorities l) = l
+answer_count (Refused n i) = 0
 
 -- a right table, and neither buffer is shorter than its row count
 pub record Ready (ws ps cs : List ℕ) : Type 0 where
   pub right : RightTable ws
-  pub priorities : rowCount ws ≤ length ps
-  pub chain : rowCount ws ≤ length cs
+  pub priorities : row_count ws ≤ length ps
+  pub chain : row_count ws ≤ length cs
 
 -- some packet in range matches rows j and i
 abbrev pub Shared : List ℕ → ℕ → ℕ → Type 0
-Shared ws j i = SharedPacket (get_or (rowsIn ws) j past).match (get_or (rowsIn ws) i past).match
+Shared ws j i = SharedPacket (get_or (rows_in ws) j past).match (get_or (rows_in ws) i past).match
 
 module _ (ws ps cs : List ℕ) where
   -- how many priorities the answer counts
   abbrev pub count : ℕ
-  count = answerCount (number_of ws (length ps) (length cs))
+  count = answer_count (number_of ws (length ps) (length cs))
 
   -- row i's priority
   abbrev pub priority : ℕ → ℕ
-  priority i = get_or (prioritiesAfter ws ps cs) i 0
+  priority i = get_or (priorities_after ws ps cs) i 0
 
   -- the k-th place of the chain
   abbrev pub link : ℕ → ℕ
-  link k = get_or (chainAfter ws ps cs) k 0
+  link k = get_or (chain_after ws ps cs) k 0

@@ -12,17 +12,17 @@
 --   WordsStay             the words beyond the priorities and beyond the chain stay, and so do the lengths
 --   RefusedStays          where the answer is a refusal, both buffers stay
 use Rattle.std.specs.Prelude.{ℕ, suc, ◌≤◌, ◌<◌, ◌≡◌, true, List, length, get_or, take, drop}
-use Rattle.theory.specs.Rows.{matchesAt}
+use Rattle.theory.specs.Rows.{matches_at}
 use Rattle.theory.specs.Number.{Chained, distinct, Obeyed}
-use Rattle.flow.specs.Packet.{packetOf, rightPacketWords}
+use Rattle.flow.specs.Packet.{packet_of, right_packet_words}
 use Rattle.flow.specs.Match.{meets}
 use Rattle.flow.specs.declared.Packet.{Packet}
-use Rattle.table.specs.Table.{rowCount, past}
-use Rattle.table.specs.Scan.{scanOf, scanAction}
-use Rattle.priority.specs.Numbering.{over, levelsOf, number_of, prioritiesAfter, chainAfter, Ready}
+use Rattle.table.specs.Table.{row_count, past}
+use Rattle.table.specs.Scan.{scan_of, scan_action}
+use Rattle.priority.specs.Numbering.{over, levels_of, number_of, priorities_after, chain_after, Ready}
 use Rattle.priority.specs.Numbering.{Shared, count, priority, link}
 use Rattle.priority.specs.declared.Numbered.TheVariants.{Priorities, Refused}
-use Rattle.row.specs.Row.{rowsIn}
+use Rattle.row.specs.Row.{rows_in}
 
 -- the answer is a count
 abbrev pub AnswerCounts : Type 0
@@ -31,52 +31,52 @@ AnswerCounts = (ws ps cs : List ℕ) → Ready ws ps cs → number_of ws (length
 -- where some packet in range matches two rows, the earlier has the strictly higher priority
 abbrev pub EarlierHigher : Type 0
 EarlierHigher =
-    (ws ps cs : List ℕ) → Ready ws ps cs → (j i : ℕ) → j < i → i < rowCount ws → Shared ws j i
+    (ws ps cs : List ℕ) → Ready ws ps cs → (j i : ℕ) → j < i → i < row_count ws → Shared ws j i
     → priority ws ps cs i < priority ws ps cs j
 
 -- the priorities lie in 1..L, and there are L distinct ones
 abbrev pub PrioritiesUsed : Type 0
 PrioritiesUsed = (ws ps cs : List ℕ) → Ready ws ps cs
-    → ((i : ℕ) → i < rowCount ws → (1 ≤ priority ws ps cs i) × (priority ws ps cs i ≤ count ws ps cs))
-    × (length (distinct (take (rowCount ws) (prioritiesAfter ws ps cs))) ≡ count ws ps cs)
+    → ((i : ℕ) → i < row_count ws → (1 ≤ priority ws ps cs i) × (priority ws ps cs i ≤ count ws ps cs))
+    × (length (distinct (take (row_count ws) (priorities_after ws ps cs))) ≡ count ws ps cs)
 
 -- no assignment of numbers that puts the earlier row higher has fewer distinct ones
 abbrev pub FewestNumbers : Type 0
-FewestNumbers = (ws ps cs : List ℕ) → Ready ws ps cs → (qs : List ℕ) → length qs ≡ rowCount ws
-    → ((j i : ℕ) → j < i → i < rowCount ws → Shared ws j i → get_or qs i 0 < get_or qs j 0)
+FewestNumbers = (ws ps cs : List ℕ) → Ready ws ps cs → (qs : List ℕ) → length qs ≡ row_count ws
+    → ((j i : ℕ) → j < i → i < row_count ws → Shared ws j i → get_or qs i 0 < get_or qs j 0)
     → count ws ps cs ≤ length (distinct qs)
 
 -- the first L words of the chain buffer are the chain: L places in scan order; of each two neighbours some packet in
 -- range matches both
 abbrev pub ChainForces : Type 0
 ChainForces = (ws ps cs : List ℕ) → Ready ws ps cs
-    → Chained (over ws) (levelsOf ws) (take (count ws ps cs) (chainAfter ws ps cs))
-    × (length (take (count ws ps cs) (chainAfter ws ps cs)) ≡ count ws ps cs)
+    → Chained (over ws) (levels_of ws) (take (count ws ps cs) (chain_after ws ps cs))
+    × (length (take (count ws ps cs) (chain_after ws ps cs)) ≡ count ws ps cs)
     × ((k : ℕ) → suc k < count ws ps cs
     → (link ws ps cs k < link ws ps cs (suc k)) × Shared ws (link ws ps cs k) (link ws ps cs (suc k)))
 
 -- whatever row a switch obeys, its action is the scan's
 abbrev pub SwitchScans : Type 0
-SwitchScans = (ws ps cs : List ℕ) → Ready ws ps cs → (packet : List ℕ) → rightPacketWords packet ≡ true
-    → (i : ℕ) → Obeyed meets past (rowsIn ws) (priority ws ps cs) (packetOf packet) i
-    → (get_or (rowsIn ws) i past).action ≡ scanAction (scanOf ws packet)
+SwitchScans = (ws ps cs : List ℕ) → Ready ws ps cs → (packet : List ℕ) → right_packet_words packet ≡ true
+    → (i : ℕ) → Obeyed meets past (rows_in ws) (priority ws ps cs) (packet_of packet) i
+    → (get_or (rows_in ws) i past).action ≡ scan_action (scan_of ws packet)
 
 -- where some row matches a packet, some row is obeyed
 abbrev pub SwitchObeys : Type 0
 SwitchObeys =
-    (ws ps cs : List ℕ) → Ready ws ps cs → (p : Packet) (k : ℕ) → k < rowCount ws
-    → matchesAt meets past (rowsIn ws) p k ≡ true
-    → (i : ℕ) × Obeyed meets past (rowsIn ws) (priority ws ps cs) p i
+    (ws ps cs : List ℕ) → Ready ws ps cs → (p : Packet) (k : ℕ) → k < row_count ws
+    → matches_at meets past (rows_in ws) p k ≡ true
+    → (i : ℕ) × Obeyed meets past (rows_in ws) (priority ws ps cs) p i
 
 -- the words beyond stay
 abbrev pub WordsStay : Type 0
 WordsStay = (ws ps cs : List ℕ) → Ready ws ps cs
-    → (length (prioritiesAfter ws ps cs) ≡ length ps)
-    × (length (chainAfter ws ps cs) ≡ length cs)
-    × (drop (rowCount ws) (prioritiesAfter ws ps cs) ≡ drop (rowCount ws) ps)
-    × (drop (count ws ps cs) (chainAfter ws ps cs) ≡ drop (count ws ps cs) cs)
+    → (length (priorities_after ws ps cs) ≡ length ps)
+    × (length (chain_after ws ps cs) ≡ length cs)
+    × (drop (row_count ws) (priorities_after ws ps cs) ≡ drop (row_count ws) ps)
+    × (drop (count ws ps cs) (chain_after ws ps cs) ≡ drop (count ws ps cs) cs)
 
 -- a refusal leaves both buffers as they were
 abbrev pub RefusedStays : Type 0
 RefusedStays = (ws ps cs : List ℕ) (n i : ℕ) → number_of ws (length ps) (length cs) ≡ Refused n i
-    → (prioritiesAfter ws ps cs ≡ ps) × (chainAfter ws ps cs ≡ cs)
+    → (priorities_after ws ps cs ≡ ps) × (chain_after ws ps cs ≡ cs)

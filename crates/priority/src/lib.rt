@@ -1,11 +1,11 @@
 // The numbering of a table's rows: levels, priorities, and the chain that forces their number.
 ghost use Rattle.std.specs.Prelude.{◌≡◌, cond, ◌&&◌, map, ℕ, suc, ◌-◌, ◌≤◌, ◌<◌, ◌^◌, max, length, get_or, set};
 ghost use Rattle.words.specs.Words.{laid};
-ghost use Rattle.theory.specs.Number.{above, levelCount, firstOfLevel, stepBack, chainUnder};
+ghost use Rattle.theory.specs.Number.{above, level_count, first_of_level, step_back, chain_under};
 ghost use Rattle.flow.specs.Match.{overlap};
-ghost use Rattle.row.specs.Row.{mostRows, rowsIn};
-ghost use Rattle.table.specs.Table.{rowCount, past, RightTable};
-ghost use Rattle.priority.specs.Numbering.{over, levelsOf, prioritiesOf, chainOf, Answered};
+ghost use Rattle.row.specs.Row.{most_rows, rows_in};
+ghost use Rattle.table.specs.Table.{row_count, past, RightTable};
+ghost use Rattle.priority.specs.Numbering.{over, levels_of, priorities_of, chain_of, Answered};
 ghost use Rattle.priority.specs.Numbering.{NumbersFit, LevelsBefore, ChainFits};
 
 use flow::{Match, overlap, read_match};
@@ -44,7 +44,7 @@ pub fn number(table: &[u32], priorities: &mut [u32], chain: &mut [u32]) -> Numbe
 
 // Numbers a right table, where neither buffer is shorter than its row count.
 fn number_right(table: &[u32], rows: usize, priorities: &mut [u32], chain: &mut [u32]) -> Numbered
-    requires { RightTable table.now × (rows ≡ rowCount table.now) }
+    requires { RightTable table.now × (rows ≡ row_count table.now) }
     ensures { Answered table.now priorities.old chain.old
         result priorities.new chain.new }
 {
@@ -62,9 +62,9 @@ fn number_right(table: &[u32], rows: usize, priorities: &mut [u32], chain: &mut 
 // there are.
 fn put_numbers(table: &[u32], priorities: &mut [u32], chain: &mut [u32]) -> u32
     requires { NumbersFit table.now priorities.old chain.old }
-    ensures { (result ≡ levelCount (levelsOf table.now))
-        × (priorities.new ≡ prioritiesOf table.now)
-        × (chain.new ≡ laid 0 (chainOf table.now) chain.old) }
+    ensures { (result ≡ level_count (levels_of table.now))
+        × (priorities.new ≡ priorities_of table.now)
+        × (chain.new ≡ laid 0 (chain_of table.now) chain.old) }
 {
     let count = put_levels(table, priorities);
     put_chain(table, priorities, count, chain);
@@ -74,9 +74,9 @@ fn put_numbers(table: &[u32], priorities: &mut [u32], chain: &mut [u32]) -> u32
 
 // Stores each row's level, and answers how many levels there are.
 fn put_levels(table: &[u32], levels: &mut [u32]) -> u32
-    requires { (length levels.old ≡ rowCount table.now) × (rowCount table.now ≤ mostRows) }
-    ensures { (result ≡ levelCount (levelsOf table.now))
-        × (levels.new ≡ levelsOf table.now) }
+    requires { (length levels.old ≡ row_count table.now) × (row_count table.now ≤ most_rows) }
+    ensures { (result ≡ level_count (levels_of table.now))
+        × (levels.new ≡ levels_of table.now) }
 {
     let mut count = 0;
     let mut i = 0;
@@ -113,9 +113,9 @@ fn level(table: &[u32], levels: &[u32], i: usize, count: u32) -> u32
 // What row j, of a level, makes of the best level so far; a level below that cannot raise it, whether the row overlaps
 // or not.
 fn raised(table: &[u32], m: Match, j: usize, level: u32, best: u32) -> u32
-    requires { (j < rowCount table.now) × (level < mostRows) }
+    requires { (j < row_count table.now) × (level < most_rows) }
     ensures { result ≡ max best
-        (cond (overlap (get_or (rowsIn table.now) j past).match m) (suc level) 0) }
+        (cond (overlap (get_or (rows_in table.now) j past).match m) (suc level) 0) }
 {
     if level < best {
         return best;
@@ -128,7 +128,7 @@ fn raised(table: &[u32], m: Match, j: usize, level: u32, best: u32) -> u32
 fn put_chain(table: &[u32], levels: &[u32], count: u32, chain: &mut [u32])
     requires { ChainFits table.now levels.now count chain.old }
     ensures { chain.new
-        ≡ laid 0 (chainUnder (over table.now) levels.now count) chain.old }
+        ≡ laid 0 (chain_under (over table.now) levels.now count) chain.old }
 {
     if count == 0 {
         return;
@@ -146,7 +146,7 @@ fn put_chain(table: &[u32], levels: &[u32], count: u32, chain: &mut [u32])
 
 // The first row of a level; the row count if there is none.
 fn first_of_level(levels: &[u32], l: u32) -> Place
-    ensures { result.0 ≡ firstOfLevel levels.now l }
+    ensures { result.0 ≡ first_of_level levels.now l }
 {
     let mut at = 0;
     // None of the first at rows has the level.
@@ -161,8 +161,8 @@ fn first_of_level(levels: &[u32], l: u32) -> Place
 
 // The first row before a place that overlaps the row there and has a level; the place itself if there is none.
 fn step_back(table: &[u32], levels: &[u32], at: Place, l: u32) -> Place
-    requires { (at.0 < rowCount table.now) × (at.0 ≤ length levels.now) }
-    ensures { result.0 ≡ stepBack (over table.now) levels.now at.0 l }
+    requires { (at.0 < row_count table.now) × (at.0 ≤ length levels.now) }
+    ensures { result.0 ≡ step_back (over table.now) levels.now at.0 l }
 {
     let end = at.0;
     let m = row_match(table, end);
@@ -179,8 +179,8 @@ fn step_back(table: &[u32], levels: &[u32], at: Place, l: u32) -> Place
 
 // Whether row j overlaps a match, asked only where another test passes.
 fn overlaps_at(table: &[u32], m: Match, j: usize, passes: bool) -> bool
-    requires { j < rowCount table.now }
-    ensures { result ≡ (overlap (get_or (rowsIn table.now) j past).match m && passes) }
+    requires { j < row_count table.now }
+    ensures { result ≡ (overlap (get_or (rows_in table.now) j past).match m && passes) }
 {
     if !passes {
         return false;
@@ -222,8 +222,8 @@ fn put_place(chain: &mut [u32], step: u32, at: Place)
 
 // The match of the row at a place.
 fn row_match(table: &[u32], i: usize) -> Match
-    requires { i < rowCount table.now }
-    ensures { result ≡ (get_or (rowsIn table.now) i past).match }
+    requires { i < row_count table.now }
+    ensures { result ≡ (get_or (rows_in table.now) i past).match }
 {
     let from = i * ROW_WORDS;
     let end = from + ROW_WORDS;

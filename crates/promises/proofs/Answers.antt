@@ -3,7 +3,7 @@
 use Prim.Native.Nat.{ℕ}
 use mathlib.Core.Path.{◌≡◌, sym, ◌∙◌, ap}
 use mathlib.Core.List.{List}
-use Rattle.promises.specs.Answers.{OneAnswer, answerWith, answerAnd}
+use Rattle.promises.specs.Answers.{OneAnswer, answer_with, answer_and}
 use Rattle.field.proofs.in_prefix.Reads as in-prefix
 use Rattle.field.proofs.right_prefix.Reads as right-prefix
 use Rattle.field.proofs.prefixes_meet.Reads as prefixes-meet
@@ -97,10 +97,10 @@ fixed :
 fixed f = record { asks_nothing = λ κ a. tt; no_second = λ κ a r₁ r₂ s₁ s₂ p q. f κ a r₁ s₁ p ∙ sym (f κ a r₂ s₂ q) }
 
 -- equal answers with equal buffers
-both : {X : Type 0} {r r' : X} {b b' : List ℕ} → r ≡ r' → b ≡ b' → answerWith r b ≡ answerWith r' b'
+both : {X : Type 0} {r r' : X} {b b' : List ℕ} → r ≡ r' → b ≡ b' → answer_with r b ≡ answer_with r' b'
 both p q = rw (p, q)
 
-all : {X : Type 0} {r r' : X} {b b' c c' : List ℕ} → r ≡ r' → b ≡ b' → c ≡ c' → answerAnd r b c ≡ answerAnd r' b' c'
+all : {X : Type 0} {r r' : X} {b b' c c' : List ℕ} → r ≡ r' → b ≡ b' → c ≡ c' → answer_and r b c ≡ answer_and r' b' c'
 all p q e = rw (p, q, e)
 
 -- field
@@ -319,36 +319,36 @@ match-at-one : OneAnswer match-at.Pre match-at.Post (λ κ r s. r)
 match-at-one = fixed (λ κ a r s p. p)
 
 -- hidden
-drop-hidden-one : OneAnswer drop-hidden.Pre drop-hidden.Post (λ κ r s. answerWith r s.0.now)
+drop-hidden-one : OneAnswer drop-hidden.Pre drop-hidden.Post (λ κ r s. answer_with r s.0.now)
 drop-hidden-one = fixed (λ κ a r s p. both p.0 p.1)
 
 -- priority
-number-one : OneAnswer number.Pre number.Post (λ κ r s. answerAnd r s.1.0.now s.1.1.0.now)
+number-one : OneAnswer number.Pre number.Post (λ κ r s. answer_and r s.1.0.now s.1.1.0.now)
 number-one = fixed (λ κ a r s p. all p.0 p.1 p.2)
 
 -- compile
-compile-one : OneAnswer compile.Pre compile.Post (λ κ r s. answerAnd r s.1.0.now s.1.1.0.now)
+compile-one : OneAnswer compile.Pre compile.Post (λ κ r s. answer_and r s.1.0.now s.1.1.0.now)
 compile-one = fixed (λ κ a r s p. all p.answer p.table p.scratch)
 
 -- line
-put-line-one : OneAnswer put-line.Pre put-line.Post (λ κ r s. answerWith r s.0.now)
+put-line-one : OneAnswer put-line.Pre put-line.Post (λ κ r s. answer_with r s.0.now)
 put-line-one = fixed (λ κ a r s p. both p.end p.bytes)
 
-put-head-one : OneAnswer put-head.Pre put-head.Post (λ κ r s. answerWith r s.0.now)
+put-head-one : OneAnswer put-head.Pre put-head.Post (λ κ r s. answer_with r s.0.now)
 put-head-one = fixed (λ κ a r s p. both p.end p.bytes)
 
-put-refusal-one : OneAnswer put-refusal.Pre put-refusal.Post (λ κ r s. answerWith r s.0.now)
+put-refusal-one : OneAnswer put-refusal.Pre put-refusal.Post (λ κ r s. answer_with r s.0.now)
 put-refusal-one = fixed (λ κ a r s p. both p.end p.bytes)
 
 -- sheet
-list-table-one : OneAnswer list-table.Pre list-table.Post (λ κ r s. answerWith r s.1.0.now)
+list-table-one : OneAnswer list-table.Pre list-table.Post (λ κ r s. answer_with r s.1.0.now)
 list-table-one = fixed (λ κ a r s p. both p.end p.bytes)
 
 -- text
-list-one : OneAnswer list.Pre list.Post (λ κ r s. answerWith r s.1.0.now)
+list-one : OneAnswer list.Pre list.Post (λ κ r s. answer_with r s.1.0.now)
 list-one = fixed (λ κ a r s p. both p.0.end p.0.bytes)
 
-list-whole-one : OneAnswer list-whole.Pre list-whole.Post (λ κ r s. answerWith r s.1.1.0.now)
+list-whole-one : OneAnswer list-whole.Pre list-whole.Post (λ κ r s. answer_with r s.1.1.0.now)
 list-whole-one = fixed (λ κ a r s p. both p.puts.end p.puts.bytes)
 
 -- wire
@@ -359,17 +359,17 @@ low-one = fixed (λ κ a r s p. p)
 speed-read-one : OneAnswer speed-read.Pre speed-read.Post (λ κ r s. r)
 speed-read-one = fixed (λ κ a r s p. p)
 
-speed-tree-one : OneAnswer speed-tree.Pre speed-tree.Post (λ κ r s. answerWith r s.1.1.0.now)
+speed-tree-one : OneAnswer speed-tree.Pre speed-tree.Post (λ κ r s. answer_with r s.1.1.0.now)
 speed-tree-one = fixed (λ κ a r s p. both p.0 p.1)
 
-speed-compile-one : OneAnswer speed-compile.Pre speed-compile.Post (λ κ r s. answerAnd r s.1.0.now s.1.1.0.now)
+speed-compile-one : OneAnswer speed-compile.Pre speed-compile.Post (λ κ r s. answer_and r s.1.0.now s.1.1.0.now)
 speed-compile-one = fixed (λ κ a r s p. all p.0 p.1 p.2)
 
-speed-scan-one : OneAnswer speed-scan.Pre speed-scan.Post (λ κ r s. answerWith r s.1.1.0.now)
+speed-scan-one : OneAnswer speed-scan.Pre speed-scan.Post (λ κ r s. answer_with r s.1.1.0.now)
 speed-scan-one = fixed (λ κ a r s p. both p.0 p.1)
 
-speed-number-one : OneAnswer speed-number.Pre speed-number.Post (λ κ r s. answerAnd r s.1.0.now s.1.1.0.now)
+speed-number-one : OneAnswer speed-number.Pre speed-number.Post (λ κ r s. answer_and r s.1.0.now s.1.1.0.now)
 speed-number-one = fixed (λ κ a r s p. all p.0 p.1 p.2)
 
-speed-hidden-one : OneAnswer speed-hidden.Pre speed-hidden.Post (λ κ r s. answerWith r s.0.now)
+speed-hidden-one : OneAnswer speed-hidden.Pre speed-hidden.Post (λ κ r s. answer_with r s.0.now)
 speed-hidden-one = fixed (λ κ a r s p. both p.0 p.1)

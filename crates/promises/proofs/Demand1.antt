@@ -11,15 +11,15 @@ use borrow.Author.Tests.{lt-ltb, lt-leb, eqb-true, eqb-false}
 use Rattle.logic.proofs.Tests.{by-test}
 use Rattle.words.specs.Records.{records}
 use Rattle.theory.specs.Rows.{Row}
-use Rattle.flow.specs.Packet.{rightPacketWords}
+use Rattle.flow.specs.Packet.{right_packet_words}
 use Rattle.flow.specs.declared.Match.{Match}
 use Rattle.action.specs.declared.Action.{Action}
 use Rattle.action.specs.declared.Action.TheVariants.{DontCare}
-use Rattle.row.specs.Row.{rowLength, rightRow, words_of}
-use Rattle.action.specs.Laws.{lawSearch}
+use Rattle.row.specs.Row.{row_length, right_row, words_of}
+use Rattle.action.specs.Laws.{law_search}
 use Rattle.action.specs.declared.Lawful.{Lawful}
 use Rattle.action.specs.declared.Lawful.TheVariants.{Yes, Broken}
-use Rattle.section.specs.Numbers.{lawBroken}
+use Rattle.section.specs.Numbers.{law_broken}
 use Rattle.refusal.specs.Plain.{plain}
 use Rattle.policy.specs.Read.{read_of}
 use Rattle.policy.specs.declared.Layout.{Layout}
@@ -29,32 +29,32 @@ use Rattle.refusal.specs.declared.Refusal.{Refusal}
 use Rattle.policy.proofs.Refused.{refused-plain}
 use Rattle.policy.proofs.Order.{file-order}
 use Rattle.tree.proofs.Eval.{action-eval, action-refused, action-packet}
-use Rattle.table.specs.Table.{wrongTable, wrongRow, rowCount, rightLength, checkFrom, checkRows, checkOf}
-use Rattle.table.specs.Scan.{scanOf}
+use Rattle.table.specs.Table.{wrong_table, wrong_row, row_count, right_length, check_from, check_rows, check_of}
+use Rattle.table.specs.Scan.{scan_of}
 use Rattle.table.specs.declared.Checked.{Checked}
 use Rattle.table.specs.declared.Checked.TheVariants as checked
 use Rattle.table.proofs.Tables.{check-exactly, check-first}
 use Rattle.table.proofs.Scans.{scan-refused}
-use Rattle.priority.specs.Numbering.{number_of, answerCount, count}
+use Rattle.priority.specs.Numbering.{number_of, answer_count, count}
 use Rattle.priority.proofs.After.{number-ready, words-stay, refused-stays}
 use Rattle.words.specs.Words.{zeros}
-use Rattle.hidden.specs.Hidden.{keptOf}
+use Rattle.hidden.specs.Hidden.{kept_of}
 use Rattle.hidden.proofs.Laws as hidden
-use Rattle.compile.specs.Compile.{noRoom, noScratch, wrongRate, room, compiledRows, fine, answer_of, tableAfter, scratchAfter}
+use Rattle.compile.specs.Compile.{no_room, no_scratch, wrong_rate, room, compiled_rows, fine, answer_of, table_after, scratch_after}
 use Rattle.compile.specs.Compile as compile
 use Rattle.compile.specs.declared.Compiled.{Compiled}
 use Rattle.compile.specs.declared.Compiled.TheVariants.{Rows, Refused}
-use Rattle.promises.specs.Told.{searchTold, readTold, actionTold, compileTold, between, Fixed}
+use Rattle.promises.specs.Told.{search_told, read_told, action_told, compile_told, between, Fixed}
 use Rattle.promises.specs.Demands.{EveryInput, Order, WordsLeft, Demand1}
 
 -- the numbers of the compile
-abbrev compileNumbers : ℕ → Type 0
-compileNumbers n = between 1 10 n ⊎ between 12 14 n
+abbrev compile_numbers : ℕ → Type 0
+compile_numbers n = between 1 10 n ⊎ between 12 14 n
 
 -- the numbers of a refused file
 pub file-number : (f : List ℕ) (r : Refusal) → read_of f ≡ reading.Refused r → between 1 10 r.number
-file-number f r e = by-test (eqb r.number lawBroken)
-    (λ t. let z : r.number ≡ lawBroken = eqb-true _ _ t in (omega arith, omega arith))
+file-number f r e = by-test (eqb r.number law_broken)
+    (λ t. let z : r.number ≡ law_broken = eqb-true _ _ t in (omega arith, omega arith))
     (λ t. let p = refused-plain f r e (eqb-false _ _ t) in (p.0, omega (arith, p.1)))
 
 -- what is told of a success, of a refusal without a law, and of a refused file
@@ -82,19 +82,19 @@ by-reading {X} f accepted refused = go (read_of f) refl
     go (reading.Refused r) e = refused r e
 
 -- a table is right, or wrong with 15 or 16
-by-check : {X : Type 0} (ws : List ℕ) → ((n : ℕ) → checkOf ws ≡ checked.Rows n → X) → ((n i : ℕ) → checkOf ws ≡ checked.Wrong n i → between 15 16 n → X) → X
-unfolding checkOf checkRows
-by-check {X} ws right wrong = go (checkOf ws) refl
+by-check : {X : Type 0} (ws : List ℕ) → ((n : ℕ) → check_of ws ≡ checked.Rows n → X) → ((n i : ℕ) → check_of ws ≡ checked.Wrong n i → between 15 16 n → X) → X
+unfolding check_of check_rows
+by-check {X} ws right wrong = go (check_of ws) refl
   where
-    row : (i : ℕ) (rs : List (List ℕ)) (n k : ℕ) → checkFrom i rs ≡ checked.Wrong n k → n ≡ wrongRow
+    row : (i : ℕ) (rs : List (List ℕ)) (n k : ℕ) → check_from i rs ≡ checked.Wrong n k → n ≡ wrong_row
     row i [] n k e = let z : ◌≡◌ {A = ℕ} 0 1 = cc in absurd (omega arith)
-    row i (r ∷ rs) n k e = by-test (rightRow r) (λ t. row _ rs n k (rw t at e)) (λ t. let q : checked.Wrong wrongRow i ≡ checked.Wrong n k = rw t at e in cc)
+    row i (r ∷ rs) n k e = by-test (right_row r) (λ t. row _ rs n k (rw t at e)) (λ t. let q : checked.Wrong wrong_row i ≡ checked.Wrong n k = rw t at e in cc)
 
-    go : (x : Checked) → checkOf ws ≡ x → X
+    go : (x : Checked) → check_of ws ≡ x → X
     go (checked.Rows n) e = right n e
-    go (checked.Wrong n i) e = wrong n i e (by-test (rightLength ws)
-        (λ t. let q : n ≡ wrongRow = row 0 (records (rowCount ws) rowLength ws) n i (rw t at e) in (omega arith, omega arith))
-        (λ t. let q : checked.Wrong wrongTable 0 ≡ checked.Wrong n i = rw t at e in let z : n ≡ wrongTable = cc in (omega arith, omega arith)))
+    go (checked.Wrong n i) e = wrong n i e (by-test (right_length ws)
+        (λ t. let q : n ≡ wrong_row = row 0 (records (row_count ws) row_length ws) n i (rw t at e) in (omega arith, omega arith))
+        (λ t. let q : checked.Wrong wrong_table 0 ≡ checked.Wrong n i = rw t at e in let z : n ≡ wrong_table = cc in (omega arith, omega arith)))
 
 -- the compile of a refused file, and of an accepted one by what is refused: the scratch, the room, a rate, or nothing
 module _ (P : Compiled → List ℕ → List ℕ → Type 0) where
@@ -105,45 +105,45 @@ module _ (P : Compiled → List ℕ → List ℕ → Type 0) where
   four false false true a b c d = d
   four false false false a b c d = c
 
-  of-refused : (f t s : List ℕ) (r : Refusal) → read_of f ≡ reading.Refused r → P (Refused r) t s → P (answer_of f t s) (tableAfter f t s) (scratchAfter f t s)
-  unfolding answer_of tableAfter scratchAfter
+  of-refused : (f t s : List ℕ) (r : Refusal) → read_of f ≡ reading.Refused r → P (Refused r) t s → P (answer_of f t s) (table_after f t s) (scratch_after f t s)
+  unfolding answer_of table_after scratch_after
   of-refused f t s r e p = rw e p
 
   of-accepted : (f t s : List ℕ) (l : Layout) → read_of f ≡ reading.Accepted l
-      → P (Refused (plain noScratch 0)) t s
-      → P (Refused (plain noRoom 0)) (zeros (length t)) (zeros (length s))
-      → P (Refused (plain wrongRate 0)) (zeros (length t)) (zeros (length s))
-      → P (Rows (length (compiledRows f l))) (words_of (compiledRows f l) ++ zeros (length t - length (words_of (compiledRows f l)))) (zeros (length s))
-      → P (answer_of f t s) (tableAfter f t s) (scratchAfter f t s)
-  unfolding answer_of tableAfter scratchAfter
+      → P (Refused (plain no_scratch 0)) t s
+      → P (Refused (plain no_room 0)) (zeros (length t)) (zeros (length s))
+      → P (Refused (plain wrong_rate 0)) (zeros (length t)) (zeros (length s))
+      → P (Rows (length (compiled_rows f l))) (words_of (compiled_rows f l) ++ zeros (length t - length (words_of (compiled_rows f l)))) (zeros (length s))
+      → P (answer_of f t s) (table_after f t s) (scratch_after f t s)
+  unfolding answer_of table_after scratch_after
   of-accepted f t s l e a b c d = rw e
-      (four (ltb (length s) (rowLength * room (length t))) (ltb (room (length t)) (length (compiledRows f l))) (fine (compiledRows f l)) a b c d)
+      (four (ltb (length s) (row_length * room (length t))) (ltb (room (length t)) (length (compiled_rows f l))) (fine (compiled_rows f l)) a b c d)
 
-search-fixed : (i : ℕ) (x : Lawful) → Fixed (between 10 10) (searchTold i x)
+search-fixed : (i : ℕ) (x : Lawful) → Fixed (between 10 10) (search_told i x)
 search-fixed i Yes = success
 search-fixed i (Broken l a b c) = record { number = inr (omega arith, omega arith); value = λ n. (refl, refl); law = λ n. absurd (n refl) }
 
 every-input : EveryInput
-unfolding scanOf number_of keptOf
+unfolding scan_of number_of kept_of
 every-input = record {
-  search = λ o i. search-fixed i (lawSearch o);
+  search = λ o i. search-fixed i (law_search o);
   read = λ f. by-reading f
-      (λ l e. subst (λ x. Fixed (between 1 10) (readTold x)) (sym e) success)
-      (λ r e. subst (λ x. Fixed (between 1 10) (readTold x)) (sym e) (file-refused f r e (λ n h. h)));
+      (λ l e. subst (λ x. Fixed (between 1 10) (read_told x)) (sym e) success)
+      (λ r e. subst (λ x. Fixed (between 1 10) (read_told x)) (sym e) (file-refused f r e (λ n h. h)));
   action = λ f p. by-reading f
-      (λ l e. by-test (rightPacketWords p)
-      (λ t. subst (λ x. Fixed (between 1 11) (actionTold x)) (sym (action-eval f p l e t)) success)
-      (λ t. subst (λ x. Fixed (between 1 11) (actionTold x)) (sym (action-packet f p l e t)) (refused (omega arith, omega arith))))
-      (λ r e. subst (λ x. Fixed (between 1 11) (actionTold x)) (sym (action-refused f p r e)) (file-refused f r e (λ n h. (h.0, omega (arith, h.1)))));
+      (λ l e. by-test (right_packet_words p)
+      (λ t. subst (λ x. Fixed (between 1 11) (action_told x)) (sym (action-eval f p l e t)) success)
+      (λ t. subst (λ x. Fixed (between 1 11) (action_told x)) (sym (action-packet f p l e t)) (refused (omega arith, omega arith))))
+      (λ r e. subst (λ x. Fixed (between 1 11) (action_told x)) (sym (action-refused f p r e)) (file-refused f r e (λ n h. (h.0, omega (arith, h.1)))));
   compile = λ f t s. by-reading f
-      (λ l e. of-accepted (λ x t' s'. Fixed compileNumbers (compileTold x)) f t s l e
+      (λ l e. of-accepted (λ x t' s'. Fixed compile_numbers (compile_told x)) f t s l e
       (refused (inr (omega arith, omega arith)))
       (refused (inr (omega arith, omega arith)))
       (refused (inr (omega arith, omega arith)))
       success)
-      (λ r e. of-refused (λ x t' s'. Fixed compileNumbers (compileTold x)) f t s r e (file-refused f r e (λ n h. inl h)));
+      (λ r e. of-refused (λ x t' s'. Fixed compile_numbers (compile_told x)) f t s r e (file-refused f r e (λ n h. inl h)));
   check = λ ws. by-check ws (λ n e. rw e success) (λ n i e h. rw e (refused h));
-  scan = λ ws p. by-test (rightPacketWords p)
+  scan = λ ws p. by-test (right_packet_words p)
       (λ t. by-check ws (λ n e. rw (t, e) success) (λ n i e h. rw (t, e) (refused (inr h))))
       (λ t. rw t (refused (inl refl)));
   number = λ ws p c. by-check ws
@@ -162,7 +162,7 @@ short n p c (inr h) = rw (lt-leb n c h) (and-false (leb n p))
     and-false false = refl
 
 order : Order
-unfolding answer_of number_of checkOf
+unfolding answer_of number_of check_of
 order = record {
   file = file-order;
   action-file = action-refused;
@@ -174,13 +174,13 @@ order = record {
   scan-packet = λ ws p. (scan-refused ws p).0;
   scan-table = λ ws p n i t e. (scan-refused ws p).1 t n i e;
   number-table = λ ws p c n i e. rw e refl;
-  number-buffers = λ ws p c r h. rw ((check-exactly ws (rowCount ws)).1 (r, refl), short (rowCount ws) p c h) refl;
+  number-buffers = λ ws p c r h. rw ((check-exactly ws (row_count ws)).1 (r, refl), short (row_count ws) p c h) refl;
   hidden-table = λ ws n i e. (hidden.refused-exactly ws n i).1 e;
 }
 
 -- the number of a refusal, and that it is no success
 pub same_number : {r r' : Refusal} → Refused r ≡ Refused r' → r.number ≡ r'.number
-same_number q = ap (λ (x : Compiled). (compile.compileRefusal x).number) q
+same_number q = ap (λ (x : Compiled). (compile.compile_refusal x).number) q
 
 pub no_rows : {X : Type 0} {n : ℕ} {r : Refusal} → Rows n ≡ Refused r → X
 no_rows q = let z : ◌≡◌ {A = ℕ} 0 1 = cc in absurd (omega arith)
@@ -188,13 +188,13 @@ no_rows q = let z : ◌≡◌ {A = ℕ} 0 1 = cc in absurd (omega arith)
 words_left : WordsLeft
 words_left = record {
   compile-stays = λ f t s r.
-      let P : Compiled → List ℕ → List ℕ → Type 0 = λ x t' s'. x ≡ Refused r → ¬ (r.number ≡ noRoom) → ¬ (r.number ≡ wrongRate) → (t' ≡ t) × (s' ≡ s) in
+      let P : Compiled → List ℕ → List ℕ → Type 0 = λ x t' s'. x ≡ Refused r → ¬ (r.number ≡ no_room) → ¬ (r.number ≡ wrong_rate) → (t' ≡ t) × (s' ≡ s) in
       by-reading f
       (λ l e. of-accepted P f t s l e (λ q n m. (refl, refl)) (λ q n m. absurd (n (sym (same_number q)))) (λ q n m. absurd (m (sym (same_number q))))
       (λ q n m. no_rows q))
       (λ r' e. of-refused P f t s r' e (λ q n m. (refl, refl)));
   compile-zeros = λ f t s r.
-      let P : Compiled → List ℕ → List ℕ → Type 0 = λ x t' s'. x ≡ Refused r → (r.number ≡ noRoom) ⊎ (r.number ≡ wrongRate) → (t' ≡ zeros (length t))
+      let P : Compiled → List ℕ → List ℕ → Type 0 = λ x t' s'. x ≡ Refused r → (r.number ≡ no_room) ⊎ (r.number ≡ wrong_rate) → (t' ≡ zeros (length t))
       × (s' ≡ zeros (length s)) in
       by-reading f
       (λ l e. of-accepted P f t s l e
@@ -206,13 +206,13 @@ words_left = record {
       let n : between 1 10 r'.number = file-number f r' e in
       ⊎_elim (λ h. absurd (omega (arith, n.1, h, same_number q))) (λ h. absurd (omega (arith, n.1, h, same_number q)))));
   compile-rows = λ f t s l n e.
-      let N : List (Row Match Action) = compiledRows f l in
+      let N : List (Row Match Action) = compiled_rows f l in
       of-accepted (λ x t' s'. x ≡ Rows n → (t' ≡ words_of N ++ zeros (length t - length (words_of N))) × (s' ≡ zeros (length s))) f t s l e
       (λ q. no_rows (sym q)) (λ q. no_rows (sym q)) (λ q. no_rows (sym q)) (λ q. (refl, refl));
   number-stays = refused-stays;
   number-beyond = λ ws ps cs n q.
       let w = words-stay ws ps cs (number-ready ws ps cs n q) in
-      let c : count ws ps cs ≡ n = ap answerCount q in
+      let c : count ws ps cs ≡ n = ap answer_count q in
       (w.2, rw c at w.3);
   hidden-stays = hidden.refused-stays;
   hidden-rows = λ ws n q. (hidden.kept-rows ws n q).words;

@@ -15,12 +15,12 @@ use Rattle.action.specs.declared.Action.{Action}
 use Rattle.action.specs.declared.Law.{Law}
 use Rattle.action.specs.declared.Law.TheVariants.{Unnamed, Commutativity, Associativity}
 use Rattle.action.proofs.Exact.{shown-in-range}
-use Rattle.section.specs.Numbers.{nodeLength, lawBroken}
-use Rattle.policy.specs.Read.{read_of, atoms_at, nodesAt, operatorRecords, nodeRecords}
+use Rattle.section.specs.Numbers.{node_length, law_broken}
+use Rattle.policy.specs.Read.{read_of, atoms_at, nodes_at, operator_records, node_records}
 use Rattle.whole.specs.Whole.{named, names}
-use Rattle.section.specs.Sections.{inner_of, siblingOf}
-use Rattle.whole.specs.Meaning.{operatorAt, KeepsLaws, LawsKept}
-use Rattle.policy.specs.File.{allAtoms}
+use Rattle.section.specs.Sections.{inner_of, sibling_of}
+use Rattle.whole.specs.Meaning.{operator_at, KeepsLaws, LawsKept}
+use Rattle.policy.specs.File.{all_atoms}
 use Rattle.policy.specs.WellFormed.{Otherwise}
 use Rattle.policy.specs.Theorems.{BrokenLaw}
 use Rattle.policy.specs.declared.Reading.TheVariants.{Refused}
@@ -55,33 +55,33 @@ not-kept o (inl b) k = b.differ (k.0 b.left b.right b.left-allowed b.right-allow
 not-kept o (inr b) k = b.differ (k.1 b.left b.middle b.right b.left-allowed b.middle-allowed b.right-allowed)
 
 -- a node that names an operator has it as inner or as sibling one
-names-either : (i : ℕ) (r : List ℕ) → names i r ≡ true → (i ≡ inner_of r) ⊎ (i ≡ siblingOf r)
+names-either : (i : ℕ) (r : List ℕ) → names i r ≡ true → (i ≡ inner_of r) ⊎ (i ≡ sibling_of r)
 names-either i r e =
-    ⊎_elim (λ g. inl (sym (eqb-true _ _ g))) (λ g. inr (sym (eqb-true _ _ g))) (or_split (eqb (inner_of r) i) (eqb (siblingOf r) i) e)
+    ⊎_elim (λ g. inl (sym (eqb-true _ _ g))) (λ g. inr (sym (eqb-true _ _ g))) (or_split (eqb (inner_of r) i) (eqb (sibling_of r) i) e)
 
 -- the counts of a file are its own
 same-counts : (f : List ℕ) (a b c a' b' c' : ℕ) → Otherwise f a b c → Otherwise f a' b' c' → (a' ≡ a) × (b' ≡ b) × (c' ≡ c)
 same-counts f a b c a' b' c' o o' =
     let p : a' ≡ a = sym o'.operators.count ∙ o.operators.count in
     let q : b' ≡ b = sym o'.atoms.count ∙ ap (λ x. get_or f (atoms_at x) 0) p ∙ o.atoms.count in
-    (p, q, sym o'.nodes.count ∙ ap (λ x. get_or f (nodesAt x b') 0) p ∙ ap (λ x. get_or f (nodesAt a x) 0) q ∙ o.nodes.count)
+    (p, q, sym o'.nodes.count ∙ ap (λ x. get_or f (nodes_at x b') 0) p ∙ ap (λ x. get_or f (nodes_at a x) 0) q ∙ o.nodes.count)
 
 -- a node's inner or sibling operator is named
-used : (i : ℕ) (ns : List (List ℕ)) (n : ℕ) → n < length ns → (i ≡ inner_of (get_or ns n [])) ⊎ (i ≡ siblingOf (get_or ns n [])) → named i ns ≡ true
+used : (i : ℕ) (ns : List (List ℕ)) (n : ℕ) → n < length ns → (i ≡ inner_of (get_or ns n [])) ⊎ (i ≡ sibling_of (get_or ns n [])) → named i ns ≡ true
 used i ns n h (inl e) = named_by i ns n h (rw (eq-eqb (inner_of (get_or ns n [])) i (sym e)))
-used i ns n h (inr e) = named_by i ns n h (rw (eq-eqb (siblingOf (get_or ns n [])) i (sym e)) (or-true (eqb (inner_of (get_or ns n [])) i)))
+used i ns n h (inr e) = named_by i ns n h (rw (eq-eqb (sibling_of (get_or ns n [])) i (sym e)) (or-true (eqb (inner_of (get_or ns n [])) i)))
 
 -- what a refusal for an operator says, at the counts of the file
-shown : (f : List ℕ) (a b c : ℕ) (r : Refusal) → Otherwise f a b c → read_of f ≡ Refused r → r.number ≡ lawBroken → Shown f a b c r
+shown : (f : List ℕ) (a b c : ℕ) (r : Refusal) → Otherwise f a b c → read_of f ≡ Refused r → r.number ≡ law_broken → Shown f a b c r
 shown f a b c r o e n =
     let w : BrokenLaw f r = refused-law f r e n in
     let s = same-counts f a b c w.operators w.atoms w.nodes o w.otherwise in
-    let os : List (List ℕ) = operatorRecords f a in
-    let ns : List (List ℕ) = nodeRecords f a b c in
-    let many : length ns ≡ c = length-records c nodeLength (drop (nodesAt a b + 1) f) in
-    let shows : Shows (operatorAt os r.place) r.law r.first r.second r.third = rw s.0 at w.shows in
+    let os : List (List ℕ) = operator_records f a in
+    let ns : List (List ℕ) = node_records f a b c in
+    let many : length ns ≡ c = length-records c node_length (drop (nodes_at a b + 1) f) in
+    let shows : Shows (operator_at os r.place) r.law r.first r.second r.third = rw s.0 at w.shows in
     let g : Naming r.place ns = naming r.place ns (rw (s.0, s.1, s.2) at w.used) in
-    let kept : (i : ℕ) → i < r.place → named i ns ≡ true → KeepsLaws (operatorAt os i) = rw (s.0, s.1, s.2) at w.first-such in
+    let kept : (i : ℕ) → i < r.place → named i ns ≡ true → KeepsLaws (operator_at os i) = rw (s.0, s.1, s.2) at w.first-such in
     record {
       within = omega (arith, w.within, s.0);
       some = record {
@@ -89,29 +89,29 @@ shown f a b c r o e n =
         within = omega (arith, g.within);
         operator = r.place;
         named = names-either r.place (get_or ns g.node []) g.names-it;
-        breaks = breaks (operatorAt os r.place) r.law r.first r.second r.third shows;
+        breaks = breaks (operator_at os r.place) r.law r.first r.second r.third shows;
       };
       named = refl;
       first = λ x. by_le r.place x.operator
           (λ l. l)
-          (λ l. absurd (not-kept (operatorAt os x.operator) x.breaks
+          (λ l. absurd (not-kept (operator_at os x.operator) x.breaks
           (kept x.operator l (used x.operator ns x.node (omega (arith, x.within)) x.named))));
       shows = shows;
     }
 
 -- a node's operator that breaks a law: the laws are not kept
-not-laws : (f : List ℕ) (a b c : ℕ) → SomeBroken f a b c → ¬ LawsKept (operatorRecords f a) (nodeRecords f a b c)
+not-laws : (f : List ℕ) (a b c : ℕ) → SomeBroken f a b c → ¬ LawsKept (operator_records f a) (node_records f a b c)
 not-laws f a b c w k =
-    let os : List (List ℕ) = operatorRecords f a in
-    let g = k w.node (omega (arith, w.within, length-records c nodeLength (drop (nodesAt a b + 1) f))) in
-    not-kept (operatorAt os w.operator) w.breaks
-    (⊎_elim (λ e. subst (λ i. KeepsLaws (operatorAt os i)) (sym e) g.0) (λ e. subst (λ i. KeepsLaws (operatorAt os i)) (sym e) g.1) w.named)
+    let os : List (List ℕ) = operator_records f a in
+    let g = k w.node (omega (arith, w.within, length-records c node_length (drop (nodes_at a b + 1) f))) in
+    not-kept (operator_at os w.operator) w.breaks
+    (⊎_elim (λ e. subst (λ i. KeepsLaws (operator_at os i)) (sym e) g.0) (λ e. subst (λ i. KeepsLaws (operator_at os i)) (sym e) g.1) w.named)
 
 pub demand-2 : Demand2
 demand-2 = record {
   accepted = accepted-exactly;
   eval = action-eval;
-  atoms = λ f l e. ap allAtoms (accepted-tree f l e).lists ∙ accepted-atoms f l e;
+  atoms = λ f l e. ap all_atoms (accepted-tree f l e).lists ∙ accepted-atoms f l e;
   scan = table-scans;
   compiles = λ f t s l e enough fits. (rows-answered f t s l e enough fits (accepted-ranged f l e)).0;
   law = λ f a b c o. (

@@ -16,29 +16,29 @@ use Rattle.words.specs.Words.{zeros}
 use Rattle.words.specs.Records.{flat}
 use Rattle.words.specs.Bytes.{words_in}
 use Rattle.theory.specs.Number.{has}
-use Rattle.theory.specs.Hidden.{staying, insideEarlier, placesWhere, InsideSome}
+use Rattle.theory.specs.Hidden.{staying, inside_earlier, places_where, InsideSome}
 use Rattle.theory.proofs.Where.{has-where, where-rises}
 use Rattle.theory.proofs.Hidden.{hidden-exactly, none_hidden, hidden-again, one-exactly}
 use Rattle.flow.specs.Match.{inside}
 use Rattle.flow.proofs.Inside.{inside-exactly}
 use Rattle.action.specs.declared.Action.{Action}
-use Rattle.row.specs.Row.{rowLength, rowWords, rowsIn, words_of, tableRows}
-use Rattle.table.specs.Table.{wrongTable, wrongRow, rowCount, past, rightLength, checkOf, row_at, RightTable}
+use Rattle.row.specs.Row.{row_length, row_words, rows_in, words_of, table_rows}
+use Rattle.table.specs.Table.{wrong_table, wrong_row, row_count, past, right_length, check_of, row_at, RightTable}
 use Rattle.table.specs.declared.Checked.TheVariants as checked
-use Rattle.table.specs.Scan.{scanTried}
+use Rattle.table.specs.Scan.{scan_tried}
 use Rattle.table.proofs.Tables.{length-rows, flat-at, right-row-at, rows_written, check-exactly, check-first}
 use Rattle.table.proofs.Scans.{scan-first, scan-unmatched}
-use Rattle.hidden.specs.Hidden.{keptRows, keptOf, tableKept, keptCount}
+use Rattle.hidden.specs.Hidden.{kept_rows, kept_of, table_kept, kept_count}
 use Rattle.hidden.specs.Theorems.{KeptTells}
 use Rattle.hidden.specs.declared.Kept.TheVariants.{Rows}
 use Rattle.hidden.proofs.Laws.{kept-rows, right_kept, refused-exactly, refused-stays, same-action}
 use Rattle.refusal.specs.Plain.{plain}
 use Rattle.tree.specs.declared.Evaluated.TheVariants as evaluated
 use Rattle.priority.specs.Numbering.{Ready}
-use Rattle.compile.specs.Compile.{noRoom, room, tableAfter}
+use Rattle.compile.specs.Compile.{no_room, room, table_after}
 use Rattle.row.proofs.Rows.{words_count}
-use Rattle.sheet.specs.Sheet.{listingRoom, rowsText}
-use Rattle.text.specs.Listing.{blank, listingOf}
+use Rattle.sheet.specs.Sheet.{listing_room, rows_text}
+use Rattle.text.specs.Listing.{blank, listing_of}
 use Rattle.text.proofs.Lists.{lists-rows, lists-refused}
 use Rattle.promises.specs.Hidden.{row_in, Inside, Hidden, Passed, PassRefused, PassListed, KeptObeysTree, HiddenRows}
 use Rattle.promises.proofs.Demand1.{demand-1}
@@ -46,10 +46,10 @@ use Rattle.promises.proofs.Demand2.{demand-2}
 use Rattle.promises.proofs.Demand3.{demand-3}
 
 -- the places that pass a test lie below the bound
-where_below : (test : ℕ → Bool) (n m : ℕ) → n ≤ m → All (λ i. i < m) (placesWhere test n)
+where_below : (test : ℕ → Bool) (n m : ℕ) → n ≤ m → All (λ i. i < m) (places_where test n)
 where_below test zero m h = tt
 where_below test (suc n) m h =
-    all_append (λ i. i < m) (placesWhere test n) _ (where_below test n m (omega arith))
+    all_append (λ i. i < m) (places_where test n) _ (where_below test n m (omega arith))
     (by-test (test n) (λ t. rw t (omega arith, tt)) (λ t. rw t tt))
 
 -- words that are the same for each
@@ -65,82 +65,82 @@ get_d_map f (x ∷ xs) (suc k) d e h = get_d_map f xs k d e (omega arith)
 
 module _ (ws : List ℕ) (right : RightTable ws) where
   -- the words of a row, from the row
-  row_words : (i : ℕ) → i < rowCount ws → rowWords (row_in ws i) ≡ row_at ws i
-  row_words i h = sym (flat-at (rowsIn ws) i (omega (arith, length-rows ws))) ∙ ap (λ l. row_at l i) (rows_written ws right)
+  row_words-at : (i : ℕ) → i < row_count ws → row_words (row_in ws i) ≡ row_at ws i
+  row_words-at i h = sym (flat-at (rows_in ws) i (omega (arith, length-rows ws))) ∙ ap (λ l. row_at l i) (rows_written ws right)
 
   -- for rows of the table lying inside is by meaning
-  by-meaning : (i j : ℕ) → i < rowCount ws → j < rowCount ws → (inside (row_in ws i).match (row_in ws j).match ≡ true → Inside ws i j)
+  by-meaning : (i j : ℕ) → i < row_count ws → j < row_count ws → (inside (row_in ws i).match (row_in ws j).match ≡ true → Inside ws i j)
       × (Inside ws i j → inside (row_in ws i).match (row_in ws j).match ≡ true)
   by-meaning i j h g = inside-exactly (row_in ws i).match (row_in ws j).match (right-row-at ws right i h).match (right-row-at ws right j g).match
 
   -- a row lies inside an earlier one exactly where it is hidden
-  module _ (i : ℕ) (h : i < rowCount ws) where
-    before : length (take i (rowsIn ws)) ≡ i
-    before = length-take-le i (rowsIn ws) (omega (arith, length-rows ws))
+  module _ (i : ℕ) (h : i < row_count ws) where
+    before : length (take i (rows_in ws)) ≡ i
+    before = length-take-le i (rows_in ws) (omega (arith, length-rows ws))
 
-    hidden_found : insideEarlier inside past (rowsIn ws) i ≡ true → Hidden ws i
+    hidden_found : inside_earlier inside past (rows_in ws) i ≡ true → Hidden ws i
     hidden_found e =
-        let s : InsideSome inside past (row_in ws i).match (take i (rowsIn ws)) =
-        (one-exactly Action inside past (row_in ws i).match (take i (rowsIn ws))).0 e in
+        let s : InsideSome inside past (row_in ws i).match (take i (rows_in ws)) =
+        (one-exactly Action inside past (row_in ws i).match (take i (rows_in ws))).0 e in
         let b : s.place < i = omega (arith, s.within, before) in record {
           earlier = s.place;
           before = b;
           inside = (by-meaning i s.place h (omega arith)).0
-              (ap (λ r. inside (row_in ws i).match r.match) (sym (get_or-take i (rowsIn ws) s.place past b)) ∙ s.lies);
+              (ap (λ r. inside (row_in ws i).match r.match) (sym (get_or-take i (rows_in ws) s.place past b)) ∙ s.lies);
         }
 
-    hidden-shown : Hidden ws i → insideEarlier inside past (rowsIn ws) i ≡ true
+    hidden-shown : Hidden ws i → inside_earlier inside past (rows_in ws) i ≡ true
     hidden-shown s =
-        (one-exactly Action inside past (row_in ws i).match (take i (rowsIn ws))).1 (record {
+        (one-exactly Action inside past (row_in ws i).match (take i (rows_in ws))).1 (record {
           place = s.earlier;
           within = omega (arith, s.before, before);
           lies =
-              ap (λ r. inside (row_in ws i).match r.match) (get_or-take i (rowsIn ws) s.earlier past s.before)
+              ap (λ r. inside (row_in ws i).match r.match) (get_or-take i (rows_in ws) s.earlier past s.before)
               ∙ (by-meaning i s.earlier h (omega (arith, s.before))).1 s.inside;
         })
 
   -- the test by which rows stay, and their places
   abbrev test : ℕ → Bool
-  test i = not (insideEarlier inside past (rowsIn ws) i)
+  test i = not (inside_earlier inside past (rows_in ws) i)
 
   abbrev stayers : List ℕ
-  stayers = placesWhere test (rowCount ws)
+  stayers = places_where test (row_count ws)
 
   -- the rows that stay are those at the places
-  at_places : keptRows ws ≡ map (λ i. row_in ws i) stayers
-  at_places = hidden-exactly Action inside past (rowsIn ws) ∙ ap (λ n. map (λ i. row_in ws i) (placesWhere test n)) (length-rows ws)
+  at_places : kept_rows ws ≡ map (λ i. row_in ws i) stayers
+  at_places = hidden-exactly Action inside past (rows_in ws) ∙ ap (λ n. map (λ i. row_in ws i) (places_where test n)) (length-rows ws)
 
   abbrev kept : ℕ
-  kept = length (keptRows ws)
+  kept = length (kept_rows ws)
 
   told : KeptTells ws kept
   told = kept-rows ws kept (right_kept ws right)
 
   -- what they are as a table
   abbrev after : List ℕ
-  after = tableRows kept (tableKept ws)
+  after = table_rows kept (table_kept ws)
 
-  after-right : RightTable after × (kept ≡ rowCount after)
+  after-right : RightTable after × (kept ≡ row_count after)
   after-right = (check-exactly after kept).0 told.check
 
   many : length stayers ≡ kept
   many = sym (length-map stayers (λ i. row_in ws i)) ∙ ap length (sym at_places)
 
   -- whether a place is had
-  had : (i : ℕ) → i < rowCount ws → has i stayers ≡ test i
-  had i h = has-where test (rowCount ws) i ∙ rw (lt-ltb i (rowCount ws) h)
+  had : (i : ℕ) → i < row_count ws → has i stayers ≡ test i
+  had i h = has-where test (row_count ws) i ∙ rw (lt-ltb i (row_count ws) h)
 
-  removes-found : (i : ℕ) → i < rowCount ws → has i stayers ≡ false → Hidden ws i
-  removes-found i h e = hidden_found i h (not-false (insideEarlier inside past (rowsIn ws) i) (sym (had i h) ∙ e))
+  removes-found : (i : ℕ) → i < row_count ws → has i stayers ≡ false → Hidden ws i
+  removes-found i h e = hidden_found i h (not-false (inside_earlier inside past (rows_in ws) i) (sym (had i h) ∙ e))
 
-  kept-words : words_of (keptRows ws) ≡ flat (row_at ws) stayers
+  kept-words : words_of (kept_rows ws) ≡ flat (row_at ws) stayers
   kept-words =
       ap words_of at_places
-      ∙ flat-same rowWords (λ i. row_in ws i) (row_at ws) stayers
-      (all_then (λ i. i < rowCount ws) (λ i. rowWords (row_in ws i) ≡ row_at ws i) row_words stayers (where_below test (rowCount ws) (rowCount ws) (omega arith)))
+      ∙ flat-same row_words (λ i. row_in ws i) (row_at ws) stayers
+      (all_then (λ i. i < row_count ws) (λ i. row_words (row_in ws i) ≡ row_at ws i) row_words-at stayers (where_below test (row_count ws) (row_count ws) (omega arith)))
 
-  kept-long : length (words_of (keptRows ws)) ≡ kept * rowLength
-  kept-long = words_count (keptRows ws)
+  kept-long : length (words_of (kept_rows ws)) ≡ kept * row_length
+  kept-long = words_count (kept_rows ws)
 
   -- row k of what stays
   after-row : (k : ℕ) → k < kept → row_in after k ≡ row_in ws (get_or stayers k 0)
@@ -150,29 +150,29 @@ module _ (ws : List ℕ) (right : RightTable ws) where
   none_left : (i : ℕ) → i < kept → ¬ (Hidden after i)
   none_left i h s =
       let r : RightTable after = after-right.0 in
-      let g : i < rowCount after = omega (arith, after-right.1) in
-      let b : s.earlier < rowCount after = omega (arith, s.before) in
+      let g : i < row_count after = omega (arith, after-right.1) in
+      let b : s.earlier < row_count after = omega (arith, s.before) in
       let yes : inside (row_in after i).match (row_in after s.earlier).match ≡ true =
       (inside-exactly (row_in after i).match (row_in after s.earlier).match (right-row-at after r i g).match (right-row-at after r s.earlier b).match).1
       s.inside in
       let no : inside (row_in after i).match (row_in after s.earlier).match ≡ false =
       ap (λ N. inside (get_or N i past).match (get_or N s.earlier past).match) told.rows
-      ∙ none_hidden Action inside past (rowsIn ws) s.earlier i s.before h in
+      ∙ none_hidden Action inside past (rows_in ws) s.earlier i s.before h in
       false≢true (sym no ∙ yes)
 
   -- so a second pass changes nothing
-  all_stay : keptRows after ≡ rowsIn after
-  all_stay = ap (staying inside) told.rows ∙ hidden-again Action inside (rowsIn ws) ∙ sym told.rows
+  all_stay : kept_rows after ≡ rows_in after
+  all_stay = ap (staying inside) told.rows ∙ hidden-again Action inside (rows_in ws) ∙ sym told.rows
 
-  again : (keptOf after ≡ Rows kept) × (tableKept after ≡ after)
+  again : (kept_of after ≡ Rows kept) × (table_kept after ≡ after)
   again =
       let r : RightTable after = after-right.0 in
-      let n : length (keptRows after) ≡ kept = ap length (all_stay ∙ told.rows) in
-      let answer : keptOf after ≡ Rows (length (keptRows after)) = right_kept after r in
-      let same : words_of (keptRows after) ≡ after = ap words_of all_stay ∙ rows_written after r in
+      let n : length (kept_rows after) ≡ kept = ap length (all_stay ∙ told.rows) in
+      let answer : kept_of after ≡ Rows (length (kept_rows after)) = right_kept after r in
+      let same : words_of (kept_rows after) ≡ after = ap words_of all_stay ∙ rows_written after r in
       let none : length after - length after ≡ 0 = omega arith in (
         answer ∙ ap Rows n,
-        (kept-rows after (length (keptRows after)) answer).words ∙ ap (λ l. l ++ zeros (length after - length l)) same
+        (kept-rows after (length (kept_rows after)) answer).words ∙ ap (λ l. l ++ zeros (length after - length l)) same
             ∙ ap (λ m. after ++ zeros m) none
             ∙ append-nil after,
       )
@@ -184,8 +184,8 @@ module _ (ws : List ℕ) (right : RightTable ws) where
     answer = right_kept ws right;
     many = many;
     removes = λ i h. (removes-found i h, λ s. had i h ∙ ap not (hidden-shown i h s));
-    of-table = λ i e. ltb-true i (rowCount ws) (and_left (ltb i (rowCount ws)) (test i) (sym (has-where test (rowCount ws) i) ∙ e));
-    order = λ k h. where-rises test (rowCount ws) k (omega (arith, many));
+    of-table = λ i e. ltb-true i (row_count ws) (and_left (ltb i (row_count ws)) (test i) (sym (has-where test (row_count ws) i) ∙ e));
+    order = λ k h. where-rises test (row_count ws) k (omega (arith, many));
     several = λ i h none. by-test (has i stayers)
         (λ t. t)
         (λ t. let s : Hidden ws i = removes-found i h t in absurd (none s.earlier s.before s.inside));
@@ -195,41 +195,41 @@ module _ (ws : List ℕ) (right : RightTable ws) where
     action = λ p. same-action ws p kept (right_kept ws right);
     none_left = none_left;
     again = again;
-    tried = λ p i t f. ap scanTried (scan-first after p i after-right.0 t (rw (← after-right.1) f));
-    tried-all = λ p t f. ap scanTried (scan-unmatched after p after-right.0 t (λ i h. f i (omega (arith, after-right.1)))) ∙ sym after-right.1;
+    tried = λ p i t f. ap scan_tried (scan-first after p i after-right.0 t (rw (← after-right.1) f));
+    tried-all = λ p t f. ap scan_tried (scan-unmatched after p after-right.0 t (λ i h. f i (omega (arith, after-right.1)))) ∙ sym after-right.1;
   }
 
 -- 15, then 16 at the first wrong row, and nothing moves
 pass-refused : PassRefused
 pass-refused = record {
-  length-first = λ ws h. let e = (refused-exactly ws wrongTable 0).1 (wrong-length ws h) in (e, refused-stays ws wrongTable 0 e);
-  then-rows = λ ws i h f. let e = (refused-exactly ws wrongRow i).1 (check-first ws i h f) in (e, refused-stays ws wrongRow i e);
+  length-first = λ ws h. let e = (refused-exactly ws wrong_table 0).1 (wrong-length ws h) in (e, refused-stays ws wrong_table 0 e);
+  then-rows = λ ws i h f. let e = (refused-exactly ws wrong_row i).1 (check-first ws i h f) in (e, refused-stays ws wrong_row i e);
 }
   where
-    wrong-length : (ws : List ℕ) → rightLength ws ≡ false → checkOf ws ≡ checked.Wrong wrongTable 0
+    wrong-length : (ws : List ℕ) → right_length ws ≡ false → check_of ws ≡ checked.Wrong wrong_table 0
     wrong-length ws h = demand-1.order.table-length ws h
 
 -- the listing's buffers suffice for as many rows as it has room for
-blank-room : room (length blank) ≡ listingRoom
-blank-room = let k : length blank ≡ rowLength * listingRoom = length-replicate {A = ℕ} (rowLength * listingRoom) 0 in omega arith
+blank-room : room (length blank) ≡ listing_room
+blank-room = let k : length blank ≡ row_length * listing_room = length-replicate {A = ℕ} (row_length * listing_room) 0 in omega arith
 
 pass-listed : PassListed
-unfolding listingOf
+unfolding listing_of
 pass-listed = record {
   before-numbering = λ b n k t e q.
       let l = lists-rows (words_in b) n e in
-      let same : l.count ≡ k = ap keptCount (sym l.stay ∙ q) in
-      rw t (l.listed.text ∙ ap (λ m. rowsText m (tableRows m (tableKept (tableRows n (tableAfter (words_in b) blank blank))))) same);
-  room = λ b l t e h. rw t (lists-refused (words_in b) (plain noRoom 0)
+      let same : l.count ≡ k = ap kept_count (sym l.stay ∙ q) in
+      rw t (l.listed.text ∙ ap (λ m. rows_text m (table_rows m (table_kept (table_rows n (table_after (words_in b) blank blank))))) same);
+  room = λ b l t e h. rw t (lists-refused (words_in b) (plain no_room 0)
       ((demand-2.for-room (words_in b) blank blank l e (omega (arith, blank-room))).1 (omega (arith, blank-room))));
   in-room = λ b l t e h. demand-2.compiles (words_in b) blank blank l e (omega (arith, blank-room)) (omega (arith, blank-room));
 }
 
 kept-obeys-tree : KeptObeysTree
 kept-obeys-tree f t s ps cs p n k i q e h g right o =
-    let ws : List ℕ = tableRows n (tableAfter f t s) in
-    let vs : List ℕ = tableRows k (tableKept ws) in
-    let c : RightTable vs × (k ≡ rowCount vs) = (check-exactly vs k).0 (kept-rows ws k e).check in
+    let ws : List ℕ = table_rows n (table_after f t s) in
+    let vs : List ℕ = table_rows k (table_kept ws) in
+    let c : RightTable vs × (k ≡ row_count vs) = (check-exactly vs k).0 (kept-rows ws k e).check in
     let r : Ready vs ps cs = record { right = c.0; priorities = omega (arith, c.1); chain = omega (arith, c.1) } in
     (demand-2.scan f t s p n q right).1
     ∙ ap evaluated.Gives (sym ((demand-3 vs ps cs r).switch p i right o ∙ (same-action ws p k e).1))

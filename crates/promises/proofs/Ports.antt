@@ -7,16 +7,16 @@ use mathlib.Core.Logic.{⊎_elim, ◌⊎◌, inl, inr}
 use lib.Dec.{eqb}
 use borrow.Author.Tests.{eqb-true, lt-ltb}
 use Rattle.logic.proofs.Tests.{and_both, or_split}
-use Rattle.field.specs.Value.{rightValue}
-use Rattle.flow.specs.Packet.{protocolLimit}
-use Rattle.flow.specs.Match.{sourceportFlag, destinationportFlag, protocolFlag, portFlags, emptyFlag, constrains, flagged, hasPorts, meetsPorts, match_of}
-use Rattle.flow.specs.Match.{is_empty, is_none, is_plain, rightMatch, fits, meets}
+use Rattle.field.specs.Value.{right_value}
+use Rattle.flow.specs.Packet.{protocol_limit}
+use Rattle.flow.specs.Match.{sourceport_flag, destinationport_flag, protocol_flag, port_flags, empty_flag, constrains, flagged, has_ports, meets_ports, match_of}
+use Rattle.flow.specs.Match.{is_empty, is_none, is_plain, right_match, fits, meets}
 use Rattle.flow.specs.declared.Match.{Match}
 use Rattle.flow.specs.declared.Packet.{Packet}
 use Rattle.flow.proofs.Flags.{flag-either}
 use Rattle.flow.proofs.Tests.{ports-met}
 use Rattle.flow.proofs.Laws.{meets-common, overlap-exactly, empty-exactly, common-none}
-use Rattle.row.specs.Row.{rightRow}
+use Rattle.row.specs.Row.{right_row}
 use Rattle.table.proofs.Tables.{check-first}
 use Rattle.promises.specs.Ports.{TcpOrUdp, PortMet, spoken, CountsAsEmpty, Follows, PortsOnly}
 use Rattle.promises.proofs.Cases.{port-cases}
@@ -25,62 +25,62 @@ use Rattle.promises.proofs.Demand3.{demand-3}
 use Rattle.promises.proofs.Hidden.{hidden-rows}
 
 -- a protocol that has ports is one of the two
-two : (p : Packet) → hasPorts p.protocol ≡ true → TcpOrUdp p
+two : (p : Packet) → has_ports p.protocol ≡ true → TcpOrUdp p
 two p e = ⊎_elim (λ t. inl (eqb-true _ _ t)) (λ u. inr (eqb-true _ _ u)) (or_split (eqb p.protocol 6) (eqb p.protocol 17) e)
 
 -- and each of the two has them
-has : (p : Packet) → TcpOrUdp p → hasPorts p.protocol ≡ true
-has p (inl t) = ap hasPorts t
-has p (inr u) = ap hasPorts u
+has : (p : Packet) → TcpOrUdp p → has_ports p.protocol ≡ true
+has p (inl t) = ap has_ports t
+has p (inr u) = ap has_ports u
 
 -- either port's flag is one of the ports' flags
-either : (m : Match) → constrains portFlags m ≡ (constrains sourceportFlag m || constrains destinationportFlag m)
-either m = flag-either sourceportFlag destinationportFlag m.flags
+either : (m : Match) → constrains port_flags m ≡ (constrains sourceport_flag m || constrains destinationport_flag m)
+either m = flag-either sourceport_flag destinationport_flag m.flags
 
-neither : (m : Match) → constrains sourceportFlag m ≡ false → constrains destinationportFlag m ≡ false → constrains portFlags m ≡ false
+neither : (m : Match) → constrains sourceport_flag m ≡ false → constrains destinationport_flag m ≡ false → constrains port_flags m ≡ false
 neither m s d = either m ∙ rw (s, d)
 
 -- where a packet passes the ports, the fields decide
-passed : (m : Match) (p : Packet) → meetsPorts (constrains portFlags m) p.protocol ≡ true → meets m p ≡ fits m p
+passed : (m : Match) (p : Packet) → meets_ports (constrains port_flags m) p.protocol ≡ true → meets m p ≡ fits m p
 unfolding meets
 passed m p e = rw (e, and-true)
 
 port-met : PortMet
-unfolding meetsPorts
+unfolding meets_ports
 port-met = record {
-  source = λ m p on e. two p (ports-met m p (either m ∙ ap (λ (x : Bool). x || constrains destinationportFlag m) on) e);
+  source = λ m p on e. two p (ports-met m p (either m ∙ ap (λ (x : Bool). x || constrains destinationport_flag m) on) e);
   destination = λ m p on e.
-      two p (ports-met m p (either m ∙ ap (λ (x : Bool). constrains sourceportFlag m || x) on ∙ or-true (constrains sourceportFlag m)) e);
+      two p (ports-met m p (either m ∙ ap (λ (x : Bool). constrains sourceport_flag m || x) on ∙ or-true (constrains sourceport_flag m)) e);
   of-these = λ m p t.
-      passed m p (ap (λ (x : Bool). not (constrains portFlags m) || x) (has p t) ∙ or-true (not (constrains portFlags m)));
+      passed m p (ap (λ (x : Bool). not (constrains port_flags m) || x) (has p t) ∙ or-true (not (constrains port_flags m)));
   without = λ m p s d.
-      passed m p (ap (λ (x : Bool). not x || hasPorts p.protocol) (neither m s d));
+      passed m p (ap (λ (x : Bool). not x || has_ports p.protocol) (neither m s d));
 }
 
 -- a right match that constrains the protocol stays right with every protocol in range
-right-protocol : (on : Bool) (q : ℕ) → on ≡ true → q < protocolLimit → rightValue on protocolLimit q ≡ true
-unfolding rightValue
-right-protocol on q e h = rw e (and_both (lt-ltb q protocolLimit h) refl)
+right-protocol : (on : Bool) (q : ℕ) → on ≡ true → q < protocol_limit → right_value on protocol_limit q ≡ true
+unfolding right_value
+right-protocol on q e h = rw e (and_both (lt-ltb q protocol_limit h) refl)
 
-stays_plain : (m : Match) (q : ℕ) → constrains protocolFlag m ≡ true → q < protocolLimit → is_plain m ≡ true → is_plain (spoken q m) ≡ true
+stays_plain : (m : Match) (q : ℕ) → constrains protocol_flag m ≡ true → q < protocol_limit → is_plain m ≡ true → is_plain (spoken q m) ≡ true
 unfolding is_plain
 stays_plain m q on h e =
     let t = simp and-eq-true_iff at e in
     and_both (and_both (and_both (and_both (and_both (and_both t.0.0.0.0.0.0 t.0.0.0.0.0.1) (right-protocol _ q on h)) t.0.0.0.1)
     t.0.0.1) t.0.1) t.1
 
-stays-right : (m : Match) (q : ℕ) → constrains protocolFlag m ≡ true → q < protocolLimit → rightMatch m ≡ true → rightMatch (spoken q m) ≡ true
-unfolding rightMatch is_none
+stays-right : (m : Match) (q : ℕ) → constrains protocol_flag m ≡ true → q < protocol_limit → right_match m ≡ true → right_match (spoken q m) ≡ true
+unfolding right_match is_none
 stays-right m q on h e =
     ⊎_elim
     (λ n. let t = simp and-eq-true_iff at n in
-    absurd (false≢true (sym (ap (flagged protocolFlag) (eqb-true m.flags emptyFlag t.1)) ∙ on)))
+    absurd (false≢true (sym (ap (flagged protocol_flag) (eqb-true m.flags empty_flag t.1)) ∙ on)))
     (λ n. ap (λ (x : Bool). is_none (spoken q m) || x) (stays_plain m q on h n) ∙ or-true (is_none (spoken q m)))
     (or_split (is_none m) (is_plain m) e)
 
 -- a row with an empty match is wrong
-empty-wrong : (ws : List ℕ) → is_empty (match_of ws) ≡ true → rightRow ws ≡ false
-unfolding rightRow
+empty-wrong : (ws : List ℕ) → is_empty (match_of ws) ≡ true → right_row ws ≡ false
+unfolding right_row
 empty-wrong ws e = rw (e, and-false)
 
 port-empty : CountsAsEmpty

@@ -10,13 +10,13 @@ use lib.ListN.{length, length-replicate}
 use borrow.Author.Tests.{le-ltb}
 use Rattle.logic.proofs.Tests.{by-test}
 use Rattle.words.specs.Bytes.{words_in}
-use Rattle.row.specs.Row.{rowLength}
+use Rattle.row.specs.Row.{row_length}
 use Rattle.refusal.specs.declared.Refusal.{Refusal}
-use Rattle.compile.specs.Compile.{noRoom, room, compiledRows, answer_of}
+use Rattle.compile.specs.Compile.{no_room, room, compiled_rows, answer_of}
 use Rattle.compile.specs.declared.Compiled.{Compiled}
 use Rattle.compile.specs.declared.Compiled.TheVariants.{Rows, Refused}
-use Rattle.text.specs.Listing.{wrongInput, rightInput, blank, listingOf}
-use Rattle.sheet.specs.Sheet.{listingRoom}
+use Rattle.text.specs.Listing.{wrong_input, right_input, blank, listing_of}
+use Rattle.sheet.specs.Sheet.{listing_room}
 use Rattle.text.proofs.Lists.{lists-rows, lists-refused, refused-input}
 use Rattle.promises.specs.Told.{between}
 use Rattle.promises.specs.Prints.{PrintsRows, PrintsRefusal, EveryListing}
@@ -24,28 +24,28 @@ use Rattle.promises.proofs.Rates.{accepted-fine}
 use Rattle.promises.proofs.Demand1.{file-number, by-reading, same_number, no_rows}
 
 -- the numbers of a compile with scratch enough
-scratch-number : (f t s : List ℕ) (r : Refusal) → rowLength * room (length t) ≤ length s → answer_of f t s ≡ Refused r
-    → between 1 10 r.number ⊎ (r.number ≡ noRoom)
+scratch-number : (f t s : List ℕ) (r : Refusal) → row_length * room (length t) ≤ length s → answer_of f t s ≡ Refused r
+    → between 1 10 r.number ⊎ (r.number ≡ no_room)
 unfolding answer_of
 scratch-number f t s r h q = by-reading f
-    (λ l e. by-test (ltb (room (length t)) (length (compiledRows f l)))
+    (λ l e. by-test (ltb (room (length t)) (length (compiled_rows f l)))
     (λ b. inr (sym (same_number (rw (e, le-ltb _ _ h, b) at q))))
     (λ b. no_rows (rw (e, le-ltb _ _ h, b, accepted-fine f l e) at q)))
     (λ r' e. inl (subst (between 1 10) (same_number (rw e at q)) (file-number f r' e)))
 
 -- and so of a compile in the listing's buffers
-listed-number : (f : List ℕ) (r : Refusal) → answer_of f blank blank ≡ Refused r → between 1 10 r.number ⊎ (r.number ≡ noRoom)
+listed-number : (f : List ℕ) (r : Refusal) → answer_of f blank blank ≡ Refused r → between 1 10 r.number ⊎ (r.number ≡ no_room)
 listed-number f r =
-    let k : length blank ≡ rowLength * listingRoom = length-replicate {A = ℕ} (rowLength * listingRoom) 0 in
+    let k : length blank ≡ row_length * listing_room = length-replicate {A = ℕ} (row_length * listing_room) 0 in
     scratch-number f blank blank r (omega arith)
 
 pub every-listing : EveryListing
-unfolding listingOf
-every-listing b = by-test (rightInput b)
+unfolding listing_of
+every-listing b = by-test (right_input b)
     (λ t. by_answer t (answer_of (words_in b) blank blank) refl)
-    (λ t. inr (record { number = wrongInput; place = 0; one_of = inr (inr refl); text = refused-input b t }))
+    (λ t. inr (record { number = wrong_input; place = 0; one_of = inr (inr refl); text = refused-input b t }))
   where
-    by_answer : rightInput b ≡ true → (x : Compiled) → answer_of (words_in b) blank blank ≡ x → PrintsRows b ⊎ PrintsRefusal b
+    by_answer : right_input b ≡ true → (x : Compiled) → answer_of (words_in b) blank blank ≡ x → PrintsRows b ⊎ PrintsRefusal b
     by_answer t (Rows n) e = inl (record { right = t; count = n; compiled = e; listed = lists-rows (words_in b) n e; text = rw t refl })
     by_answer t (Refused r) e = inr (record {
       number = r.number;

@@ -6,7 +6,7 @@ use mathlib.Core.List.{List}
 use Rattle.theory.specs.Rows.{scan}
 use Rattle.theory.specs.Theorems.{Laws}
 use Rattle.theory.proofs.Compile.{scan-compile}
-use Rattle.flow.specs.Packet.{packetOf, rightPacketWords}
+use Rattle.flow.specs.Packet.{packet_of, right_packet_words}
 use Rattle.flow.specs.Match.{is_empty, common, meets}
 use Rattle.flow.specs.declared.Packet.{Packet}
 use Rattle.flow.proofs.Laws.{meets-common}
@@ -16,38 +16,38 @@ use Rattle.action.specs.declared.Action.TheVariants.{DontCare}
 use Rattle.action.proofs.Joined.{identity}
 use Rattle.policy.specs.File.{tree_of}
 use Rattle.policy.specs.declared.Layout.{Layout}
-use Rattle.table.specs.Scan.{scanOf, scanNumber, scanAction, found}
+use Rattle.table.specs.Scan.{scan_of, scan_number, scan_action, found}
 use Rattle.table.proofs.Tables.{check-exactly, rows-read}
 use Rattle.table.proofs.Scans.{scan-found}
-use Rattle.tree.specs.Action.{evalTree, treeActionOf}
+use Rattle.tree.specs.Action.{eval_tree, tree_action_of}
 use Rattle.tree.specs.declared.Evaluated.TheVariants.{Gives}
 use Rattle.tree.proofs.Eval.{action-eval}
-use Rattle.compile.specs.Compile.{compiledRows, answer_of, tableAfter}
+use Rattle.compile.specs.Compile.{compiled_rows, answer_of, table_after}
 use Rattle.compile.specs.Theorems.{AnswerTells}
 use Rattle.compile.specs.declared.Compiled.TheVariants.{Rows}
 use Rattle.compile.proofs.Answered.{answers-rows}
 use Rattle.text.proofs.Right.{table-right}
-use Rattle.row.specs.Row.{rowsIn, tableRows}
+use Rattle.row.specs.Row.{rows_in, table_rows}
 use Rattle.table.specs.Table.{RightTable}
 
 -- the scan of the rows is the action of the tree
-rows-scan : (f : List ℕ) (l : Layout) (p : Packet) → scan meets DontCare (compiledRows f l) p ≡ evalTree (tree_of f l) p
-unfolding compiledRows
+rows-scan : (f : List ℕ) (l : Layout) (p : Packet) → scan meets DontCare (compiled_rows f l) p ≡ eval_tree (tree_of f l) p
+unfolding compiled_rows
 rows-scan f l p =
     let laws : Laws meets DontCare operator.join common is_empty =
     record { meets-common = meets-common; meets-empty = meets-empty; identity-left = λ o a. (identity o a).0; identity-right = λ o a. (identity o a).1 } in
     scan-compile laws (tree_of f l) p
 
 -- of the rows that were answered, the scan is no refusal, and its action is the tree's
-pub table-scans : (f t s p : List ℕ) (n : ℕ) → answer_of f t s ≡ Rows n → rightPacketWords p ≡ true
-    → (scanNumber (scanOf (tableRows n (tableAfter f t s)) p) ≡ 0) × (treeActionOf f p ≡ Gives (scanAction (scanOf (tableRows n (tableAfter f t s)) p)))
+pub table-scans : (f t s p : List ℕ) (n : ℕ) → answer_of f t s ≡ Rows n → right_packet_words p ≡ true
+    → (scan_number (scan_of (table_rows n (table_after f t s)) p) ≡ 0) × (tree_action_of f p ≡ Gives (scan_action (scan_of (table_rows n (table_after f t s)) p)))
 table-scans f t s p n q right =
     let k : AnswerTells f t s n = answers-rows f t s n q in
     let l : Layout = k.layout in
-    let ws : List ℕ = tableRows n (tableAfter f t s) in
+    let ws : List ℕ = table_rows n (table_after f t s) in
     let table : RightTable ws = ((check-exactly ws n).0 (table-right f t s n q)).0 in
-    let same : rowsIn ws ≡ compiledRows f l = ap rowsIn k.stands ∙ rows-read (compiledRows f l) in
-    let sees : scanOf ws p ≡ found 0 (compiledRows f l) (packetOf p) = scan-found ws p table right ∙ ap (λ N. found 0 N (packetOf p)) same in (
-      ap scanNumber sees,
-      action-eval f p l k.accepted right ∙ ap Gives (sym (rows-scan f l (packetOf p)) ∙ sym (ap scanAction sees)),
+    let same : rows_in ws ≡ compiled_rows f l = ap rows_in k.stands ∙ rows-read (compiled_rows f l) in
+    let sees : scan_of ws p ≡ found 0 (compiled_rows f l) (packet_of p) = scan-found ws p table right ∙ ap (λ N. found 0 N (packet_of p)) same in (
+      ap scan_number sees,
+      action-eval f p l k.accepted right ∙ ap Gives (sym (rows-scan f l (packet_of p)) ∙ sym (ap scan_action sees)),
     )

@@ -1,7 +1,7 @@
 -- What it means that every input has one answer.
 --
 --   OneAnswer               a contract asks nothing, and no second answer fits it
---   answerWith, answerAnd   a result with the words of one lent buffer, and of two
+--   answer_with, answer_and   a result with the words of one lent buffer, and of two
 use Rattle.std.specs.Prelude.{ℕ, ◌≡◌, List}
 
 -- Of a contract, that it asks nothing of its caller and that no second answer fits. Pre κ a is what it asks of the
@@ -14,9 +14,9 @@ pub record OneAnswer {K : Type 0} {A R S : K → Type 0} {X : Type 0} (Pre : (κ
       → seen κ r₁ s₁ ≡ seen κ r₂ s₂
 
 -- a result, with the words of a lent buffer
-abbrev pub answerWith : {X : Type 0} → X → List ℕ → X × List ℕ
-answerWith r b = (r, b)
+abbrev pub answer_with : {X : Type 0} → X → List ℕ → X × List ℕ
+answer_with r b = (r, b)
 
 -- a result, with the words of two lent buffers
-abbrev pub answerAnd : {X : Type 0} → X → List ℕ → List ℕ → X × List ℕ × List ℕ
-answerAnd r b c = (r, b, c)
+abbrev pub answer_and : {X : Type 0} → X → List ℕ → List ℕ → X × List ℕ × List ℕ
+answer_and r b c = (r, b, c)

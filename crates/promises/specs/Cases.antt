@@ -4,26 +4,26 @@
 --   Hold                   every call of a list gives what is said
 --   to                     a packet to an dotted, with zeros for the rest
 --   lent                   a buffer of zeros with room for four rows
---   rowsLeft f               the rows that the compile of a file leaves in such a buffer, as many as it answers
+--   rows_left f               the rows that the compile of a file leaves in such a buffer, as many as it answers
 --   cases                  the list
 use Rattle.std.specs.Prelude.{ℕ, ◌+◌, ◌*◌, ◌≡◌, List, [], ◌∷◌, ◌++◌}
 use Rattle.action.specs.Operator.{join, sibling, parent}
 use Rattle.action.specs.declared.Action.TheVariants.{DontCare, Allow, Deny, Gmb}
 use Rattle.action.specs.declared.Law.TheVariants.{Commutativity, Associativity}
-use Rattle.row.specs.Row.{rowLength, tableRows}
-use Rattle.section.specs.Numbers.{short, lawBroken}
+use Rattle.row.specs.Row.{row_length, table_rows}
+use Rattle.section.specs.Numbers.{short, law_broken}
 use Rattle.refusal.specs.Plain.{plain}
 use Rattle.policy.specs.Read.{read_of}
-use Rattle.policy.specs.Examples.{tenant, tenantWith, lone, lopsided}
+use Rattle.policy.specs.Examples.{tenant, tenant_with, lone, lopsided}
 use Rattle.policy.specs.declared.Reading.TheVariants as reading
-use Rattle.tree.specs.Action.{treeActionOf}
+use Rattle.tree.specs.Action.{tree_action_of}
 use Rattle.tree.specs.declared.Evaluated.TheVariants.{Gives}
-use Rattle.table.specs.Scan.{scanOf}
+use Rattle.table.specs.Scan.{scan_of}
 use Rattle.table.specs.declared.Scanned.TheVariants.{Found}
-use Rattle.priority.specs.Numbering.{number_of, prioritiesAfter, chainAfter}
+use Rattle.priority.specs.Numbering.{number_of, priorities_after, chain_after}
 use Rattle.priority.specs.declared.Numbered.TheVariants.{Priorities}
 use Rattle.words.specs.Words.{zeros}
-use Rattle.compile.specs.Compile.{answer_of, tableAfter, scratchAfter, compileCount}
+use Rattle.compile.specs.Compile.{answer_of, table_after, scratch_after, compile_count}
 use Rattle.compile.specs.declared.Compiled.TheVariants.{Rows}
 
 -- a case: its number in the scope, a call, and what it gives
@@ -51,11 +51,11 @@ to destination = 0 ∷ 0 ∷ destination ∷ 0 ∷ 0 ∷ 0 ∷ []
 
 -- a buffer with room for four rows
 abbrev pub lent : List ℕ
-lent = zeros (4 * rowLength)
+lent = zeros (4 * row_length)
 
 -- the rows that the compile of a file leaves in such a buffer
-abbrev pub rowsLeft : List ℕ → List ℕ
-rowsLeft f = tableRows (compileCount (answer_of f lent lent)) (tableAfter f lent lent)
+abbrev pub rows_left : List ℕ → List ℕ
+rows_left f = table_rows (compile_count (answer_of f lent lent)) (table_after f lent lent)
 
 -- a row that only asks for a destination prefix
 abbrev pub row : ℕ → ℕ → ℕ → ℕ → List ℕ
@@ -69,26 +69,26 @@ cases =
     ∷ k 4 (join parent (join parent (Gmb 5) Deny) Allow) Allow
     ∷ k 4 (join parent (Gmb 5) (join parent Deny Allow)) (Gmb 5)
     ∷ k 5 (answer_of (lone sibling) lent lent) (Rows 0)
-    ∷ k 5 (number_of (rowsLeft (lone sibling)) 0 0) (Priorities 0)
-    ∷ k 5 (treeActionOf (lone sibling) (to (dotted 10 7 3 9))) (Gives DontCare)
-    ∷ k 5 (scanOf (rowsLeft (lone sibling)) (to (dotted 10 7 3 9))) (Found DontCare 0)
-    ∷ k 6 (treeActionOf tenant (to (dotted 10 7 3 9))) (Gives (Gmb 40000))
-    ∷ k 6 (scanOf (rowsLeft tenant) (to (dotted 10 7 3 9))) (Found (Gmb 40000) 1)
-    ∷ k 7 (treeActionOf tenant (to (dotted 10 7 3 10))) (Gives Deny)
-    ∷ k 7 (scanOf (rowsLeft tenant) (to (dotted 10 7 3 10))) (Found Deny 2)
-    ∷ k 8 (treeActionOf tenant (to (dotted 10 8 0 1))) (Gives DontCare)
-    ∷ k 8 (scanOf (rowsLeft tenant) (to (dotted 10 8 0 1))) (Found DontCare 3)
+    ∷ k 5 (number_of (rows_left (lone sibling)) 0 0) (Priorities 0)
+    ∷ k 5 (tree_action_of (lone sibling) (to (dotted 10 7 3 9))) (Gives DontCare)
+    ∷ k 5 (scan_of (rows_left (lone sibling)) (to (dotted 10 7 3 9))) (Found DontCare 0)
+    ∷ k 6 (tree_action_of tenant (to (dotted 10 7 3 9))) (Gives (Gmb 40000))
+    ∷ k 6 (scan_of (rows_left tenant) (to (dotted 10 7 3 9))) (Found (Gmb 40000) 1)
+    ∷ k 7 (tree_action_of tenant (to (dotted 10 7 3 10))) (Gives Deny)
+    ∷ k 7 (scan_of (rows_left tenant) (to (dotted 10 7 3 10))) (Found Deny 2)
+    ∷ k 8 (tree_action_of tenant (to (dotted 10 8 0 1))) (Gives DontCare)
+    ∷ k 8 (scan_of (rows_left tenant) (to (dotted 10 8 0 1))) (Found DontCare 3)
     ∷ k 9 (answer_of tenant lent lent) (Rows 3)
-    ∷ k 9 (tableAfter tenant lent lent) (row (dotted 10 7 3 9) 32 3 40000 ++ row (dotted 10 7 0 0) 16 2 0 ++ row
-    (dotted 10 7 3 9) 32 3 40000 ++ zeros rowLength)
-    ∷ k 9 (scratchAfter tenant lent lent) lent
-    ∷ k 9 (number_of (rowsLeft tenant) 3 3) (Priorities 3)
-    ∷ k 9 (prioritiesAfter (rowsLeft tenant) (zeros 3) (zeros 3)) (3 ∷ 2 ∷ 1 ∷ [])
-    ∷ k 9 (chainAfter (rowsLeft tenant) (zeros 3) (zeros 3)) (0 ∷ 1 ∷ 2 ∷ [])
-    ∷ k 10 (read_of (tenantWith 1)) (reading.Refused
-    (record { number = lawBroken; place = 1; law = Commutativity; first = Allow; second = Deny; third = DontCare }))
+    ∷ k 9 (table_after tenant lent lent) (row (dotted 10 7 3 9) 32 3 40000 ++ row (dotted 10 7 0 0) 16 2 0 ++ row
+    (dotted 10 7 3 9) 32 3 40000 ++ zeros row_length)
+    ∷ k 9 (scratch_after tenant lent lent) lent
+    ∷ k 9 (number_of (rows_left tenant) 3 3) (Priorities 3)
+    ∷ k 9 (priorities_after (rows_left tenant) (zeros 3) (zeros 3)) (3 ∷ 2 ∷ 1 ∷ [])
+    ∷ k 9 (chain_after (rows_left tenant) (zeros 3) (zeros 3)) (0 ∷ 1 ∷ 2 ∷ [])
+    ∷ k 10 (read_of (tenant_with 1)) (reading.Refused
+    (record { number = law_broken; place = 1; law = Commutativity; first = Allow; second = Deny; third = DontCare }))
     ∷ k 11 (read_of (lone lopsided)) (reading.Refused
-    (record { number = lawBroken; place = 0; law = Associativity; first = Allow; second = Deny; third = Gmb 1 }))
+    (record { number = law_broken; place = 0; law = Associativity; first = Allow; second = Deny; third = Gmb 1 }))
     ∷ k 12 (read_of []) (reading.Refused (plain short 0))
     ∷ []
 

@@ -1,7 +1,7 @@
 -- Hidden rows out, sentence by sentence as it was asked for. It is said of the definitions that the contracts cite:
 --
---   keptOf, tableKept    hidden::drop_hidden   of a table: the answer, and every word after it
---   listingOf            text::list            of the bytes of a file
+--   kept_of, table_kept    hidden::drop_hidden   of a table: the answer, and every word after it
+--   listing_of            text::list            of the bytes of a file
 --
 -- and in these words:
 --
@@ -16,32 +16,32 @@ use Rattle.std.specs.Prelude.{ℕ, suc, ◌*◌, ◌-◌, ◌≤◌, ◌<◌, �
 use Rattle.words.specs.Words.{zeros}
 use Rattle.words.specs.Records.{flat}
 use Rattle.words.specs.Bytes.{words_in}
-use Rattle.theory.specs.Rows.{Row, matchesAt}
+use Rattle.theory.specs.Rows.{Row, matches_at}
 use Rattle.theory.specs.Number.{FirstPlace, Obeyed, has}
-use Rattle.flow.specs.Packet.{packetOf, rightPacketWords}
+use Rattle.flow.specs.Packet.{packet_of, right_packet_words}
 use Rattle.flow.specs.Match.{meets, LiesIn}
 use Rattle.flow.specs.declared.Match.{Match}
 use Rattle.action.specs.declared.Action.{Action}
-use Rattle.row.specs.Row.{rowLength, rightRow, rowsIn, tableRows}
+use Rattle.row.specs.Row.{row_length, right_row, rows_in, table_rows}
 use Rattle.policy.specs.Read.{read_of}
 use Rattle.policy.specs.declared.Layout.{Layout}
 use Rattle.policy.specs.declared.Reading.TheVariants as reading
-use Rattle.tree.specs.Action.{treeActionOf}
+use Rattle.tree.specs.Action.{tree_action_of}
 use Rattle.tree.specs.declared.Evaluated.TheVariants as evaluated
-use Rattle.table.specs.Table.{wrongTable, wrongRow, rowCount, past, rightLength, row_at, RightTable}
-use Rattle.table.specs.Scan.{scanOf, scanNumber, scanAction, scanTried}
-use Rattle.hidden.specs.Hidden.{keptOf, tableKept}
+use Rattle.table.specs.Table.{wrong_table, wrong_row, row_count, past, right_length, row_at, RightTable}
+use Rattle.table.specs.Scan.{scan_of, scan_number, scan_action, scan_tried}
+use Rattle.hidden.specs.Hidden.{kept_of, table_kept}
 use Rattle.hidden.specs.declared.Kept.TheVariants.{Rows, Refused}
 use Rattle.priority.specs.Numbering.{priority}
-use Rattle.compile.specs.Compile.{noRoom, compiledRows, answer_of, tableAfter}
+use Rattle.compile.specs.Compile.{no_room, compiled_rows, answer_of, table_after}
 use Rattle.compile.specs.declared.Compiled.TheVariants as compiled
 use Rattle.line.specs.Text.{refusal}
-use Rattle.sheet.specs.Sheet.{listingRoom, rowsText}
-use Rattle.text.specs.Listing.{rightInput, blank, listingOf}
+use Rattle.sheet.specs.Sheet.{listing_room, rows_text}
+use Rattle.text.specs.Listing.{right_input, blank, listing_of}
 
 -- row i of a table
 abbrev pub row_in : List ℕ → ℕ → Row Match Action
-row_in ws i = get_or (rowsIn ws) i past
+row_in ws i = get_or (rows_in ws) i past
 
 -- every packet in range that meets row i's match meets row j's
 abbrev pub Inside : List ℕ → ℕ → ℕ → Type 0
@@ -58,63 +58,63 @@ pub record Passed (ws : List ℕ) : Type 0 where
   pub count : ℕ
   pub places : List ℕ
   -- "and the new row count is answered."
-  pub answer : keptOf ws ≡ Rows count
+  pub answer : kept_of ws ≡ Rows count
   pub many : length places ≡ count
   -- "that removes each row whose match lies wholly inside one earlier row's match,": those, and no other
-  pub removes : (i : ℕ) → i < rowCount ws → (has i places ≡ false) ↔ Hidden ws i
-  pub of-table : (i : ℕ) → has i places ≡ true → i < rowCount ws
+  pub removes : (i : ℕ) → i < row_count ws → (has i places ≡ false) ↔ Hidden ws i
+  pub of-table : (i : ℕ) → has i places ≡ true → i < row_count ws
   -- "and keeps the rest in order."
   pub order : (k : ℕ) → suc k < count → get_or places k 0 < get_or places (suc k) 0
   -- "Rows hidden only by several rows together stay.": where no one earlier row holds it, a row stays
-  pub several : (i : ℕ) → i < rowCount ws → ((j : ℕ) → j < i → ¬ (Inside ws i j)) → has i places ≡ true
+  pub several : (i : ℕ) → i < row_count ws → ((j : ℕ) → j < i → ¬ (Inside ws i j)) → has i places ≡ true
   -- "Words freed at the end become 0,": every word after the pass is one of a row that stays, or 0
-  pub words : tableKept ws ≡ flat (row_at ws) places ++ zeros (length ws - count * rowLength)
+  pub words : table_kept ws ≡ flat (row_at ws) places ++ zeros (length ws - count * row_length)
   -- the rows that stay, as a table
-  pub table : RightTable (tableRows count (tableKept ws))
-  pub rows : (k : ℕ) → k < count → row_in (tableRows count (tableKept ws)) k ≡ row_in ws (get_or places k 0)
+  pub table : RightTable (table_rows count (table_kept ws))
+  pub rows : (k : ℕ) → k < count → row_in (table_rows count (table_kept ws)) k ≡ row_in ws (get_or places k 0)
   -- "The scan's action is the same for every packet,": words that are no packet are refused alike
-  pub action : (p : List ℕ) → let t : List ℕ = tableRows count (tableKept ws) in
-      (scanNumber (scanOf t p) ≡ scanNumber (scanOf ws p)) × (scanAction (scanOf t p) ≡ scanAction (scanOf ws p))
+  pub action : (p : List ℕ) → let t : List ℕ = table_rows count (table_kept ws) in
+      (scan_number (scan_of t p) ≡ scan_number (scan_of ws p)) × (scan_action (scan_of t p) ≡ scan_action (scan_of ws p))
   -- "and no remaining row can be removed by the rule.": of the rows that stay none is hidden, so a second pass changes
   -- nothing
-  pub none_left : (i : ℕ) → i < count → ¬ (Hidden (tableRows count (tableKept ws)) i)
-  pub again : let t : List ℕ = tableRows count (tableKept ws) in (keptOf t ≡ Rows count) × (tableKept t ≡ t)
+  pub none_left : (i : ℕ) → i < count → ¬ (Hidden (table_rows count (table_kept ws)) i)
+  pub again : let t : List ℕ = table_rows count (table_kept ws) in (kept_of t ≡ Rows count) × (table_kept t ≡ t)
   -- "Rows tried are counted in the shorter table,"
-  pub tried : (p : List ℕ) (i : ℕ) → rightPacketWords p ≡ true → let t : List ℕ = tableRows count (tableKept ws) in
-      FirstPlace (matchesAt meets past (rowsIn t) (packetOf p)) count i → scanTried (scanOf t p) ≡ suc i
-  pub tried-all : (p : List ℕ) → rightPacketWords p ≡ true → let t : List ℕ = tableRows count (tableKept ws) in
-      ((i : ℕ) → i < count → matchesAt meets past (rowsIn t) (packetOf p) i ≡ false) → scanTried (scanOf t p) ≡ count
+  pub tried : (p : List ℕ) (i : ℕ) → right_packet_words p ≡ true → let t : List ℕ = table_rows count (table_kept ws) in
+      FirstPlace (matches_at meets past (rows_in t) (packet_of p)) count i → scan_tried (scan_of t p) ≡ suc i
+  pub tried-all : (p : List ℕ) → right_packet_words p ≡ true → let t : List ℕ = table_rows count (table_kept ws) in
+      ((i : ℕ) → i < count → matches_at meets past (rows_in t) (packet_of p) i ≡ false) → scan_tried (scan_of t p) ≡ count
 
 -- "Refusals: 15, then 16, the table unchanged."
 pub record PassRefused : Type 0 where
-  pub length-first : (ws : List ℕ) → rightLength ws ≡ false → (keptOf ws ≡ Refused wrongTable 0) × (tableKept ws ≡ ws)
-  pub then-rows : (ws : List ℕ) (i : ℕ) → rightLength ws ≡ true
-      → FirstPlace (λ j. not (rightRow (row_at ws j))) (rowCount ws) i
-      → (keptOf ws ≡ Refused wrongRow i) × (tableKept ws ≡ ws)
+  pub length-first : (ws : List ℕ) → right_length ws ≡ false → (kept_of ws ≡ Refused wrong_table 0) × (table_kept ws ≡ ws)
+  pub then-rows : (ws : List ℕ) (i : ℕ) → right_length ws ≡ true
+      → FirstPlace (λ j. not (right_row (row_at ws j))) (row_count ws) i
+      → (kept_of ws ≡ Refused wrong_row i) × (table_kept ws ≡ ws)
 
 pub record PassListed : Type 0 where
   -- "The listing runs it before numbering;": of the compiled rows those that stay are numbered and listed
-  pub before-numbering : (b : List ℕ) (n k : ℕ) → rightInput b ≡ true
+  pub before-numbering : (b : List ℕ) (n k : ℕ) → right_input b ≡ true
       → answer_of (words_in b) blank blank ≡ compiled.Rows n
-      → let ws : List ℕ = tableRows n (tableAfter (words_in b) blank blank) in
-      keptOf ws ≡ Rows k → listingOf b ≡ rowsText k (tableRows k (tableKept ws))
+      → let ws : List ℕ = table_rows n (table_after (words_in b) blank blank) in
+      kept_of ws ≡ Rows k → listing_of b ≡ rows_text k (table_rows k (table_kept ws))
   -- "and refusal 12 still speaks of the rows before the pass.": given where these outnumber the room, and nowhere else
-  pub room : (b : List ℕ) (l : Layout) → rightInput b ≡ true → read_of (words_in b) ≡ reading.Accepted l
-      → listingRoom < length (compiledRows (words_in b) l) → listingOf b ≡ refusal noRoom 0
-  pub in-room : (b : List ℕ) (l : Layout) → rightInput b ≡ true → read_of (words_in b) ≡ reading.Accepted l
-      → length (compiledRows (words_in b) l) ≤ listingRoom
-      → answer_of (words_in b) blank blank ≡ compiled.Rows (length (compiledRows (words_in b) l))
+  pub room : (b : List ℕ) (l : Layout) → right_input b ≡ true → read_of (words_in b) ≡ reading.Accepted l
+      → listing_room < length (compiled_rows (words_in b) l) → listing_of b ≡ refusal no_room 0
+  pub in-room : (b : List ℕ) (l : Layout) → right_input b ≡ true → read_of (words_in b) ≡ reading.Accepted l
+      → length (compiled_rows (words_in b) l) ≤ listing_room
+      → answer_of (words_in b) blank blank ≡ compiled.Rows (length (compiled_rows (words_in b) l))
 
 -- WITH DEMANDS 2 AND 3: whatever row a switch obeys of those that stay, by the priorities that they get, its action is
 -- the tree's
 abbrev pub KeptObeysTree : Type 0
 KeptObeysTree =
     (f t s ps cs p : List ℕ) (n k i : ℕ) → answer_of f t s ≡ compiled.Rows n
-    → let ws : List ℕ = tableRows n (tableAfter f t s) in
-    keptOf ws ≡ Rows k → k ≤ length ps → k ≤ length cs → rightPacketWords p ≡ true
-    → let vs : List ℕ = tableRows k (tableKept ws) in
-    Obeyed meets past (rowsIn vs) (priority vs ps cs) (packetOf p) i
-    → treeActionOf f p ≡ evaluated.Gives (row_in vs i).action
+    → let ws : List ℕ = table_rows n (table_after f t s) in
+    kept_of ws ≡ Rows k → k ≤ length ps → k ≤ length cs → right_packet_words p ≡ true
+    → let vs : List ℕ = table_rows k (table_kept ws) in
+    Obeyed meets past (rows_in vs) (priority vs ps cs) (packet_of p) i
+    → tree_action_of f p ≡ evaluated.Gives (row_in vs i).action
 
 -- EVERY SENTENCE
 pub record HiddenRows : Type 0 where

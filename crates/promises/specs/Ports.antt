@@ -7,35 +7,35 @@
 --   spoken q m        the match m with the protocol q
 --   CountsAsEmpty     what becomes of a match that no packet can meet
 --   Follows           what follows the new meaning
---   portCases         worked cases: calls, and what they give
+--   port_cases         worked cases: calls, and what they give
 use Rattle.std.specs.Prelude.{ℕ, ◌<◌, ◌≡◌, true, false, List, [], ◌∷◌, ◌++◌, ◌⊎◌}
 use Rattle.words.specs.Words.{zeros}
 use Rattle.words.specs.Records.{flat}
 use Rattle.words.specs.Bytes.{bytes_of}
 use Rattle.theory.specs.Rows.{Row, kept}
-use Rattle.flow.specs.Packet.{protocolLimit}
-use Rattle.flow.specs.Match.{protocolFlag, sourceportFlag, destinationportFlag, constrains, match_of, is_empty}
-use Rattle.flow.specs.Match.{rightMatch, fits, meets}
+use Rattle.flow.specs.Packet.{protocol_limit}
+use Rattle.flow.specs.Match.{protocol_flag, sourceport_flag, destinationport_flag, constrains, match_of, is_empty}
+use Rattle.flow.specs.Match.{right_match, fits, meets}
 use Rattle.flow.specs.Theorems.{MeetsCommon, CommonNone, OverlapExactly, EmptyExactly}
 use Rattle.flow.specs.declared.Match.{Match}
 use Rattle.flow.specs.declared.Packet.{Packet}
 use Rattle.action.specs.Operator.{sibling, parent}
 use Rattle.action.specs.declared.Action.{Action}
 use Rattle.action.specs.declared.Action.TheVariants.{DontCare, Deny}
-use Rattle.row.specs.Row.{rowLength, rightRow}
-use Rattle.tree.specs.Action.{treeActionOf}
+use Rattle.row.specs.Row.{row_length, right_row}
+use Rattle.tree.specs.Action.{tree_action_of}
 use Rattle.tree.specs.declared.Evaluated.TheVariants.{Gives}
-use Rattle.table.specs.Table.{wrongRow, rowCount, rightLength, checkOf, row_at, RightTable}
-use Rattle.table.specs.Scan.{scanOf}
+use Rattle.table.specs.Table.{wrong_row, row_count, right_length, check_of, row_at, RightTable}
+use Rattle.table.specs.Scan.{scan_of}
 use Rattle.table.specs.declared.Checked.TheVariants as checked
 use Rattle.table.specs.declared.Scanned.TheVariants.{Found}
-use Rattle.priority.specs.Numbering.{number_of, prioritiesAfter}
+use Rattle.priority.specs.Numbering.{number_of, priorities_after}
 use Rattle.priority.specs.declared.Numbered.TheVariants.{Priorities}
-use Rattle.compile.specs.Compile.{answer_of, tableAfter}
+use Rattle.compile.specs.Compile.{answer_of, table_after}
 use Rattle.compile.specs.declared.Compiled.TheVariants.{Rows}
 use Rattle.line.specs.Text.{ascii}
-use Rattle.text.specs.Listing.{listingOf}
-use Rattle.promises.specs.Cases.{Case, k, Hold, lent, rowsLeft}
+use Rattle.text.specs.Listing.{listing_of}
+use Rattle.promises.specs.Cases.{Case, k, Hold, lent, rows_left}
 use Rattle.promises.specs.Demands.{Demand2, Demand3}
 use Rattle.promises.specs.Hidden.{Passed}
 
@@ -45,12 +45,12 @@ TcpOrUdp p = (p.protocol ≡ 6) ⊎ (p.protocol ≡ 17)
 
 -- "From now on a port constraint is met only by packets of protocol 6 or 17."
 pub record PortMet : Type 0 where
-  pub source : (m : Match) (p : Packet) → constrains sourceportFlag m ≡ true → meets m p ≡ true → TcpOrUdp p
-  pub destination : (m : Match) (p : Packet) → constrains destinationportFlag m ≡ true → meets m p ≡ true → TcpOrUdp p
+  pub source : (m : Match) (p : Packet) → constrains sourceport_flag m ≡ true → meets m p ≡ true → TcpOrUdp p
+  pub destination : (m : Match) (p : Packet) → constrains destinationport_flag m ≡ true → meets m p ≡ true → TcpOrUdp p
   -- of these packets, and of matches without such a constraint, nothing is asked but the fields, as before
   pub of-these : (m : Match) (p : Packet) → TcpOrUdp p → meets m p ≡ fits m p
-  pub without : (m : Match) (p : Packet) → constrains sourceportFlag m ≡ false
-      → constrains destinationportFlag m ≡ false → meets m p ≡ fits m p
+  pub without : (m : Match) (p : Packet) → constrains sourceport_flag m ≡ false
+      → constrains destinationport_flag m ≡ false → meets m p ≡ fits m p
 
 -- the match m with the protocol q
 abbrev pub spoken : ℕ → Match → Match
@@ -71,15 +71,15 @@ pub record CountsAsEmpty : Type 0 where
   pub exactly : EmptyExactly
   -- "allowed in an atom,": a right match stays right with every protocol in range, one without ports too; an atom makes
   -- no row then
-  pub atom : (m : Match) (q : ℕ) → constrains protocolFlag m ≡ true → q < protocolLimit → rightMatch m ≡ true
-      → rightMatch (spoken q m) ≡ true
+  pub atom : (m : Match) (q : ℕ) → constrains protocol_flag m ≡ true → q < protocol_limit → right_match m ≡ true
+      → right_match (spoken q m) ≡ true
   pub no_row : (r : Row Match Action) → is_empty r.match ≡ true → kept is_empty r ≡ []
   -- "wrong in a row."
-  pub row : (ws : List ℕ) → is_empty (match_of ws) ≡ true → rightRow ws ≡ false
+  pub row : (ws : List ℕ) → is_empty (match_of ws) ≡ true → right_row ws ≡ false
   -- "Refusals: 16 now covers such rows.": the first wrong row is named where it is such a one
-  pub refused : (ws : List ℕ) (i : ℕ) → rightLength ws ≡ true → i < rowCount ws
-      → ((j : ℕ) → j < i → rightRow (row_at ws j) ≡ true)
-      → is_empty (match_of (row_at ws i)) ≡ true → checkOf ws ≡ checked.Wrong wrongRow i
+  pub refused : (ws : List ℕ) (i : ℕ) → right_length ws ≡ true → i < row_count ws
+      → ((j : ℕ) → j < i → right_row (row_at ws j) ≡ true)
+      → is_empty (match_of (row_at ws i)) ≡ true → check_of ws ≡ checked.Wrong wrong_row i
 
 pub record Follows : Type 0 where
   -- "Common matches, overlap": exactly the packets that meet both meet the common match, which is flag 16 alone where
@@ -115,8 +115,8 @@ abbrev pub studio : List ℕ
 studio = node 1 (ported 0 0 0 4 2)
 
 -- a match that no packet meets, protocol 1 with source port 0, before an atom for every packet
-abbrev pub unmetFirst : List ℕ
-unmetFirst = node 2 (ported 1 0 0 6 2 ++ ported 0 0 0 0 1)
+abbrev pub unmet_first : List ℕ
+unmet_first = node 2 (ported 1 0 0 6 2 ++ ported 0 0 0 0 1)
 
 -- protocol 1, and apart from it destination port 5
 abbrev pub apart : List ℕ
@@ -129,24 +129,24 @@ pings =
     (2 ∷ sibling) ++ parent ++ (3 ∷ ported 0 0 0 4 2) ++ ported 1 0 0 2 1 ++ ported 1 0 0 6 2
     ++ (2 ∷ 0 ∷ 1 ∷ 0 ∷ 1 ∷ 1 ∷ 0 ∷ 1 ∷ 0 ∷ 2 ∷ 0 ∷ [])
 
-abbrev pub portCases : List Case
-portCases =
-    k 1 (treeActionOf studio ping) (Gives DontCare)
-    ∷ k 1 (scanOf (rowsLeft studio) ping) (Found DontCare 1)
-    ∷ k 1 (treeActionOf studio (sent 6 0 0)) (Gives Deny)
-    ∷ k 1 (scanOf (rowsLeft studio) (sent 17 0 0)) (Found Deny 1)
-    ∷ k 2 (answer_of unmetFirst lent lent) (Rows 1)
-    ∷ k 2 (tableAfter unmetFirst lent lent) (ported 0 0 0 0 1 ++ zeros rowLength ++ zeros rowLength ++ zeros rowLength)
+abbrev pub port_cases : List Case
+port_cases =
+    k 1 (tree_action_of studio ping) (Gives DontCare)
+    ∷ k 1 (scan_of (rows_left studio) ping) (Found DontCare 1)
+    ∷ k 1 (tree_action_of studio (sent 6 0 0)) (Gives Deny)
+    ∷ k 1 (scan_of (rows_left studio) (sent 17 0 0)) (Found Deny 1)
+    ∷ k 2 (answer_of unmet_first lent lent) (Rows 1)
+    ∷ k 2 (table_after unmet_first lent lent) (ported 0 0 0 0 1 ++ zeros row_length ++ zeros row_length ++ zeros row_length)
     ∷ k 3 (answer_of apart lent lent) (Rows 2)
-    ∷ k 3 (number_of (rowsLeft apart) 2 2) (Priorities 1)
-    ∷ k 3 (prioritiesAfter (rowsLeft apart) (zeros 2) (zeros 2)) (1 ∷ 1 ∷ [])
-    ∷ k 4 (listingOf (flat bytes_of pings))
+    ∷ k 3 (number_of (rows_left apart) 2 2) (Priorities 1)
+    ∷ k 3 (priorities_after (rows_left apart) (zeros 2) (zeros 2)) (1 ∷ 1 ∷ [])
+    ∷ k 4 (listing_of (flat bytes_of pings))
     (flat ascii
     ("rows 2 priorities 1\n"
     ∷ "1 * 0.0.0.0/0 0.0.0.0/0 * 0 * deny\n"
     ∷ "1 * 0.0.0.0/0 0.0.0.0/0 1 * * allow\n"
     ∷ []))
-    ∷ k 5 (checkOf (ported 0 0 5 8 2 ++ ported 1 0 5 10 2)) (checked.Wrong wrongRow 1)
+    ∷ k 5 (check_of (ported 0 0 5 8 2 ++ ported 1 0 5 10 2)) (checked.Wrong wrong_row 1)
     ∷ []
 
 -- EVERY SENTENCE
@@ -154,4 +154,4 @@ pub record PortsOnly : Type 0 where
   pub met : PortMet
   pub counts : CountsAsEmpty
   pub follows : Follows
-  pub cases : Hold portCases
+  pub cases : Hold port_cases

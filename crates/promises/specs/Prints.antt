@@ -7,27 +7,27 @@
 --   EveryListing          every input has one of the two
 use Rattle.std.specs.Prelude.{ℕ, ◌≡◌, true, List, ◌⊎◌}
 use Rattle.words.specs.Bytes.{words_in}
-use Rattle.row.specs.Row.{tableRows}
-use Rattle.compile.specs.Compile.{noRoom, answer_of, tableAfter}
+use Rattle.row.specs.Row.{table_rows}
+use Rattle.compile.specs.Compile.{no_room, answer_of, table_after}
 use Rattle.compile.specs.declared.Compiled.TheVariants.{Rows}
 use Rattle.line.specs.Text.{refusal}
-use Rattle.text.specs.Listing.{wrongInput, rightInput, blank, fileText, listingOf, ListedKept}
+use Rattle.text.specs.Listing.{wrong_input, right_input, blank, file_text, listing_of, ListedKept}
 use Rattle.promises.specs.Told.{between}
 
 -- of the rows that the compile answers those that are not hidden, each with its priority
 pub record PrintsRows (b : List ℕ) : Type 0 where
-  pub right : rightInput b ≡ true
+  pub right : right_input b ≡ true
   pub count : ℕ
   pub compiled : answer_of (words_in b) blank blank ≡ Rows count
-  pub listed : ListedKept (words_in b) (tableRows count (tableAfter (words_in b) blank blank))
-  pub text : listingOf b ≡ fileText (words_in b)
+  pub listed : ListedKept (words_in b) (table_rows count (table_after (words_in b) blank blank))
+  pub text : listing_of b ≡ file_text (words_in b)
 
 -- one refusal
 pub record PrintsRefusal (b : List ℕ) : Type 0 where
   pub number : ℕ
   pub place : ℕ
-  pub one_of : between 1 10 number ⊎ ((number ≡ noRoom) ⊎ (number ≡ wrongInput))
-  pub text : listingOf b ≡ refusal number place
+  pub one_of : between 1 10 number ⊎ ((number ≡ no_room) ⊎ (number ≡ wrong_input))
+  pub text : listing_of b ≡ refusal number place
 
 -- THE LISTING PRINTS ROWS, OR A REFUSAL 1 TO 10, 12 OR 18, AND NO OTHER
 abbrev pub EveryListing : Type 0

@@ -2,14 +2,14 @@
 -- an enum, each of its cases has them.
 --
 --   Told                a refusal's number, place, law and three actions, and the action and the count that are given
---   searchTold          of the search for a broken law
---   readTold            of reading a file
---   actionTold          of the tree's action
---   compileTold         of the compile
---   checkTold           of the check of a table
---   scanTold            of the scan
---   numberTold          of the numbering
---   keptTold            of the pass that takes hidden rows out
+--   search_told          of the search for a broken law
+--   read_told            of reading a file
+--   action_told          of the tree's action
+--   compile_told         of the compile
+--   check_told           of the check of a table
+--   scan_told            of the scan
+--   number_told          of the numbering
+--   kept_told            of the pass that takes hidden rows out
 --   between a b         the numbers from a to b
 --   Fixed numbers t     what is told has one of the numbers, and its other values where it has no use for them
 use Rattle.std.specs.Prelude.{ℕ, ◌≤◌, ◌≡◌, ◌⊎◌}
@@ -17,20 +17,20 @@ use Rattle.action.specs.declared.Action.{Action}
 use Rattle.action.specs.declared.Action.TheVariants.{DontCare}
 use Rattle.action.specs.declared.Lawful.{Lawful}
 use Rattle.action.specs.declared.Lawful.TheVariants.{Yes, Broken}
-use Rattle.section.specs.Numbers.{lawBroken}
+use Rattle.section.specs.Numbers.{law_broken}
 use Rattle.policy.specs.Read as policy
 use Rattle.refusal.specs.Plain.{plain}
 use Rattle.policy.specs.declared.Reading.{Reading}
 use Rattle.refusal.specs.declared.Refusal.{Refusal}
 use Rattle.tree.specs.Action as tree
 use Rattle.tree.specs.declared.Evaluated.{Evaluated}
-use Rattle.table.specs.Scan.{scanNumber, scanPlace, scanAction, scanTried}
+use Rattle.table.specs.Scan.{scan_number, scan_place, scan_action, scan_tried}
 use Rattle.table.specs.declared.Checked.{Checked}
 use Rattle.table.specs.declared.Checked.TheVariants.{Rows, Wrong}
 use Rattle.table.specs.declared.Scanned.{Scanned}
-use Rattle.priority.specs.Numbering.{answerNumber, answerPlace, answerCount}
+use Rattle.priority.specs.Numbering.{answer_number, answer_place, answer_count}
 use Rattle.priority.specs.declared.Numbered.{Numbered}
-use Rattle.hidden.specs.Hidden.{keptNumber, keptPlace, keptCount}
+use Rattle.hidden.specs.Hidden.{kept_number, kept_place, kept_count}
 use Rattle.hidden.specs.declared.Kept.{Kept}
 use Rattle.compile.specs.Compile as compile
 use Rattle.compile.specs.declared.Compiled.{Compiled}
@@ -42,44 +42,44 @@ pub record Told : Type 0 where
   pub count : ℕ
 
 -- the search for a broken law in the operator i
-abbrev pub searchTold : ℕ → Lawful → Told
-searchTold i Yes = record { refusal = plain 0 0; action = DontCare; count = 0 }
-searchTold i (Broken l a b c) =
+abbrev pub search_told : ℕ → Lawful → Told
+search_told i Yes = record { refusal = plain 0 0; action = DontCare; count = 0 }
+search_told i (Broken l a b c) =
     record {
-      refusal = record { number = lawBroken; place = i; law = l; first = a; second = b; third = c };
+      refusal = record { number = law_broken; place = i; law = l; first = a; second = b; third = c };
       action =
           DontCare;
       count = 0;
     }
 
 -- a file that is accepted, or its refusal
-abbrev pub readTold : Reading → Told
-readTold x = record { refusal = policy.readRefusal x; action = DontCare; count = 0 }
+abbrev pub read_told : Reading → Told
+read_told x = record { refusal = policy.read_refusal x; action = DontCare; count = 0 }
 
 -- the tree's action
-abbrev pub actionTold : Evaluated → Told
-actionTold x = record { refusal = tree.treeRefusal x; action = tree.given x; count = 0 }
+abbrev pub action_told : Evaluated → Told
+action_told x = record { refusal = tree.tree_refusal x; action = tree.given x; count = 0 }
 
 -- the row count
-abbrev pub compileTold : Compiled → Told
-compileTold x = record { refusal = compile.compileRefusal x; action = DontCare; count = compile.compileCount x }
+abbrev pub compile_told : Compiled → Told
+compile_told x = record { refusal = compile.compile_refusal x; action = DontCare; count = compile.compile_count x }
 
 -- how many rows a right table has
-abbrev pub checkTold : Checked → Told
-checkTold (Rows n) = record { refusal = plain 0 0; action = DontCare; count = n }
-checkTold (Wrong n i) = record { refusal = plain n i; action = DontCare; count = 0 }
+abbrev pub check_told : Checked → Told
+check_told (Rows n) = record { refusal = plain 0 0; action = DontCare; count = n }
+check_told (Wrong n i) = record { refusal = plain n i; action = DontCare; count = 0 }
 
 -- the first matching row's action, and how many rows were tried
-abbrev pub scanTold : Scanned → Told
-scanTold x = record { refusal = plain (scanNumber x) (scanPlace x); action = scanAction x; count = scanTried x }
+abbrev pub scan_told : Scanned → Told
+scan_told x = record { refusal = plain (scan_number x) (scan_place x); action = scan_action x; count = scan_tried x }
 
 -- how many priorities there are
-abbrev pub numberTold : Numbered → Told
-numberTold x = record { refusal = plain (answerNumber x) (answerPlace x); action = DontCare; count = answerCount x }
+abbrev pub number_told : Numbered → Told
+number_told x = record { refusal = plain (answer_number x) (answer_place x); action = DontCare; count = answer_count x }
 
 -- how many rows stay
-abbrev pub keptTold : Kept → Told
-keptTold x = record { refusal = plain (keptNumber x) (keptPlace x); action = DontCare; count = keptCount x }
+abbrev pub kept_told : Kept → Told
+kept_told x = record { refusal = plain (kept_number x) (kept_place x); action = DontCare; count = kept_count x }
 
 -- a number from a to b
 abbrev pub between : ℕ → ℕ → ℕ → Type 0
@@ -92,4 +92,4 @@ pub record Fixed (numbers : ℕ → Type 0) (t : Told) : Type 0 where
   -- a refusal has don't care and count 0 for its value
   pub value : ¬ (t.refusal.number ≡ 0) → (t.action ≡ DontCare) × (t.count ≡ 0)
   -- every answer but 10 names no law and three don't cares
-  pub law : ¬ (t.refusal.number ≡ lawBroken) → t.refusal ≡ plain t.refusal.number t.refusal.place
+  pub law : ¬ (t.refusal.number ≡ law_broken) → t.refusal ≡ plain t.refusal.number t.refusal.place

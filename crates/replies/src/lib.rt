@@ -3,8 +3,8 @@
 // its number, a refusal for its values. What they look like stands in tests/README.md. Each answers whether all could
 // be written.
 ghost use Rattle.std.specs.Prelude.{◌≡◌};
-ghost use Rattle.compile.specs.Compile.{tableAfter, scratchAfter};
-ghost use Rattle.priority.specs.Numbering.{prioritiesAfter, chainAfter};
+ghost use Rattle.compile.specs.Compile.{table_after, scratch_after};
+ghost use Rattle.priority.specs.Numbering.{priorities_after, chain_after};
 
 use action::{Action, Law};
 use compile::Compiled;
@@ -27,8 +27,8 @@ pub fn reply_action(file: &[u32], packet: &[u32]) -> bool {
 
 // Compiles a policy file; the table and the scratch are written too.
 pub fn reply_compile(file: &[u32], table: &mut [u32], scratch: &mut [u32]) -> bool
-    ensures table_after { table.new ≡ tableAfter file.now table.old scratch.old }
-    ensures scratch_after { scratch.new ≡ scratchAfter file.now table.old
+    ensures table_after { table.new ≡ table_after file.now table.old scratch.old }
+    ensures scratch_after { scratch.new ≡ scratch_after file.now table.old
         scratch.old }
 {
     let compiled = compile::compile(file, table, scratch);
@@ -42,9 +42,9 @@ pub fn reply_scan(table: &[u32], packet: &[u32]) -> bool {
 
 // Numbers a table; the priorities and the chain are written too.
 pub fn reply_number(table: &[u32], priorities: &mut [u32], chain: &mut [u32]) -> bool
-    ensures priorities_after { priorities.new ≡ prioritiesAfter table.now priorities.old
+    ensures priorities_after { priorities.new ≡ priorities_after table.now priorities.old
         chain.old }
-    ensures chain_after { chain.new ≡ chainAfter table.now priorities.old
+    ensures chain_after { chain.new ≡ chain_after table.now priorities.old
         chain.old }
 {
     let numbered = priority::number(table, priorities, chain);

@@ -1,6 +1,6 @@
 // An atom or a row: the words of a match, then an action's kind and rate.
 ghost use Rattle.std.specs.Prelude.{◌≡◌};
-ghost use Rattle.row.specs.Row.{rowAction, rowWords, rightRowMatch, rightRowAction, rightRow};
+ghost use Rattle.row.specs.Row.{row_action, row_words, right_row_match, right_row_action, right_row};
 
 use action::{Action, action_of, kind, rate, right_action};
 use flow::{MATCH_WORDS, Match, contradicts, is_plain, read_match, right_match};
@@ -20,14 +20,14 @@ const RATE: usize = MATCH_WORDS + 1;
 
 // The action of a row.
 pub fn row_action(row: &[u32]) -> Action
-    ensures { result ≡ rowAction row.now }
+    ensures { result ≡ row_action row.now }
 {
     action_of(word(row, KIND), word(row, RATE))
 }
 
 // The words of a row.
 pub fn words_of_row(m: Match, a: Action) -> RowWords
-    ensures { result ≡ rowWords (record { match = m; action = a }) }
+    ensures { result ≡ row_words (record { match = m; action = a }) }
 {
     let k = kind(a);
     let n = rate(a);
@@ -48,7 +48,7 @@ pub fn words_of_row(m: Match, a: Action) -> RowWords
 
 // Whether a row is right: a right match that is not empty, so without flag 16 and a contradiction, and a right action.
 pub fn right_row(row: &[u32]) -> bool
-    ensures { result ≡ rightRow row.now }
+    ensures { result ≡ right_row row.now }
 {
     let m = read_match(row);
     if !(is_plain(m) & right_row_action(row)) {
@@ -59,14 +59,14 @@ pub fn right_row(row: &[u32]) -> bool
 
 // Whether the match of an atom or a row is right.
 pub fn right_row_match(row: &[u32]) -> bool
-    ensures { result ≡ rightRowMatch row.now }
+    ensures { result ≡ right_row_match row.now }
 {
     right_match(read_match(row))
 }
 
 // Whether the action of an atom or a row is right.
 pub fn right_row_action(row: &[u32]) -> bool
-    ensures { result ≡ rightRowAction row.now }
+    ensures { result ≡ right_row_action row.now }
 {
     right_action(word(row, KIND), word(row, RATE))
 }

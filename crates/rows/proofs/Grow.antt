@@ -15,47 +15,47 @@ use lib.Seq.{length-take-le, take-add, drop-drop}
 use Rattle.words.specs.Words.{laid, copied}
 use Rattle.words.proofs.Laid.{copied-fits, length-laid, laid_then}
 use Rattle.words.proofs.Records.{flat_append, rows_none, rows-flat}
-use Rattle.theory.specs.Rows.{Row, commonRows}
+use Rattle.theory.specs.Rows.{Row, common_rows}
 use Rattle.flow.specs.Match.{is_empty, common}
 use Rattle.flow.specs.declared.Match.{Match}
 use Rattle.action.specs.Operator as operator
 use Rattle.action.specs.declared.Action.{Action}
-use Rattle.row.specs.Row.{rowLength, row_of, rowWords, rowsIn, words_of}
+use Rattle.row.specs.Row.{row_length, row_of, row_words, rows_in, words_of}
 use Rattle.row.proofs.Rows.{row_back, row-long}
 use Rattle.common.specs.declared.Made.{Made}
 use Rattle.common.specs.declared.Made.TheVariants.{Words, Full}
 use Rattle.common.specs.Lays.{made_of, Lays}
-use Rattle.common.specs.Tables.{commonRowsWords}
+use Rattle.common.specs.Tables.{common_rows_words}
 use Rattle.rows.specs.Places.{part}
-use Rattle.rows.specs.Tables.{joinRows, joinWords}
+use Rattle.rows.specs.Tables.{join_rows, join_words}
 use Rattle.rows.proofs.Laid.{laid-part, laid-over, laid-first, laid-second, laid_same}
 use Rattle.common.proofs.Going.{Fitted, made-words, lays-words, lays-same, too_long}
 use Rattle.common.proofs.Turns.{some_words}
 
 -- a join is the common rows, then the left table, then the right
-pub join-parts : (o left right : List ℕ) → joinWords o left right ≡ commonRowsWords o left right ++ (left ++ right)
-unfolding joinWords
+pub join-parts : (o left right : List ℕ) → join_words o left right ≡ common_rows_words o left right ++ (left ++ right)
+unfolding join_words
 join-parts o left right = refl
 
 -- the join of the words of rows is the words of their join
-pub join-flat : (o : List ℕ) (N N' : List (Row Match Action)) → joinWords o (words_of N) (words_of N') ≡ words_of (joinRows o N N')
-unfolding joinWords commonRowsWords
+pub join-flat : (o : List ℕ) (N N' : List (Row Match Action)) → join_words o (words_of N) (words_of N') ≡ words_of (join_rows o N N')
+unfolding join_words common_rows_words
 join-flat o N N' =
-    ap₂ (λ x y. words_of (commonRows common is_empty (operator.join o) x y) ++ (words_of N ++ words_of N'))
-    (rows-flat rowLength row_of some_words rowWords row-long row_back N)
-    (rows-flat rowLength row_of some_words rowWords row-long row_back N')
-    ∙ ap (λ x. words_of (commonRows common is_empty (operator.join o) N N') ++ x) (sym (flat_append rowWords N N'))
-    ∙ sym (flat_append rowWords (commonRows common is_empty (operator.join o) N N') (N ++ N'))
+    ap₂ (λ x y. words_of (common_rows common is_empty (operator.join o) x y) ++ (words_of N ++ words_of N'))
+    (rows-flat row_length row_of some_words row_words row-long row_back N)
+    (rows-flat row_length row_of some_words row_words row-long row_back N')
+    ∙ ap (λ x. words_of (common_rows common is_empty (operator.join o) N N') ++ x) (sym (flat_append row_words N N'))
+    ∙ sym (flat_append row_words (common_rows common is_empty (operator.join o) N N') (N ++ N'))
 
 -- a join has the words of the common rows and of both tables
-pub join-length : (o A B : List ℕ) → length (joinWords o A B) ≡ length (commonRowsWords o A B) + (length A + length B)
+pub join-length : (o A B : List ℕ) → length (join_words o A B) ≡ length (common_rows_words o A B) + (length A + length B)
 join-length o A B = rw (join-parts o A B, length-append, length-append)
 
 -- without rows on the left it is the table on the right
-pub join-none : (o B : List ℕ) → joinWords o [] B ≡ B
-unfolding joinWords commonRowsWords
+pub join-none : (o B : List ℕ) → join_words o [] B ≡ B
+unfolding join_words common_rows_words
 join-none o B =
-    ap (λ x. words_of (commonRows common is_empty (operator.join o) x (rowsIn B)) ++ B) (rows_none rowLength row_of some_words [] some_words)
+    ap (λ x. words_of (common_rows common is_empty (operator.join o) x (rows_in B)) ++ B) (rows_none row_length row_of some_words [] some_words)
 
 -- how long a part is
 length_part : (a e : ℕ) (l : List ℕ) → a ≤ e → e ≤ length l → length (part a e l) ≡ e - a
@@ -117,21 +117,21 @@ module _ (a m e : ℕ) (s old : List ℕ) (h : a ≤ m) (g : a ≤ e) (f : m ≤
 
 -- two tables one behind the other, at a..b and b..e, with their common rows made in s
 module _ (o : List ℕ) {a b e : ℕ} {old s s' : List ℕ} {r : Made} (h : a ≤ b) (g : b ≤ e) (same : length s ≡ length old)
-    (l : Lays a (commonRowsWords o (part a b old) (part b e old)) s s' r) where
+    (l : Lays a (common_rows_words o (part a b old) (part b e old)) s s' r) where
   -- there is no room for the common rows
-  pub join-full : (new : List ℕ) → r ≡ Full → Lays a (joinWords o (part a b old) (part b e old)) old new Full
+  pub join-full : (new : List ℕ) → r ≡ Full → Lays a (join_words o (part a b old) (part b e old)) old new Full
   join-full new q = too_long new l q same (omega (arith, join-length o (part a b old) (part b e old)))
 
   -- the common rows are put before the two
   pub join-put : {m : ℕ} {new : List ℕ} {r' : Made} → r ≡ Words m → Lays a (part a m s' ++ part a e old) old new r'
-      → Lays a (joinWords o (part a b old) (part b e old)) old new r'
+      → Lays a (join_words o (part a b old) (part b e old)) old new r'
   join-put q k =
       lays-same (ap₂ (λ x y. x ++ y) (laid-back l q) (part-split a b e old h g) ∙ sym (join-parts o (part a b old) (part b e old))) k
 
 -- two tables, laid one behind the other, are replaced by their join
 pub joins : {a b e : ℕ} {C D : List ℕ} {old mid here new : List ℕ} {m : Made} (o : List ℕ)
     → Lays a C old mid (Words b) → Lays b D mid here (Words e)
-    → Lays a (joinWords o (part a b here) (part b e here)) here new m → Lays a (joinWords o C D) old new m
+    → Lays a (join_words o (part a b here) (part b e here)) here new m → Lays a (join_words o C D) old new m
 joins {a} {b} {e} {C} {D} {old} {mid} {here} {new} {m} o l₁ l₂ k =
     let f₁ : Fitted a C (length old) b = made-words a C (length old) b l₁.answer in
     let f₂ : Fitted b D (length mid) e = made-words b D (length mid) e l₂.answer in
@@ -145,9 +145,9 @@ joins {a} {b} {e} {C} {D} {old} {mid} {here} {new} {m} o l₁ l₂ k =
     let n₂ : e - b ≡ length D = omega (arith, f₂.end) in
     let u₁ : part a b here ≡ C = rw (n₁, w) (laid-first a C D old room) in
     let u₂ : part b e here ≡ D = rw (n₂, w, q) (laid-second a C D old room) in
-    let J : List ℕ = joinWords o C D in
-    let k' : Lays a J here new m = lays-same (ap₂ (joinWords o) u₁ u₂) k in
-    let s : length J ≡ length (commonRowsWords o C D) + (length C + length D) = join-length o C D in
+    let J : List ℕ = join_words o C D in
+    let k' : Lays a J here new m = lays-same (ap₂ (join_words o) u₁ u₂) k in
+    let s : length J ≡ length (common_rows_words o C D) + (length C + length D) = join-length o C D in
     let t : length (C ++ D) ≡ length C + length D = length-append C D in
     record {
       answer = k'.answer ∙ ap (made_of a J) n';

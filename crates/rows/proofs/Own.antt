@@ -14,12 +14,12 @@ use Rattle.theory.specs.Rows.{kept}
 use Rattle.flow.specs.Match.{is_empty, match_of}
 use Rattle.flow.specs.declared.Match.{Match}
 use Rattle.action.specs.declared.Action.{Action}
-use Rattle.row.specs.Row.{rowLength, row_of, rowAction, rowWords, rowsIn, words_of}
+use Rattle.row.specs.Row.{row_length, row_of, row_action, row_words, rows_in, words_of}
 use Rattle.row.proofs.Rows.{row-long}
 use Rattle.common.specs.Lays.{made_of, Lays}
-use Rattle.common.specs.Tables.{commonWithWords, commonRowsWords}
+use Rattle.common.specs.Tables.{common_with_words, common_rows_words}
 use Rattle.rows.specs.Places.{part, PutUpTo, Grows}
-use Rattle.rows.specs.Tables.{ownRows, joinWords, atomWords, own_words}
+use Rattle.rows.specs.Tables.{own_rows, join_words, atom_words, own_words}
 use Rattle.common.specs.declared.Made.{Made}
 use Rattle.common.specs.declared.Made.TheVariants.{Words, Full}
 use Rattle.common.proofs.Turns.{some_words, common-rows-next, common-rows-end}
@@ -94,133 +94,133 @@ put-up-words a p F old {new} w h g k =
     }
 
 -- the common rows of one row and a table
-one-row : (o w B : List ℕ) → length w ≡ rowLength → commonRowsWords o w B ≡ commonWithWords o (row_of w) B
+one-row : (o w B : List ℕ) → length w ≡ row_length → common_rows_words o w B ≡ common_with_words o (row_of w) B
 one-row o w B h =
-    let q : 0 + rowLength - 0 ≡ rowLength = omega arith in
+    let q : 0 + row_length - 0 ≡ row_length = omega arith in
     common-rows-next o w B 0 (omega arith)
-    ∙ ap₂ (λ x y. commonWithWords o (row_of x) B ++ y) (take_all (0 + rowLength - 0) w (omega arith)) (common-rows-end o w B (0 + rowLength) (omega arith))
-    ∙ append-nil (commonWithWords o (row_of w) B)
+    ∙ ap₂ (λ x y. common_with_words o (row_of x) B ++ y) (take_all (0 + row_length - 0) w (omega arith)) (common-rows-end o w B (0 + row_length) (omega arith))
+    ∙ append-nil (common_with_words o (row_of w) B)
 
 -- an atom whose match is empty leaves the table as it is
 pub atom-none : (o atom : List ℕ) {a p : ℕ} {old s : List ℕ} {m : Match} {t : Bool} → m ≡ match_of atom → t ≡ is_empty m → t ≡ true → a ≤ p → p ≤ length s
-    → Grows a (joinWords o (atomWords atom) (drop p s)) old old s (Words p)
-unfolding atomWords
+    → Grows a (join_words o (atom_words atom) (drop p s)) old old s (Words p)
+unfolding atom_words
 atom-none o atom {a} {p} {old} {s} {m} {t} e q h g k =
     let i : is_empty (match_of atom) ≡ true = ap is_empty (sym e) ∙ sym q ∙ h in
-    let none : atomWords atom ≡ [] = ap (λ b. words_of (cond b [] (row_of atom ∷ []))) i in
-    let j : drop p s ≡ joinWords o (atomWords atom) (drop p s) = sym (ap (λ A. joinWords o A (drop p s)) none ∙ join-none o (drop p s)) in
-    stands_at a (joinWords o (atomWords atom) (drop p s)) old s p g k j
+    let none : atom_words atom ≡ [] = ap (λ b. words_of (cond b [] (row_of atom ∷ []))) i in
+    let j : drop p s ≡ join_words o (atom_words atom) (drop p s) = sym (ap (λ A. join_words o A (drop p s)) none ∙ join-none o (drop p s)) in
+    stands_at a (join_words o (atom_words atom) (drop p s)) old s p g k j
 
 -- another is one row
 module _ (o atom : List ℕ) {a : ℕ} (p : ℕ) {old mid : List ℕ} (s : List ℕ) {m : Match} {t : Bool} {y : Action} {w : List ℕ} {r : Made}
-    (e : m ≡ match_of atom) (q : t ≡ is_empty m) (h : t ≡ false) (x : y ≡ rowAction atom) (u : w ≡ rowWords (record { match = m; action = y }))
-    (l : Lays a (commonWithWords o (row_of w) (take (length s - p) (drop p s)) ++ w) old mid r) where
-  is_row : atomWords atom ≡ w
-  unfolding atomWords
+    (e : m ≡ match_of atom) (q : t ≡ is_empty m) (h : t ≡ false) (x : y ≡ row_action atom) (u : w ≡ row_words (record { match = m; action = y }))
+    (l : Lays a (common_with_words o (row_of w) (take (length s - p) (drop p s)) ++ w) old mid r) where
+  is_row : atom_words atom ≡ w
+  unfolding atom_words
   is_row =
       let i : is_empty (match_of atom) ≡ false = ap is_empty (sym e) ∙ sym q ∙ h in
       ap (λ b. words_of (cond b [] (row_of atom ∷ []))) i
-      ∙ append-nil (rowWords (row_of atom))
-      ∙ sym (u ∙ ap₂ (λ (n : Match) (z : Action). rowWords (record { match = n; action = z })) e x)
+      ∙ append-nil (row_words (row_of atom))
+      ∙ sym (u ∙ ap₂ (λ (n : Match) (z : Action). row_words (record { match = n; action = z })) e x)
 
-  long : length w ≡ rowLength
+  long : length w ≡ row_length
   long = ap length u ∙ row-long (record { match = m; action = y })
 
   -- the common rows, and then the row
   abbrev added : List ℕ
-  added = commonWithWords o (row_of w) (take (length s - p) (drop p s)) ++ w
+  added = common_with_words o (row_of w) (take (length s - p) (drop p s)) ++ w
 
   -- they and the table are the join
-  whole : added ++ drop p s ≡ joinWords o (atomWords atom) (drop p s)
+  whole : added ++ drop p s ≡ join_words o (atom_words atom) (drop p s)
   whole =
-      ap (λ B. (commonWithWords o (row_of w) B ++ w) ++ drop p s) (all_from p s)
-      ∙ append_assoc (commonWithWords o (row_of w) (drop p s)) w (drop p s)
+      ap (λ B. (common_with_words o (row_of w) B ++ w) ++ drop p s) (all_from p s)
+      ∙ append_assoc (common_with_words o (row_of w) (drop p s)) w (drop p s)
       ∙ ap (λ c. c ++ (w ++ drop p s)) (sym (one-row o w (drop p s) long))
       ∙ sym (join-parts o w (drop p s))
-      ∙ ap (λ A. joinWords o A (drop p s)) (sym is_row)
+      ∙ ap (λ A. join_words o A (drop p s)) (sym is_row)
 
-  whole_long : length (joinWords o (atomWords atom) (drop p s)) ≡ length added + length (drop p s)
+  whole_long : length (join_words o (atom_words atom) (drop p s)) ≡ length added + length (drop p s)
   whole_long = ap length (sym whole) ∙ length-append added (drop p s)
 
-  pub atom-full : (new : List ℕ) → length s ≡ length old → r ≡ Full → Grows a (joinWords o (atomWords atom) (drop p s)) old new s Full
+  pub atom-full : (new : List ℕ) → length s ≡ length old → r ≡ Full → Grows a (join_words o (atom_words atom) (drop p s)) old new s Full
   atom-full new same g =
       let f : length old < a + length added = made-full a added (length old) (sym g ∙ l.answer) in
-      let n : length (joinWords o (atomWords atom) (drop p s)) ≡ length added + length (drop p s) = whole_long in
-      no_room a (joinWords o (atomWords atom) (drop p s)) old new s (omega arith)
+      let n : length (join_words o (atom_words atom) (drop p s)) ≡ length added + length (drop p s) = whole_long in
+      no_room a (join_words o (atom_words atom) (drop p s)) old new s (omega arith)
 
   pub atom-joined : {n : ℕ} {s' : List ℕ} {z : Made} → r ≡ Words n → PutUpTo a (part a n mid ++ drop p s) s' z
-      → Grows a (joinWords o (atomWords atom) (drop p s)) old mid s' z
+      → Grows a (join_words o (atom_words atom) (drop p s)) old mid s' z
   atom-joined {n} {s'} {z} g k =
       let f : Fitted a added (length old) n = made-words a added (length old) n (sym g ∙ l.answer) in
       let v : mid ≡ laid a added old = l.words f.fits in
-      let j : length (joinWords o (atomWords atom) (drop p s)) ≡ length added + length (drop p s) = whole_long in
+      let j : length (join_words o (atom_words atom) (drop p s)) ≡ length added + length (drop p s) = whole_long in
       record {
         stands = subst (λ F. PutUpTo a F s' z) (ap (λ c. c ++ drop p s) (laid-back l g) ∙ whole) k;
         hidden = λ first i W d c. ap (laid a W) v ∙ laid-over a W added old c (omega arith);
       }
 
 -- the atoms from the i-th word on: one more, none yet, and all
-own-more : (o atoms : List ℕ) (i : ℕ) → i + rowLength ≤ length atoms
-    → own_words o (drop i atoms) ≡ joinWords o (atomWords (take rowLength (drop i atoms))) (own_words o (drop (i + rowLength) atoms))
-unfolding own_words atomWords
+own-more : (o atoms : List ℕ) (i : ℕ) → i + row_length ≤ length atoms
+    → own_words o (drop i atoms) ≡ join_words o (atom_words (take row_length (drop i atoms))) (own_words o (drop (i + row_length) atoms))
+unfolding own_words atom_words
 own-more o atoms i h =
-    ap (λ N. words_of (ownRows o N)) (rows_at rowLength row_of some_words atoms i h)
-    ∙ sym (join-flat o (kept is_empty (row_of (take rowLength (drop i atoms)))) (ownRows o (rowsIn (drop (i + rowLength) atoms))))
+    ap (λ N. words_of (own_rows o N)) (rows_at row_length row_of some_words atoms i h)
+    ∙ sym (join-flat o (kept is_empty (row_of (take row_length (drop i atoms)))) (own_rows o (rows_in (drop (i + row_length) atoms))))
 
 pub own-start : (o atoms : List ℕ) {a : ℕ} {old s : List ℕ} → a ≤ length s → Grows a (own_words o (drop (length atoms) atoms)) old old s (Words (length s))
 unfolding own_words
 own-start o atoms {a} {old} {s} h =
-    let n : own_words o (drop (length atoms) atoms) ≡ [] = ap (λ N. words_of (ownRows o N))
-    (rows_end rowLength row_of some_words atoms (length atoms) (omega arith)) in
+    let n : own_words o (drop (length atoms) atoms) ≡ [] = ap (λ N. words_of (own_rows o N))
+    (rows_end row_length row_of some_words atoms (length atoms) (omega arith)) in
     stands_at a (own_words o (drop (length atoms) atoms)) old s (length s) h (omega arith) (drop_of_length-le s {i = length s} (omega arith) ∙ sym n)
 
 -- where the table of the last atoms does not fit, nor does the whole
-last-rows : (o atoms : List ℕ) (k : ℕ) → k * rowLength ≤ length atoms → length (own_words o (drop (k * rowLength) atoms)) ≤ length (own_words o atoms)
+last-rows : (o atoms : List ℕ) (k : ℕ) → k * row_length ≤ length atoms → length (own_words o (drop (k * row_length) atoms)) ≤ length (own_words o atoms)
 last-rows o atoms zero h = omega arith
 last-rows o atoms (suc k) h =
-    let q : suc k * rowLength ≡ k * rowLength + rowLength = omega arith in
-    let A : List ℕ = atomWords (take rowLength (drop (k * rowLength) atoms)) in
-    let B : List ℕ = own_words o (drop (k * rowLength + rowLength) atoms) in
-    let e : length (own_words o (drop (k * rowLength) atoms)) ≡ length (joinWords o A B) = ap length (own-more o atoms (k * rowLength) (omega arith)) in
+    let q : suc k * row_length ≡ k * row_length + row_length = omega arith in
+    let A : List ℕ = atom_words (take row_length (drop (k * row_length) atoms)) in
+    let B : List ℕ = own_words o (drop (k * row_length + row_length) atoms) in
+    let e : length (own_words o (drop (k * row_length) atoms)) ≡ length (join_words o A B) = ap length (own-more o atoms (k * row_length) (omega arith)) in
     rw q (omega (arith, last-rows o atoms k (omega arith), join-length o A B))
 
-own-hold : (o atoms : List ℕ) (i : ℕ) → i % rowLength ≡ 0 → i ≤ length atoms → length (own_words o (drop i atoms)) ≤ length (own_words o atoms)
+own-hold : (o atoms : List ℕ) (i : ℕ) → i % row_length ≡ 0 → i ≤ length atoms → length (own_words o (drop i atoms)) ≤ length (own_words o atoms)
 own-hold o atoms i h k =
-    let q : i ≡ i / rowLength * rowLength = omega arith in
-    subst (λ n. length (own_words o (drop n atoms)) ≤ length (own_words o atoms)) (sym q) (last-rows o atoms (i / rowLength) (omega arith))
+    let q : i ≡ i / row_length * row_length = omega arith in
+    subst (λ n. length (own_words o (drop n atoms)) ≤ length (own_words o atoms)) (sym q) (last-rows o atoms (i / row_length) (omega arith))
 
 -- equal answers tell the same
 pub grows-case : {a : ℕ} {F old new s : List ℕ} {m n : Made} → m ≡ n → Grows a F old new s m → Grows a F old new s n
 grows-case {a} {F} {old} {new} {s} q g = subst (Grows a F old new s) q g
 
 -- the steps: one more atom, no room for it, and all atoms joined
-module _ (o atoms : List ℕ) (i : ℕ) {a e : ℕ} {old here new s s' : List ℕ} {m : Made} (h : rowLength ≤ i) (k : i ≤ length atoms)
+module _ (o atoms : List ℕ) (i : ℕ) {a e : ℕ} {old here new s s' : List ℕ} {m : Made} (h : row_length ≤ i) (k : i ≤ length atoms)
     (same : length here ≡ length old)
     (g : Grows a (own_words o (drop i atoms)) old here s (Words e))
-    (j : Grows a (joinWords o (atomWords (take (i - (i - rowLength)) (drop (i - rowLength) atoms))) (drop e s)) here new s' m) where
-  pub own-step : Grows a (own_words o (drop (i - rowLength) atoms)) old new s' m
+    (j : Grows a (join_words o (atom_words (take (i - (i - row_length)) (drop (i - row_length) atoms))) (drop e s)) here new s' m) where
+  pub own-step : Grows a (own_words o (drop (i - row_length) atoms)) old new s' m
   own-step =
-      let q : i - (i - rowLength) ≡ rowLength = omega arith in
-      let p : i - rowLength + rowLength ≡ i = omega arith in
-      let A : List ℕ = atomWords (take rowLength (drop (i - rowLength) atoms)) in
+      let q : i - (i - row_length) ≡ row_length = omega arith in
+      let p : i - row_length + row_length ≡ i = omega arith in
+      let A : List ℕ = atom_words (take row_length (drop (i - row_length) atoms)) in
       let B : List ℕ = own_words o (drop i atoms) in
-      let W : List ℕ = own_words o (drop (i - rowLength) atoms) in
-      let t : W ≡ joinWords o A B = own-more o atoms (i - rowLength) (omega arith) ∙ ap (λ n. joinWords o A (own_words o (drop n atoms))) p in
-      let n : length W ≡ length (joinWords o A B) = ap length t in
-      let z : joinWords o (atomWords (take (i - (i - rowLength)) (drop (i - rowLength) atoms))) (drop e s) ≡ W =
-      ap₂ (λ x y. joinWords o (atomWords (take x (drop (i - rowLength) atoms))) y) q (g.stands.words e refl).2 ∙ sym t in
+      let W : List ℕ = own_words o (drop (i - row_length) atoms) in
+      let t : W ≡ join_words o A B = own-more o atoms (i - row_length) (omega arith) ∙ ap (λ n. join_words o A (own_words o (drop n atoms))) p in
+      let n : length W ≡ length (join_words o A B) = ap length t in
+      let z : join_words o (atom_words (take (i - (i - row_length)) (drop (i - row_length) atoms))) (drop e s) ≡ W =
+      ap₂ (λ x y. join_words o (atom_words (take x (drop (i - row_length) atoms))) y) q (g.stands.words e refl).2 ∙ sym t in
       let j' : Grows a W here new s' m = subst (λ F. Grows a F here new s' m) z j in
       record {
         stands = j'.stands;
         hidden = λ first r F d c. j'.hidden first r F d (omega arith) ∙ g.hidden e refl F (omega (arith, join-length o A B)) c;
       }
 
-  pub own-full : (last : List ℕ) → m ≡ Full → i % rowLength ≡ 0 → length s' ≡ length old → Lays a (own_words o atoms) old last Full
+  pub own-full : (last : List ℕ) → m ≡ Full → i % row_length ≡ 0 → length s' ≡ length old → Lays a (own_words o atoms) old last Full
   own-full last q r n =
-      let f : length s' < a + length (own_words o (drop (i - rowLength) atoms)) = own-step.stands.full q in
-      lays-full a (own_words o atoms) old last (omega (arith, own-hold o atoms (i - rowLength) (omega arith) (omega arith)))
+      let f : length s' < a + length (own_words o (drop (i - row_length) atoms)) = own-step.stands.full q in
+      lays-full a (own_words o atoms) old last (omega (arith, own-hold o atoms (i - row_length) (omega arith) (omega arith)))
 
-pub own-whole : (o atoms : List ℕ) (i : ℕ) {a e : ℕ} {old here new s : List ℕ} {m : Made} → i % rowLength ≡ 0 → i < rowLength → length here ≡ length old
+pub own-whole : (o atoms : List ℕ) (i : ℕ) {a e : ℕ} {old here new s : List ℕ} {m : Made} → i % row_length ≡ 0 → i < row_length → length here ≡ length old
     → Grows a (own_words o (drop i atoms)) old here s (Words e) → Lays a (take (length s - e) (drop e s)) here new m → Lays a (own_words o atoms) old new m
 own-whole o atoms i {a} {e} {old} {here} {new} {s} {m} h k same g l =
     let q : i ≡ 0 = omega arith in

@@ -6,7 +6,7 @@
 --   Grows a F                      the same, with the rows made in another buffer from a on
 use Rattle.std.specs.Prelude.{ℕ, ◌+◌, ◌-◌, ◌%◌, ◌≤◌, ◌<◌, ◌≡◌, List, length, take, drop}
 use Rattle.words.specs.Words.{laid}
-use Rattle.row.specs.Row.{rowLength}
+use Rattle.row.specs.Row.{row_length}
 use Rattle.common.specs.declared.Made.{Made}
 use Rattle.common.specs.declared.Made.TheVariants.{Words, Full}
 
@@ -20,7 +20,7 @@ Behind start middle end t s = (start ≤ middle) × (middle ≤ end) × (end ≤
 
 -- the words are whole atoms, the place is one of a buffer, and the other buffer is as long
 abbrev pub From : List ℕ → ℕ → List ℕ → List ℕ → Type 0
-From atoms start t s = (length atoms % rowLength ≡ 0) × (start ≤ length t) × (length s ≡ length t)
+From atoms start t s = (length atoms % row_length ≡ 0) × (start ≤ length t) × (length s ≡ length t)
 
 -- words at start..made of one buffer, and at start..end of the other, which is as long
 abbrev pub Before : ℕ → ℕ → ℕ → List ℕ → List ℕ → Type 0

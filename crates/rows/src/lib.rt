@@ -4,9 +4,9 @@
 ghost use Rattle.std.specs.Prelude.{◌≡◌, ◌++◌, ◌≤◌, length, drop};
 ghost use Rattle.row.specs.Row.{row_of};
 ghost use Rattle.common.specs.Lays.{Lays};
-ghost use Rattle.common.specs.Tables.{commonWithWords};
+ghost use Rattle.common.specs.Tables.{common_with_words};
 ghost use Rattle.rows.specs.Places.{part, Behind, From, Before, Ending, Grows, PutUpTo};
-ghost use Rattle.rows.specs.Tables.{joinWords, atomWords, own_words};
+ghost use Rattle.rows.specs.Tables.{join_words, atom_words, own_words};
 
 use action::Operator;
 use common::{Made, append, common_rows, common_with};
@@ -25,7 +25,7 @@ pub fn join(
 ) -> Made
     requires { Behind start middle end table.old scratch.old }
     ensures { Lays start
-        (joinWords operator.cells (part start middle table.old) (part middle end table.old))
+        (join_words operator.cells (part start middle table.old) (part middle end table.old))
         table.old table.new result }
 {
     let whole = &*table;
@@ -99,7 +99,7 @@ fn join_atom(
 ) -> Made
     requires { Ending start first table.old scratch.old }
     ensures { Grows start
-        (joinWords operator.cells (atomWords atom.now) (drop first scratch.old))
+        (join_words operator.cells (atom_words atom.now) (drop first scratch.old))
         table.old table.new scratch.new result }
 {
     let m = read_match(atom);
@@ -131,7 +131,7 @@ fn put_up_to(out: &mut [u32], start: usize, place: usize, words: &[u32]) -> Made
 fn row_before(operator: Operator, row: &[u32], table: &[u32], out: &mut [u32], at: usize) -> Made
     requires { at ≤ length out.old }
     ensures { Lays at
-        (commonWithWords operator.cells (row_of row.now) table.now ++ row.now)
+        (common_with_words operator.cells (row_of row.now) table.now ++ row.now)
         out.old out.new result }
 {
     let common = common_with(operator, row, table, out, at);

@@ -11,14 +11,14 @@ use lib.ListN.{get_or, length, drop}
 use borrow.Author.Tests.{lt-ltb, le-ltb, le-leb, lt-leb}
 use Rattle.words.specs.Records.{records}
 use Rattle.words.proofs.Records.{length-records}
-use Rattle.section.specs.Numbers.{operatorLengthIn, mostAtoms, mostChildren, wrongCell, wrongNode}
-use Rattle.section.specs.Atom.{rightAtomMatch, rightAtomAction}
-use Rattle.section.specs.Cells.{rightCellIn}
+use Rattle.section.specs.Numbers.{operator_length_in, most_atoms, most_children, wrong_cell, wrong_node}
+use Rattle.section.specs.Atom.{right_atom_match, right_atom_action}
+use Rattle.section.specs.Cells.{right_cell_in}
 use Rattle.refusal.specs.Plain.{plain}
-use Rattle.section.specs.Sections.{unless, recordLength, least, most, headerFault}
-use Rattle.section.specs.Sections.{countFault, cellFault, cellsFault, atomFault, nodeFault, recordFault, sectionFault}
-use Rattle.section.specs.Sections.{inner_of, parent_of, siblingOf, own_of, childrenOf}
-use Rattle.section.specs.Due.{Present, RightHeader, FirstWrong, RightRecord, recordAt, Good, RecordDue, SectionDue, HeaderDue}
+use Rattle.section.specs.Sections.{unless, record_length, least, most, header_fault}
+use Rattle.section.specs.Sections.{count_fault, cell_fault, cells_fault, atom_fault, node_fault, record_fault, section_fault}
+use Rattle.section.specs.Sections.{inner_of, parent_of, sibling_of, own_of, children_of}
+use Rattle.section.specs.Due.{Present, RightHeader, FirstWrong, RightRecord, record_at, Good, RecordDue, SectionDue, HeaderDue}
 use Rattle.section.specs.Due.{cell, match, action, node, no-count, beyond, cut, wrong-record}
 use Rattle.section.specs.declared.Edition.{Edition}
 use Rattle.section.specs.declared.Edition.TheVariants.{First}
@@ -59,10 +59,10 @@ passed-or-not Passed = inl refl
 passed-or-not (Failed x) = inr (λ e. let z : ◌≡◌ {A = ℕ} 0 1 = cc in omega arith)
 
 -- a wrong record is refused as is due
-record-due : (at : ℕ) (r : List ℕ) {s : Section} {n p : ℕ} → RecordDue at r s n p → length r ≡ recordLength s → recordFault s at r ≡ Failed (plain n p)
-unfolding cellsFault atomFault nodeFault
+record-due : (at : ℕ) (r : List ℕ) {s : Section} {n p : ℕ} → RecordDue at r s n p → length r ≡ record_length s → record_fault s at r ≡ Failed (plain n p)
+unfolding cells_fault atom_fault node_fault
 record-due at r (cell {e} {j} w) long =
-    first-each 0 (cellFault e at) 1 0 r j (plain wrongCell (at + j)) (record {
+    first-each 0 (cell_fault e at) 1 0 r j (plain wrong_cell (at + j)) (record {
       within = omega (arith, w.within);
       before = λ i l p q. let z : p ≡ i = omega arith in rw (z, w.before i l);
       fails = λ p q. let z : p ≡ j = omega arith in rw (z, not-true _ w.wrong);
@@ -70,22 +70,22 @@ record-due at r (cell {e} {j} w) long =
 record-due at r (match t) long = rw t
 record-due at r (action t u) long = rw (t, u)
 record-due at r (node {a} h) long =
-    let t : Bool = ltb (inner_of r) a && ltb (parent_of r) a && ltb (siblingOf r) a && leb (own_of r) mostAtoms && leb (childrenOf r) mostChildren in
-    unless-failed t wrongNode at (λ e. h (node-fault a at r e))
+    let t : Bool = ltb (inner_of r) a && ltb (parent_of r) a && ltb (sibling_of r) a && leb (own_of r) most_atoms && leb (children_of r) most_children in
+    unless-failed t wrong_node at (λ e. h (node-fault a at r e))
 
 -- a record is right, or something is due to it
 record-cases : (s : Section) (at : ℕ) (r : List ℕ) → RightRecord s r ⊎ ((n : ℕ) × (p : ℕ) × RecordDue at r s n p)
 record-cases (Operators e) at r = ⊎_elim
     (λ h. inl h)
     (λ w. inr (_, _, cell w.1))
-    (first-wrong (λ j. rightCellIn e j (get_or r j 0) ≡ true) (λ j. true-or-not _) (operatorLengthIn e))
-record-cases (Atoms e) at r = by-test (rightAtomMatch e r)
-    (λ t. by-test (rightAtomAction e r) (λ u. inl (t, u)) (λ u. inr (_, _, action t u)))
+    (first-wrong (λ j. right_cell_in e j (get_or r j 0) ≡ true) (λ j. true-or-not _) (operator_length_in e))
+record-cases (Atoms e) at r = by-test (right_atom_match e r)
+    (λ t. by-test (right_atom_action e r) (λ u. inl (t, u)) (λ u. inr (_, _, action t u)))
     (λ t. inr (_, _, match t))
 record-cases (Nodes a) at r = ⊎_elim
     (λ e. inl (node-fault a at r e))
     (λ h. inr (_, _, node (λ n. h (fault-node a at r n))))
-    (passed-or-not (nodeFault a at r))
+    (passed-or-not (node_fault a at r))
 
 -- and not both
 not_right : (at : ℕ) (r : List ℕ) {s : Section} {n p : ℕ} → RecordDue at r s n p → ¬ RightRecord s r
@@ -97,20 +97,20 @@ not_right at r (node n) h = n h
 -- SECTIONS
 module _ (f : List ℕ) (at : ℕ) (s : Section) where
   -- what is due to a section is what it is refused with
-  pub section-due : {n p : ℕ} → SectionDue f at s n p → sectionFault f at s ≡ Failed (plain n p)
-  unfolding sectionFault countFault
+  pub section-due : {n p : ℕ} → SectionDue f at s n p → section_fault f at s ≡ Failed (plain n p)
+  unfolding section_fault count_fault
   section-due (no-count h) = rw (le-ltb at (length f) h)
   section-due (beyond h (inl g)) = rw (lt-ltb at (length f) h, lt-leb (least s) (get_or f at 0) g)
   section-due (beyond h (inr g)) = rw (lt-ltb at (length f) h, lt-leb (get_or f at 0) (most s) g, and-false (leb (least s) (get_or f at 0)))
   section-due (cut h l m g) =
       let n : ℕ = get_or f at 0 in
-      rw (lt-ltb at (length f) h, le-leb (least s) n l, le-leb n (most s) m, lt-leb (at + 1 + recordLength s * n) (length f) g)
+      rw (lt-ltb at (length f) h, le-leb (least s) n l, le-leb n (most s) m, lt-leb (at + 1 + record_length s * n) (length f) g)
   section-due (wrong-record {n} {i} {number} {place} p w d) =
       present-fault f at s n p
-      ∙ first-each [] (recordFault s) (recordLength s) (at + 1) (records n (recordLength s) (drop (at + 1) f)) i (plain number place) (record {
+      ∙ first-each [] (record_fault s) (record_length s) (at + 1) (records n (record_length s) (drop (at + 1) f)) i (plain number place) (record {
         within = rw length-records w.within;
-        before = λ j l x q. right-record s x (recordAt f at s n j) (present-long f at s n p j (omega (arith, w.within))) (w.before j l);
-        fails = λ x q. rw q (record-due (at + 1 + recordLength s * i) (recordAt f at s n i) d (present-long f at s n p i w.within));
+        before = λ j l x q. right-record s x (record_at f at s n j) (present-long f at s n p j (omega (arith, w.within))) (w.before j l);
+        fails = λ x q. rw q (record-due (at + 1 + record_length s * i) (record_at f at s n i) d (present-long f at s n p i w.within));
       })
 
   -- a section is good, or something is due to it
@@ -120,26 +120,26 @@ module _ (f : List ℕ) (at : ℕ) (s : Section) where
       by_le (length f) at (λ h. inr (_, _, no-count h))
       (λ h. by_le (least s) n
       (λ l. by_le n (most s)
-      (λ m. by_le (at + 1 + recordLength s * n) (length f)
+      (λ m. by_le (at + 1 + record_length s * n) (length f)
       (λ w. present (record { there = h; count = refl; least = l; most = m; whole = w }))
       (λ w. inr (_, _, cut h l m w)))
       (λ m. inr (_, _, beyond h (inr m))))
       (λ l. inr (_, _, beyond h (inl l))))
     where
-      decide : (i : ℕ) → RightRecord s (recordAt f at s (get_or f at 0) i) ⊎ (¬ RightRecord s (recordAt f at s (get_or f at 0) i))
-      decide i = ⊎_elim (λ h. inl h) (λ d. inr (not_right 0 (recordAt f at s (get_or f at 0) i) d.2)) (record-cases s 0 (recordAt f at s (get_or f at 0) i))
+      decide : (i : ℕ) → RightRecord s (record_at f at s (get_or f at 0) i) ⊎ (¬ RightRecord s (record_at f at s (get_or f at 0) i))
+      decide i = ⊎_elim (λ h. inl h) (λ d. inr (not_right 0 (record_at f at s (get_or f at 0) i) d.2)) (record-cases s 0 (record_at f at s (get_or f at 0) i))
 
-      present : Present f at (least s) (most s) (recordLength s) (get_or f at 0) → Good f at s (get_or f at 0) ⊎ ((n : ℕ) × (p : ℕ) × SectionDue f at s n p)
+      present : Present f at (least s) (most s) (record_length s) (get_or f at 0) → Good f at s (get_or f at 0) ⊎ ((n : ℕ) × (p : ℕ) × SectionDue f at s n p)
       present p = ⊎_elim
           (λ h. inl (record { present = p; right = h }))
           (λ w. ⊎_elim
           (λ h. absurd (w.1.wrong h))
           (λ d. inr (_, _, wrong-record p w.1 d.2))
-          (record-cases s (at + 1 + recordLength s * w.0) (recordAt f at s (get_or f at 0) w.0)))
-          (first-wrong (λ j. RightRecord s (recordAt f at s (get_or f at 0) j)) decide (get_or f at 0))
+          (record-cases s (at + 1 + record_length s * w.0) (record_at f at s (get_or f at 0) w.0)))
+          (first-wrong (λ j. RightRecord s (record_at f at s (get_or f at 0) j)) decide (get_or f at 0))
 
 -- THE HEADER: what is due to it is what it is refused with, and it is right or something is
-pub header-due : (e : Edition) (f : List ℕ) (n at : ℕ) → HeaderDue e f n at → headerFault e f ≡ Failed (plain n at)
+pub header-due : (e : Edition) (f : List ℕ) (n at : ℕ) → HeaderDue e f n at → header_fault e f ≡ Failed (plain n at)
 header-due First f n at d = absurd d
 
 pub header-cases : (e : Edition) (f : List ℕ) → RightHeader e f ⊎ ((n : ℕ) × (at : ℕ) × HeaderDue e f n at)

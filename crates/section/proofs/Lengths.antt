@@ -5,18 +5,18 @@ use mathlib.Core.Path.{◌≡◌, sym}
 use mathlib.Core.List.{List}
 use lib.ListN.{get_or, length, take}
 use lib.Seq.{get_or-take, length-take-le}
-use Rattle.row.specs.Row.{rowLength, rightRowMatch, rightRowAction}
-use Rattle.section.specs.Numbers.{atomLengthIn}
-use Rattle.section.specs.Sections.{recordLength}
+use Rattle.row.specs.Row.{row_length, right_row_match, right_row_action}
+use Rattle.section.specs.Numbers.{atom_length_in}
+use Rattle.section.specs.Sections.{record_length}
 use Rattle.section.specs.declared.Edition.{Edition}
 use Rattle.section.specs.declared.Edition.TheVariants.{First}
 use Rattle.section.specs.declared.Section.{Section}
 use Rattle.section.specs.declared.Section.TheVariants.{Atoms}
 
-pub match-first : (r : List ℕ) → rightRowMatch (take rowLength r) ≡ rightRowMatch r
-unfolding rightRowMatch
+pub match-first : (r : List ℕ) → right_row_match (take row_length r) ≡ right_row_match r
+unfolding right_row_match
 match-first r =
-    let w : (i : ℕ) → i < rowLength → get_or (take rowLength r) i 0 ≡ get_or r i 0 = λ i h. get_or-take rowLength r i 0 h in
+    let w : (i : ℕ) → i < row_length → get_or (take row_length r) i 0 ≡ get_or r i 0 = λ i h. get_or-take row_length r i 0 h in
     rw (
       w 0 (omega arith),
       w 1 (omega arith),
@@ -29,12 +29,12 @@ match-first r =
       w 8 (omega arith),
     )
 
-pub action-first : (r : List ℕ) → rightRowAction (take rowLength r) ≡ rightRowAction r
-unfolding rightRowAction
-action-first r = rw (get_or-take rowLength r 9 0 (omega arith), get_or-take rowLength r 10 0 (omega arith))
+pub action-first : (r : List ℕ) → right_row_action (take row_length r) ≡ right_row_action r
+unfolding right_row_action
+action-first r = rw (get_or-take row_length r 9 0 (omega arith), get_or-take row_length r 10 0 (omega arith))
 
-pub row-long : (e : Edition) (r : List ℕ) → e ≡ First → atomLengthIn e ≤ length r → rowLength ≡ length (take rowLength r)
-row-long e r p h = let g : atomLengthIn First ≤ length r = rw p at h in sym (length-take-le rowLength r g)
+pub row-long : (e : Edition) (r : List ℕ) → e ≡ First → atom_length_in e ≤ length r → row_length ≡ length (take row_length r)
+row-long e r p h = let g : atom_length_in First ≤ length r = rw p at h in sym (length-take-le row_length r g)
 
-pub atom-long : (s : Section) (e : Edition) (n : ℕ) → s ≡ Atoms e → recordLength s ≤ n → atomLengthIn e ≤ n
+pub atom-long : (s : Section) (e : Edition) (n : ℕ) → s ≡ Atoms e → record_length s ≤ n → atom_length_in e ≤ n
 atom-long s e n p h = rw p at h

@@ -10,8 +10,8 @@ use lib.ListN.{get_or, length, drop}
 use lib.Seq.{drop-cons}
 use borrow.Author.Tests.{leb-true, ltb-true}
 use Rattle.words.specs.Records.{records}
-use Rattle.section.specs.Numbers.{short, wrongCount}
-use Rattle.section.specs.Sections.{unless, ◌else◌, each, recordLength, least, most, countFault, recordFault, behind, sectionFault}
+use Rattle.section.specs.Numbers.{short, wrong_count}
+use Rattle.section.specs.Sections.{unless, ◌else◌, each, record_length, least, most, count_fault, record_fault, behind, section_fault}
 use Rattle.section.specs.declared.Edition.TheVariants.{First}
 use Rattle.refusal.specs.declared.Refusal.{Refusal}
 use Rattle.section.specs.declared.Section.{Section}
@@ -48,12 +48,12 @@ pub record Counted (f : List ℕ) (at : ℕ) (s : Section) : Type 0 where
   pub few : least s ≤ get_or f at 0
   pub many : get_or f at 0 ≤ most s
 
-pub counted : (f : List ℕ) (at : ℕ) (s : Section) → countFault f at s ≡ Passed → Counted f at s
-unfolding countFault
+pub counted : (f : List ℕ) (at : ℕ) (s : Section) → count_fault f at s ≡ Passed → Counted f at s
+unfolding count_fault
 counted f at s e =
     let n : ℕ = get_or f at 0 in
-    let h = else-both (unless (ltb at (length f)) short (length f)) (unless (leb (least s) n && leb n (most s)) wrongCount at) e in
-    let k : (leb (least s) n && leb n (most s)) ≡ true = unless-true (leb (least s) n && leb n (most s)) wrongCount at h.1 in
+    let h = else-both (unless (ltb at (length f)) short (length f)) (unless (leb (least s) n && leb n (most s)) wrong_count at) e in
+    let k : (leb (least s) n && leb n (most s)) ≡ true = unless-true (leb (least s) n && leb n (most s)) wrong_count at h.1 in
     record {
       there = ltb-true at (length f) (unless-true (ltb at (length f)) short (length f) h.0);
       few = leb-true (least s) n (and_left (leb (least s) n) (leb n (most s)) k);
@@ -61,10 +61,10 @@ counted f at s e =
     }
 
 -- more words than any section has
-abbrev pub sectionLimit : ℕ
-sectionLimit = 16384
+abbrev pub section_limit : ℕ
+section_limit = 16384
 
-pub section-small : (s : Section) (n : ℕ) → n ≤ most s → recordLength s * n ≤ sectionLimit
+pub section-small : (s : Section) (n : ℕ) → n ≤ most s → record_length s * n ≤ section_limit
 section-small (Operators First) n h = omega arith
 section-small (Atoms First) n h = omega arith
 section-small (Nodes k) n h = omega arith
@@ -72,17 +72,17 @@ section-small (Nodes k) n h = omega arith
 -- a section that passes: its count, its whole length and its records
 pub record Section-passed (f : List ℕ) (at : ℕ) (s : Section) : Type 0 where
   pub count : Counted f at s
-  pub whole : at + 1 + recordLength s * get_or f at 0 ≤ length f
-  pub all : each (recordFault s) (at + 1) (recordLength s) (records (get_or f at 0) (recordLength s) (drop (at + 1) f)) ≡ Passed
+  pub whole : at + 1 + record_length s * get_or f at 0 ≤ length f
+  pub all : each (record_fault s) (at + 1) (record_length s) (records (get_or f at 0) (record_length s) (drop (at + 1) f)) ≡ Passed
 
-pub section-passed : (f : List ℕ) (at : ℕ) (s : Section) → sectionFault f at s ≡ Passed → Section-passed f at s
-unfolding sectionFault
+pub section-passed : (f : List ℕ) (at : ℕ) (s : Section) → section_fault f at s ≡ Passed → Section-passed f at s
+unfolding section_fault
 section-passed f at s e =
-    let k : ℕ = recordLength s in
+    let k : ℕ = record_length s in
     let n : ℕ = get_or f at 0 in
     let present : Test = unless (leb (at + 1 + k * n) (length f)) short (length f) in
-    let rest : Test = each (recordFault s) (at + 1) k (records n k (drop (at + 1) f)) in
-    let h = else-both (countFault f at s) (◌else◌ present rest) e in
+    let rest : Test = each (record_fault s) (at + 1) k (records n k (drop (at + 1) f)) in
+    let h = else-both (count_fault f at s) (◌else◌ present rest) e in
     let g = else-both present rest h.1 in
     record {
       count = counted f at s h.0;
@@ -91,33 +91,33 @@ section-passed f at s e =
     }
 
 -- the ways through a section, as the code has it: a count n that is the file's word, and an end x
-module _ (f : List ℕ) (at : ℕ) (s : Section) (t : Test) (e : t ≡ countFault f at s) where
-  pub count-fails : (r : Refusal) → t ≡ Failed r → t ≡ sectionFault f at s
-  unfolding sectionFault
+module _ (f : List ℕ) (at : ℕ) (s : Section) (t : Test) (e : t ≡ count_fault f at s) where
+  pub count-fails : (r : Refusal) → t ≡ Failed r → t ≡ section_fault f at s
+  unfolding section_fault
   count-fails r g = rw (← e, g)
 
   module _ (passes : t ≡ Passed) (n m : ℕ) (q : n ≡ m) (w : m ≡ get_or f at 0) where
-    pub words-few : behind at s n ≤ at + 1 + sectionLimit
+    pub words-few : behind at s n ≤ at + 1 + section_limit
     words-few = rw (q, w) (omega (arith, section-small s (get_or f at 0) (counted f at s (sym e ∙ passes)).many))
 
     module _ (x : ℕ) (p : x ≡ behind at s n) (y : Test) (d : y ≡ unless (leb x (length f)) short (length f)) where
       present : y ≡ unless (leb (behind at s (get_or f at 0)) (length f)) short (length f)
       present = d ∙ rw (p, q, w)
 
-      pub section-short : (r : Refusal) → y ≡ Failed r → y ≡ sectionFault f at s
-      unfolding sectionFault
+      pub section-short : (r : Refusal) → y ≡ Failed r → y ≡ section_fault f at s
+      unfolding section_fault
       section-short r g = rw (← e, passes, ← present, g)
 
       pub section-whole : y ≡ Passed → behind at s n ≤ length f
       section-whole g = leb-true _ _ (unless-true (leb (behind at s n) (length f)) short (length f) (rw (← p) (sym d ∙ g)))
 
       pub section-records : (z : Test) → y ≡ Passed
-          → z ≡ each (recordFault s) (at + 1) (recordLength s) (records n (recordLength s) (drop (at + 1) f)) → z ≡ sectionFault f at s
-      unfolding sectionFault
+          → z ≡ each (record_fault s) (at + 1) (record_length s) (records n (record_length s) (drop (at + 1) f)) → z ≡ section_fault f at s
+      unfolding section_fault
       section-records z g h = rw (← e, passes, ← present, g) (h ∙ rw (q, w))
 
 -- what a caller learns of a count n, the file's word, where the section passed
-pub section-bounds : (f : List ℕ) (at : ℕ) (s : Section) (x : Test) → x ≡ sectionFault f at s → x ≡ Passed → (n m : ℕ) → n ≡ m → m ≡ get_or f at 0
+pub section-bounds : (f : List ℕ) (at : ℕ) (s : Section) (x : Test) → x ≡ section_fault f at s → x ≡ Passed → (n m : ℕ) → n ≡ m → m ≡ get_or f at 0
     → (n ≤ most s) × (behind at s n ≤ length f)
 section-bounds f at s x e g n m p q =
     let h : Section-passed f at s = section-passed f at s (sym e ∙ g) in

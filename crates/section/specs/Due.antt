@@ -5,17 +5,17 @@
 --   Present                  a section: its count is there and within limits, and so are all its records
 --   RightNode, RightHeader   a node's words are right; a file begins with the header of an edition
 --   FirstWrong               the first place that is not right
---   RightRecord, recordAt    a record of a section is right; the record at an index
+--   RightRecord, record_at    a record of a section is right; the record at an index
 --   Good                     a section is present, and all its records are right
 --   RecordDue, SectionDue    which refusal is due to a wrong record, and to a section
 --   HeaderDue                which refusal is due to a header
 use Rattle.std.specs.Prelude.{ℕ, ◌+◌, ◌*◌, ◌≤◌, ◌<◌, ◌≡◌, true, false, List, [], ◌⊎◌, get_or, length, take, drop}
 use Rattle.words.specs.Records.{records}
-use Rattle.section.specs.Numbers.{headerLengthIn, headerOf, operatorLengthIn, mostAtoms, mostChildren}
-use Rattle.section.specs.Numbers.{short, wrongCount, wrongCell, wrongMatch, wrongAction, wrongNode}
-use Rattle.section.specs.Atom.{rightAtomMatch, rightAtomAction}
-use Rattle.section.specs.Cells.{rightCellIn}
-use Rattle.section.specs.Sections.{recordLength, least, most, inner_of, parent_of, siblingOf, own_of, childrenOf}
+use Rattle.section.specs.Numbers.{header_length_in, header_of, operator_length_in, most_atoms, most_children}
+use Rattle.section.specs.Numbers.{short, wrong_count, wrong_cell, wrong_match, wrong_action, wrong_node}
+use Rattle.section.specs.Atom.{right_atom_match, right_atom_action}
+use Rattle.section.specs.Cells.{right_cell_in}
+use Rattle.section.specs.Sections.{record_length, least, most, inner_of, parent_of, sibling_of, own_of, children_of}
 use Rattle.section.specs.declared.Edition.{Edition}
 use Rattle.section.specs.declared.Edition.TheVariants.{First}
 use Rattle.section.specs.declared.Section.{Section}
@@ -33,13 +33,13 @@ pub record Present (f : List ℕ) (at low high k n : ℕ) : Type 0 where
 pub record RightNode (operators : ℕ) (r : List ℕ) : Type 0 where
   pub inner : inner_of r < operators
   pub parent : parent_of r < operators
-  pub sibling : siblingOf r < operators
-  pub own : own_of r ≤ mostAtoms
-  pub children : childrenOf r ≤ mostChildren
+  pub sibling : sibling_of r < operators
+  pub own : own_of r ≤ most_atoms
+  pub children : children_of r ≤ most_children
 
 -- a file begins with the header of an edition
 abbrev pub RightHeader : Edition → List ℕ → Type 0
-RightHeader e f = take (headerLengthIn e) f ≡ headerOf e
+RightHeader e f = take (header_length_in e) f ≡ header_of e
 
 -- place i is the first below n that is not right
 pub record FirstWrong (Right : ℕ → Type 0) (n i : ℕ) : Type 0 where
@@ -49,30 +49,30 @@ pub record FirstWrong (Right : ℕ → Type 0) (n i : ℕ) : Type 0 where
 
 -- a record of a section is right: each cell of an operator, an atom's match and action, a node's indexes and counts
 abbrev pub RightRecord : Section → List ℕ → Type 0
-RightRecord (Operators e) r = (j : ℕ) → j < operatorLengthIn e → rightCellIn e j (get_or r j 0) ≡ true
-RightRecord (Atoms e) r = (rightAtomMatch e r ≡ true) × (rightAtomAction e r ≡ true)
+RightRecord (Operators e) r = (j : ℕ) → j < operator_length_in e → right_cell_in e j (get_or r j 0) ≡ true
+RightRecord (Atoms e) r = (right_atom_match e r ≡ true) × (right_atom_action e r ≡ true)
 RightRecord (Nodes a) r = RightNode a r
 
 -- record i of a section of n records whose count stands at a place
-abbrev pub recordAt : List ℕ → ℕ → Section → ℕ → ℕ → List ℕ
-recordAt f at s n i = get_or (records n (recordLength s) (drop (at + 1) f)) i []
+abbrev pub record_at : List ℕ → ℕ → Section → ℕ → ℕ → List ℕ
+record_at f at s n i = get_or (records n (record_length s) (drop (at + 1) f)) i []
 
 -- a good section of n records whose count stands at a place: it is present, and each record is right
 pub record Good (f : List ℕ) (at : ℕ) (s : Section) (n : ℕ) : Type 0 where
-  pub present : Present f at (least s) (most s) (recordLength s) n
-  pub right : (i : ℕ) → i < n → RightRecord s (recordAt f at s n i)
+  pub present : Present f at (least s) (most s) (record_length s) n
+  pub right : (i : ℕ) → i < n → RightRecord s (record_at f at s n i)
 
 -- what is due to a wrong record r that begins at a place
 pub data RecordDue (at : ℕ) (r : List ℕ) : Section → ℕ → ℕ → Type 0 where
   -- an operator: 3 at the word of its first wrong cell
-  cell : {e : Edition} {j : ℕ} → FirstWrong (λ i. rightCellIn e i (get_or r i 0) ≡ true) (operatorLengthIn e) j
-      → RecordDue at r (Operators e) wrongCell (at + j)
+  cell : {e : Edition} {j : ℕ} → FirstWrong (λ i. right_cell_in e i (get_or r i 0) ≡ true) (operator_length_in e) j
+      → RecordDue at r (Operators e) wrong_cell (at + j)
   -- an atom: 4 at its first word if its match is wrong, whatever its action is; 5 there if only its action is
-  match : {e : Edition} → rightAtomMatch e r ≡ false → RecordDue at r (Atoms e) wrongMatch at
-  action : {e : Edition} → rightAtomMatch e r ≡ true → rightAtomAction e r ≡ false
-      → RecordDue at r (Atoms e) wrongAction at
+  match : {e : Edition} → right_atom_match e r ≡ false → RecordDue at r (Atoms e) wrong_match at
+  action : {e : Edition} → right_atom_match e r ≡ true → right_atom_action e r ≡ false
+      → RecordDue at r (Atoms e) wrong_action at
   -- a node: 6 at its first word, whichever of its words is wrong
-  node : {a : ℕ} → ¬ RightNode a r → RecordDue at r (Nodes a) wrongNode at
+  node : {a : ℕ} → ¬ RightNode a r → RecordDue at r (Nodes a) wrong_node at
 
 -- what is due to a section whose count stands at a place: "count, then the whole section present, then records in
 -- order"
@@ -80,15 +80,15 @@ pub data SectionDue (f : List ℕ) (at : ℕ) (s : Section) : ℕ → ℕ → Ty
   -- the file ends before the count: 1 at the file's word count
   no-count : length f ≤ at → SectionDue f at s short (length f)
   -- the count is beyond its limits, whatever follows it: 2 at its word
-  beyond : at < length f → (get_or f at 0 < least s) ⊎ (most s < get_or f at 0) → SectionDue f at s wrongCount at
+  beyond : at < length f → (get_or f at 0 < least s) ⊎ (most s < get_or f at 0) → SectionDue f at s wrong_count at
   -- the file ends inside the section, whatever is there of it: 1 at the file's word count
   cut : at < length f → least s ≤ get_or f at 0 → get_or f at 0 ≤ most s
-      → length f < at + 1 + recordLength s * get_or f at 0
+      → length f < at + 1 + record_length s * get_or f at 0
       → SectionDue f at s short (length f)
   -- the whole section is present: what is due to its first wrong record
-  wrong-record : {n i number place : ℕ} → Present f at (least s) (most s) (recordLength s) n
-      → FirstWrong (λ j. RightRecord s (recordAt f at s n j)) n i
-      → RecordDue (at + 1 + recordLength s * i) (recordAt f at s n i) s number place
+  wrong-record : {n i number place : ℕ} → Present f at (least s) (most s) (record_length s) n
+      → FirstWrong (λ j. RightRecord s (record_at f at s n j)) n i
+      → RecordDue (at + 1 + record_length s * i) (record_at f at s n i) s number place
       → SectionDue f at s number place
 
 -- what is due to a header: that of the first edition has no words, and nothing is

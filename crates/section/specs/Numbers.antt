@@ -2,15 +2,15 @@
 -- deep, and the refusals. See docs/FORMAT.md, "The policy file" and "Numbers a caller can get back".
 --
 --   latest                      the newest edition
---   headerLengthIn, headerOf    the words before the first count
---   operatorLengthIn, atomLengthIn   the words of records, by edition; without In those of the newest
---   nodeLength, firstOperator   the words of a node; the place of the first operator
---   longestFile                 the words of the longest file
---   mostOperators, mostAtoms, mostNodes, mostChildren, deepest   limits
---   short .. lawBroken          the refusals 1 to 10
+--   header_length_in, header_of    the words before the first count
+--   operator_length_in, atom_length_in   the words of records, by edition; without In those of the newest
+--   node_length, first_operator   the words of a node; the place of the first operator
+--   longest_file                 the words of the longest file
+--   most_operators, most_atoms, most_nodes, most_children, deepest   limits
+--   short .. law_broken          the refusals 1 to 10
 use Rattle.std.specs.Prelude.{ℕ, ◌+◌, ◌*◌, List, []}
-use Rattle.action.specs.Operator.{cellCount}
-use Rattle.row.specs.Row.{rowLength}
+use Rattle.action.specs.Operator.{cell_count}
+use Rattle.row.specs.Row.{row_length}
 use Rattle.section.specs.declared.Edition.{Edition}
 use Rattle.section.specs.declared.Edition.TheVariants.{First}
 
@@ -19,58 +19,58 @@ abbrev pub latest : Edition
 latest = First
 
 -- the words before the first count
-abbrev pub headerLengthIn : Edition → ℕ
-headerLengthIn First = 0
+abbrev pub header_length_in : Edition → ℕ
+header_length_in First = 0
 
 -- those words
-abbrev pub headerOf : Edition → List ℕ
-headerOf First = []
+abbrev pub header_of : Edition → List ℕ
+header_of First = []
 
 -- the words of an operator: its cells
-abbrev pub operatorLengthIn : Edition → ℕ
-operatorLengthIn First = cellCount
+abbrev pub operator_length_in : Edition → ℕ
+operator_length_in First = cell_count
 
 -- the words of an atom: a match, then an action
-abbrev pub atomLengthIn : Edition → ℕ
-atomLengthIn First = rowLength
+abbrev pub atom_length_in : Edition → ℕ
+atom_length_in First = row_length
 
 -- the same for the newest edition
-abbrev pub headerLength : ℕ
-headerLength = headerLengthIn latest
+abbrev pub header_length : ℕ
+header_length = header_length_in latest
 
-abbrev pub operatorLength : ℕ
-operatorLength = operatorLengthIn latest
+abbrev pub operator_length : ℕ
+operator_length = operator_length_in latest
 
-abbrev pub atomLength : ℕ
-atomLength = atomLengthIn latest
+abbrev pub atom_length : ℕ
+atom_length = atom_length_in latest
 
 -- where the first operator stands, behind the count of the operators
-abbrev pub firstOperator : ℕ
-firstOperator = headerLength + 1
+abbrev pub first_operator : ℕ
+first_operator = header_length + 1
 
 -- the words of a node: inner, parent and sibling operator indexes, own-atom count, child count
-abbrev pub nodeLength : ℕ
-nodeLength = 5
+abbrev pub node_length : ℕ
+node_length = 5
 
 -- at most so many operators, and at least 1
-abbrev pub mostOperators : ℕ
-mostOperators = 32
+abbrev pub most_operators : ℕ
+most_operators = 32
 
 -- at most so many atoms, in the file and in a node
-abbrev pub mostAtoms : ℕ
-mostAtoms = 1024
+abbrev pub most_atoms : ℕ
+most_atoms = 1024
 
 -- at most so many nodes, and at least 1
-abbrev pub mostNodes : ℕ
-mostNodes = 256
+abbrev pub most_nodes : ℕ
+most_nodes = 256
 
 -- at most so many children of a node
-abbrev pub mostChildren : ℕ
-mostChildren = 255
+abbrev pub most_children : ℕ
+most_children = 255
 
 -- the words of the longest file: three counts, and three full sections
-abbrev pub longestFile : ℕ
-longestFile = headerLength + 3 + operatorLength * mostOperators + atomLength * mostAtoms + nodeLength * mostNodes
+abbrev pub longest_file : ℕ
+longest_file = header_length + 3 + operator_length * most_operators + atom_length * most_atoms + node_length * most_nodes
 
 -- the deepest that a node may stand; the root has depth 1
 abbrev pub deepest : ℕ
@@ -81,37 +81,37 @@ abbrev pub short : ℕ
 short = 1
 
 -- a count beyond its limits
-abbrev pub wrongCount : ℕ
-wrongCount = 2
+abbrev pub wrong_count : ℕ
+wrong_count = 2
 
 -- a wrong cell code
-abbrev pub wrongCell : ℕ
-wrongCell = 3
+abbrev pub wrong_cell : ℕ
+wrong_cell = 3
 
 -- a wrong match
-abbrev pub wrongMatch : ℕ
-wrongMatch = 4
+abbrev pub wrong_match : ℕ
+wrong_match = 4
 
 -- a wrong action
-abbrev pub wrongAction : ℕ
-wrongAction = 5
+abbrev pub wrong_action : ℕ
+wrong_action = 5
 
 -- an operator index, own-atom or child count too large
-abbrev pub wrongNode : ℕ
-wrongNode = 6
+abbrev pub wrong_node : ℕ
+wrong_node = 6
 
 -- words after the last node
-abbrev pub extraWords : ℕ
-extraWords = 7
+abbrev pub extra_words : ℕ
+extra_words = 7
 
 -- the nodes are not one tree, or too deep
-abbrev pub noTree : ℕ
-noTree = 8
+abbrev pub no_tree : ℕ
+no_tree = 8
 
 -- the own-atom counts do not add up to the atoms
-abbrev pub wrongSum : ℕ
-wrongSum = 9
+abbrev pub wrong_sum : ℕ
+wrong_sum = 9
 
 -- a law is broken
-abbrev pub lawBroken : ℕ
-lawBroken = 10
+abbrev pub law_broken : ℕ
+law_broken = 10

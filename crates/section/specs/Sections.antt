@@ -3,21 +3,21 @@
 --
 --   unless, _else_         a refusal where a test is not met; the first of two
 --   each                   the first refusal of records, cells or operators in order
---   recordLength, least, most   the words of a section's records; the fewest and the most that it may have
---   headerFault            the header is the edition's
---   countFault             a section's count is there (1) and within its limits (2)
---   recordFault            an operator's cells (3), an atom's match (4) and then its action (5), a node's words (6)
+--   record_length, least, most   the words of a section's records; the fewest and the most that it may have
+--   header_fault            the header is the edition's
+--   count_fault             a section's count is there (1) and within its limits (2)
+--   record_fault            an operator's cells (3), an atom's match (4) and then its action (5), a node's words (6)
 --   behind                 where a section ends: the next one's count stands there
---   sectionFault           the count, then the whole section (1), then its records in order
+--   section_fault           the count, then the whole section (1), then its records in order
 --   Reaches                a file reaches to a place, and its operators are there
 use Rattle.std.specs.Prelude.{ℕ, ◌+◌, ◌*◌, ◌≤◌, Bool, cond, ◌&&◌, List, [], ◌∷◌, leb, ltb, get_or, length, drop}
 use Rattle.words.specs.Records.{records}
 use Rattle.refusal.specs.Plain.{plain}
-use Rattle.section.specs.Numbers.{operatorLengthIn, atomLengthIn, nodeLength}
-use Rattle.section.specs.Numbers.{mostOperators, mostAtoms, mostNodes, mostChildren}
-use Rattle.section.specs.Numbers.{short, wrongCount, wrongCell, wrongMatch, wrongAction, wrongNode}
-use Rattle.section.specs.Atom.{rightAtomMatch, rightAtomAction}
-use Rattle.section.specs.Cells.{rightCellIn}
+use Rattle.section.specs.Numbers.{operator_length_in, atom_length_in, node_length}
+use Rattle.section.specs.Numbers.{most_operators, most_atoms, most_nodes, most_children}
+use Rattle.section.specs.Numbers.{short, wrong_count, wrong_cell, wrong_match, wrong_action, wrong_node}
+use Rattle.section.specs.Atom.{right_atom_match, right_atom_action}
+use Rattle.section.specs.Cells.{right_cell_in}
 use Rattle.section.specs.declared.Edition.{Edition}
 use Rattle.section.specs.declared.Edition.TheVariants.{First}
 use Rattle.section.specs.declared.Section.{Section}
@@ -40,10 +40,10 @@ each t at k [] = Passed
 each t at k (x ∷ xs) = ◌else◌ (t at x) (each t (at + k) k xs)
 
 -- the words of a section's records
-abbrev pub recordLength : Section → ℕ
-recordLength (Operators e) = operatorLengthIn e
-recordLength (Atoms e) = atomLengthIn e
-recordLength (Nodes n) = nodeLength
+abbrev pub record_length : Section → ℕ
+record_length (Operators e) = operator_length_in e
+record_length (Atoms e) = atom_length_in e
+record_length (Nodes n) = node_length
 
 -- the fewest records that a section may have
 abbrev pub least : Section → ℕ
@@ -53,31 +53,31 @@ least (Nodes n) = 1
 
 -- the most records that a section may have
 abbrev pub most : Section → ℕ
-most (Operators e) = mostOperators
-most (Atoms e) = mostAtoms
-most (Nodes n) = mostNodes
+most (Operators e) = most_operators
+most (Atoms e) = most_atoms
+most (Nodes n) = most_nodes
 
 -- the header of an edition: the first has none
-abbrev pub headerFault : Edition → List ℕ → Test
-headerFault First f = Passed
+abbrev pub header_fault : Edition → List ℕ → Test
+header_fault First f = Passed
 
 -- the count of a section is there, and within its limits
-unfoldable pub countFault : List ℕ → ℕ → Section → Test
-countFault f at s =
+unfoldable pub count_fault : List ℕ → ℕ → Section → Test
+count_fault f at s =
     ◌else◌ (unless (ltb at (length f)) short (length f))
-    (unless (leb (least s) (get_or f at 0) && leb (get_or f at 0) (most s)) wrongCount at)
+    (unless (leb (least s) (get_or f at 0) && leb (get_or f at 0) (most s)) wrong_count at)
 
 -- the cell j of an operator that stands at a place is right
-abbrev pub cellFault : Edition → ℕ → ℕ → ℕ → Test
-cellFault e at j c = unless (rightCellIn e j c) wrongCell (at + j)
+abbrev pub cell_fault : Edition → ℕ → ℕ → ℕ → Test
+cell_fault e at j c = unless (right_cell_in e j c) wrong_cell (at + j)
 
 -- the cells of an operator are right
-unfoldable pub cellsFault : Edition → ℕ → List ℕ → Test
-cellsFault e at r = each (cellFault e at) 0 1 r
+unfoldable pub cells_fault : Edition → ℕ → List ℕ → Test
+cells_fault e at r = each (cell_fault e at) 0 1 r
 
 -- the match of an atom is right, then its action
-unfoldable pub atomFault : Edition → ℕ → List ℕ → Test
-atomFault e at r = ◌else◌ (unless (rightAtomMatch e r) wrongMatch at) (unless (rightAtomAction e r) wrongAction at)
+unfoldable pub atom_fault : Edition → ℕ → List ℕ → Test
+atom_fault e at r = ◌else◌ (unless (right_atom_match e r) wrong_match at) (unless (right_atom_action e r) wrong_action at)
 
 -- the words of a node: inner, parent and sibling operator indexes, own-atom count, child count
 abbrev pub inner_of : List ℕ → ℕ
@@ -86,46 +86,46 @@ inner_of r = get_or r 0 0
 abbrev pub parent_of : List ℕ → ℕ
 parent_of r = get_or r 1 0
 
-abbrev pub siblingOf : List ℕ → ℕ
-siblingOf r = get_or r 2 0
+abbrev pub sibling_of : List ℕ → ℕ
+sibling_of r = get_or r 2 0
 
 abbrev pub own_of : List ℕ → ℕ
 own_of r = get_or r 3 0
 
-abbrev pub childrenOf : List ℕ → ℕ
-childrenOf r = get_or r 4 0
+abbrev pub children_of : List ℕ → ℕ
+children_of r = get_or r 4 0
 
 -- the operator indexes of a node are below the number of operators, its counts within their limits
-unfoldable pub nodeFault : ℕ → ℕ → List ℕ → Test
-nodeFault operators at r =
+unfoldable pub node_fault : ℕ → ℕ → List ℕ → Test
+node_fault operators at r =
     unless
     (ltb (inner_of r) operators
     && ltb (parent_of r) operators
-    && ltb (siblingOf r) operators
-    && leb (own_of r) mostAtoms
-    && leb (childrenOf r) mostChildren)
-    wrongNode
+    && ltb (sibling_of r) operators
+    && leb (own_of r) most_atoms
+    && leb (children_of r) most_children)
+    wrong_node
     at
 
 -- a record of a section is right
-abbrev pub recordFault : Section → ℕ → List ℕ → Test
-recordFault (Operators e) at r = cellsFault e at r
-recordFault (Atoms e) at r = atomFault e at r
-recordFault (Nodes n) at r = nodeFault n at r
+abbrev pub record_fault : Section → ℕ → List ℕ → Test
+record_fault (Operators e) at r = cells_fault e at r
+record_fault (Atoms e) at r = atom_fault e at r
+record_fault (Nodes n) at r = node_fault n at r
 
 -- where a section of n records ends, whose count stands at a place
 abbrev pub behind : ℕ → Section → ℕ → ℕ
-behind at s n = at + 1 + recordLength s * n
+behind at s n = at + 1 + record_length s * n
 
 -- a section: its count, then the whole section, then its records in order
-unfoldable pub sectionFault : List ℕ → ℕ → Section → Test
-sectionFault f at s =
-    let k : ℕ = recordLength s in
+unfoldable pub section_fault : List ℕ → ℕ → Section → Test
+section_fault f at s =
+    let k : ℕ = record_length s in
     let n : ℕ = get_or f at 0 in
-    ◌else◌ (countFault f at s)
+    ◌else◌ (count_fault f at s)
     (◌else◌ (unless (leb (behind at s n) (length f)) short (length f))
-    (each (recordFault s) (at + 1) k (records n k (drop (at + 1) f))))
+    (each (record_fault s) (at + 1) k (records n k (drop (at + 1) f))))
 
 -- a file reaches to a place, and its operators are there, whose count stands at h
 abbrev pub Reaches : Edition → List ℕ → ℕ → ℕ → ℕ → Type 0
-Reaches e f h a at = (a ≤ mostOperators) × (behind h (Operators e) a ≤ length f) × (at ≤ length f)
+Reaches e f h a at = (a ≤ most_operators) × (behind h (Operators e) a ≤ length f) × (at ≤ length f)

@@ -1,8 +1,8 @@
 // The atoms of each edition: the row that an atom's words are, and what its edition tests beside.
 ghost use Rattle.std.specs.Prelude.{◌≡◌, ◌≤◌, length};
-ghost use Rattle.section.specs.Numbers.{atomLengthIn};
-ghost use Rattle.section.specs.Atom.{rightAtomMatch, rightAtomAction};
-ghost use Rattle.section.specs.Sections.{atomFault};
+ghost use Rattle.section.specs.Numbers.{atom_length_in};
+ghost use Rattle.section.specs.Atom.{right_atom_match, right_atom_action};
+ghost use Rattle.section.specs.Sections.{atom_fault};
 
 use crate::sections::unless;
 use crate::{ATOM_WORDS, Edition, Test, WRONG_ACTION, WRONG_MATCH};
@@ -10,8 +10,8 @@ use row::{right_row_action, right_row_match};
 
 // A wrong match, or else a wrong action.
 pub(crate) fn atom_fault(atom: &[u32], at: usize, edition: Edition) -> Test
-    requires { atomLengthIn edition ≤ length atom.now }
-    ensures { result ≡ atomFault edition at atom.now }
+    requires { atom_length_in edition ≤ length atom.now }
+    ensures { result ≡ atom_fault edition at atom.now }
 {
     if !right_match_in(atom, edition) {
         return unless(false, WRONG_MATCH, at);
@@ -21,8 +21,8 @@ pub(crate) fn atom_fault(atom: &[u32], at: usize, edition: Edition) -> Test
 
 // Whether the match of an atom is right. The part tested has a known length, so that reading its words needs no test.
 fn right_match_in(atom: &[u32], edition: Edition) -> bool
-    requires { atomLengthIn edition ≤ length atom.now }
-    ensures { result ≡ rightAtomMatch edition atom.now }
+    requires { atom_length_in edition ≤ length atom.now }
+    ensures { result ≡ right_atom_match edition atom.now }
 {
     match edition {
         Edition::First => right_row_match(&atom[..ATOM_WORDS]),
@@ -31,8 +31,8 @@ fn right_match_in(atom: &[u32], edition: Edition) -> bool
 
 // Whether its action is right.
 fn right_action_in(atom: &[u32], edition: Edition) -> bool
-    requires { atomLengthIn edition ≤ length atom.now }
-    ensures { result ≡ rightAtomAction edition atom.now }
+    requires { atom_length_in edition ≤ length atom.now }
+    ensures { result ≡ right_atom_action edition atom.now }
 {
     match edition {
         Edition::First => right_row_action(&atom[..ATOM_WORDS]),

@@ -1,7 +1,7 @@
 // Where the sections of a file stand: each starts with its count, where the section before it ends.
 ghost use Rattle.std.specs.Prelude.{◌≡◌, ◌<◌, ◌^◌};
-ghost use Rattle.section.specs.Numbers.{headerLengthIn, operatorLengthIn, atomLengthIn};
-ghost use Rattle.section.specs.Sections.{recordLength, behind};
+ghost use Rattle.section.specs.Numbers.{header_length_in, operator_length_in, atom_length_in};
+ghost use Rattle.section.specs.Sections.{record_length, behind};
 
 use crate::{ATOM_WORDS, Edition, HEADER_WORDS, NODE_WORDS, OPERATOR_WORDS, Section};
 
@@ -15,7 +15,7 @@ pub fn behind(at: usize, section: Section, count: usize) -> usize
 
 // How many words a record of a section has.
 pub(crate) fn record_words(section: Section) -> usize
-    ensures { result ≡ recordLength section }
+    ensures { result ≡ record_length section }
 {
     match section {
         Section::Operators(edition) => operator_words(edition),
@@ -26,7 +26,7 @@ pub(crate) fn record_words(section: Section) -> usize
 
 // How many words stand before the first count.
 pub fn header_words(edition: Edition) -> usize
-    ensures { result ≡ headerLengthIn edition }
+    ensures { result ≡ header_length_in edition }
 {
     match edition {
         Edition::First => HEADER_WORDS,
@@ -34,7 +34,7 @@ pub fn header_words(edition: Edition) -> usize
 }
 
 pub fn operator_words(edition: Edition) -> usize
-    ensures { result ≡ operatorLengthIn edition }
+    ensures { result ≡ operator_length_in edition }
 {
     match edition {
         Edition::First => OPERATOR_WORDS,
@@ -42,7 +42,7 @@ pub fn operator_words(edition: Edition) -> usize
 }
 
 fn atom_words(edition: Edition) -> usize
-    ensures { result ≡ atomLengthIn edition }
+    ensures { result ≡ atom_length_in edition }
 {
     match edition {
         Edition::First => ATOM_WORDS,

@@ -1,8 +1,8 @@
 // One section of a policy file: its count, that all of it is there, and its records in order.
 ghost use Rattle.std.specs.Prelude.{◌≡◌, ◌+◌, ◌*◌, ◌≤◌, ◌<◌, ◌^◌, length, drop};
 ghost use Rattle.words.specs.Records.{records};
-ghost use Rattle.section.specs.Sections.{recordLength, least, most, unless, ◌else◌, each, headerFault};
-ghost use Rattle.section.specs.Sections.{countFault, cellsFault, nodeFault, recordFault, sectionFault};
+ghost use Rattle.section.specs.Sections.{record_length, least, most, unless, ◌else◌, each, header_fault};
+ghost use Rattle.section.specs.Sections.{count_fault, cells_fault, node_fault, record_fault, section_fault};
 
 use crate::operators::right_cell_in;
 use crate::places::{behind, record_words};
@@ -26,7 +26,7 @@ const MOST_CHILDREN: u32 = 255;
 // The first fault of the section whose count stands at a place.
 pub fn section_fault(file: &[u32], at: usize, section: Section) -> Test
     requires { at ≤ length file.now }
-    ensures { result ≡ sectionFault file.now at section }
+    ensures { result ≡ section_fault file.now at section }
 {
     let counted = count_fault(file, at, section);
     if let Test::Failed(_) = counted {
@@ -43,7 +43,7 @@ pub fn section_fault(file: &[u32], at: usize, section: Section) -> Test
 
 // Whether a count is there and within its limits.
 fn count_fault(file: &[u32], at: usize, section: Section) -> Test
-    ensures { result ≡ countFault file.now at section }
+    ensures { result ≡ count_fault file.now at section }
 {
     let count = word(file, at);
     let there = unless(at < file.len(), SHORT, file.len());
@@ -53,7 +53,7 @@ fn count_fault(file: &[u32], at: usize, section: Section) -> Test
 
 // The header of a file of an edition.
 pub fn header_fault(file: &[u32], edition: Edition) -> Test
-    ensures { result ≡ headerFault edition file.now }
+    ensures { result ≡ header_fault edition file.now }
 {
     match edition {
         Edition::First => Test::Passed,
@@ -62,9 +62,9 @@ pub fn header_fault(file: &[u32], edition: Edition) -> Test
 
 // The first fault of some records that stand one behind the other.
 fn records_fault(file: &[u32], at: usize, count: usize, section: Section) -> Test
-    requires { at + recordLength section * count ≤ length file.now }
-    ensures { result ≡ each (recordFault section) at (recordLength section)
-        (records count (recordLength section) (drop at file.now)) }
+    requires { at + record_length section * count ≤ length file.now }
+    ensures { result ≡ each (record_fault section) at (record_length section)
+        (records count (record_length section) (drop at file.now)) }
 {
     let step = record_words(section);
     let mut from = at;
@@ -84,8 +84,8 @@ fn records_fault(file: &[u32], at: usize, count: usize, section: Section) -> Tes
 
 // The fault of one record, whose first word stands at a place of the file.
 fn record_fault(words: &[u32], at: usize, section: Section) -> Test
-    requires { (at + length words.now < 2 ^ 64) × (recordLength section ≤ length words.now) }
-    ensures { result ≡ recordFault section at words.now }
+    requires { (at + length words.now < 2 ^ 64) × (record_length section ≤ length words.now) }
+    ensures { result ≡ record_fault section at words.now }
 {
     match section {
         Section::Operators(edition) => cells_fault(words, at, edition),
@@ -97,7 +97,7 @@ fn record_fault(words: &[u32], at: usize, section: Section) -> Test
 // The first wrong cell of an operator.
 fn cells_fault(operator: &[u32], at: usize, edition: Edition) -> Test
     requires { at + length operator.now < 2 ^ 64 }
-    ensures { result ≡ cellsFault edition at operator.now }
+    ensures { result ≡ cells_fault edition at operator.now }
 {
     let mut j = 0;
     // The first j cells are right.
@@ -113,7 +113,7 @@ fn cells_fault(operator: &[u32], at: usize, edition: Edition) -> Test
 
 // An operator index that is too large, or a count.
 fn node_fault(node: &[u32], at: usize, operators: usize) -> Test
-    ensures { result ≡ nodeFault operators at node.now }
+    ensures { result ≡ node_fault operators at node.now }
 {
     let inner = wide(word(node, INNER));
     let parent = wide(word(node, PARENT));

@@ -6,9 +6,9 @@ use mathlib.Core.List.{List}
 use lib.ListN.{length, take}
 use Rattle.words.specs.Words.{laid}
 use Rattle.words.proofs.Laid.{length-laid, take-laid}
-use Rattle.row.specs.Row.{rowsIn}
-use Rattle.table.specs.Table.{rowCount}
-use Rattle.priority.specs.Numbering.{prioritiesOf, number_of, Answered, Ready}
+use Rattle.row.specs.Row.{rows_in}
+use Rattle.table.specs.Table.{row_count}
+use Rattle.priority.specs.Numbering.{priorities_of, number_of, Answered, Ready}
 use Rattle.priority.specs.declared.Numbered.{Numbered}
 use Rattle.priority.specs.declared.Numbered.TheVariants as numbered
 use Rattle.priority.proofs.After.{number-ready, priorities-left}
@@ -16,7 +16,7 @@ use Rattle.priority.proofs.Whole.{priorities-many}
 use Rattle.line.specs.Text.{head, refusal}
 use Rattle.line.specs.Puts.{Puts}
 use Rattle.line.proofs.Putting.{◌then◌}
-use Rattle.sheet.specs.Sheet.{listingRoom, lines, tableText}
+use Rattle.sheet.specs.Sheet.{listing_room, lines, table_text}
 
 -- the rows of a table, where the numbering answers a count
 module _ (t ps cs : List ℕ) {ps' cs' : List ℕ} {r : Numbered} (c : Answered t ps cs r ps' cs') where
@@ -24,29 +24,29 @@ module _ (t ps cs : List ℕ) {ps' cs' : List ℕ} {r : Numbered} (c : Answered 
     ready : Ready t ps cs
     ready = number-ready t ps cs l (sym c.0 ∙ e)
 
-    stored : ps' ≡ laid 0 (prioritiesOf t) ps
+    stored : ps' ≡ laid 0 (priorities_of t) ps
     stored = c.1 ∙ priorities-left t ps cs ready
 
-    pub table-within : rowCount t ≤ length ps'
+    pub table-within : row_count t ≤ length ps'
     table-within =
-        let k : length ps' ≡ length ps = ap length stored ∙ length-laid 0 (prioritiesOf t) ps in
+        let k : length ps' ≡ length ps = ap length stored ∙ length-laid 0 (priorities_of t) ps in
         omega (arith, ready.priorities)
 
-    table-numbers : take (rowCount t) ps' ≡ prioritiesOf t
-    table-numbers = ap (take (rowCount t)) stored ∙ take-laid (prioritiesOf t) ps (rowCount t) (priorities-many t) ready.priorities
+    table-numbers : take (row_count t) ps' ≡ priorities_of t
+    table-numbers = ap (take (row_count t)) stored ∙ take-laid (priorities_of t) ps (row_count t) (priorities-many t) ready.priorities
 
-  module _ (np : length ps ≡ listingRoom) (nc : length cs ≡ listingRoom) where
-    answer-room : r ≡ number_of t listingRoom listingRoom
+  module _ (np : length ps ≡ listing_room) (nc : length cs ≡ listing_room) where
+    answer-room : r ≡ number_of t listing_room listing_room
     answer-room = c.0 ∙ ap₂ (number_of t) np nc
 
-    pub table-listed : {l : ℕ} {o o₁ o₂ : List ℕ} {a b : ℕ} → r ≡ numbered.Priorities l → Puts (head (rowCount t) l) o 0 o₁ a
-        → Puts (lines (take (rowCount t) ps') (rowsIn t)) o₁ a o₂ b
-        → Puts (tableText t) o 0 o₂ b
-    unfolding tableText
+    pub table-listed : {l : ℕ} {o o₁ o₂ : List ℕ} {a b : ℕ} → r ≡ numbered.Priorities l → Puts (head (row_count t) l) o 0 o₁ a
+        → Puts (lines (take (row_count t) ps') (rows_in t)) o₁ a o₂ b
+        → Puts (table_text t) o 0 o₂ b
+    unfolding table_text
     table-listed {l} {o} {o₁} {o₂} {a} {b} e p q =
-        let k : number_of t listingRoom listingRoom ≡ numbered.Priorities l = sym answer-room ∙ e in
-        rw k (p then subst (λ x. Puts (lines x (rowsIn t)) o₁ a o₂ b) (table-numbers e) q)
+        let k : number_of t listing_room listing_room ≡ numbered.Priorities l = sym answer-room ∙ e in
+        rw k (p then subst (λ x. Puts (lines x (rows_in t)) o₁ a o₂ b) (table-numbers e) q)
 
-    pub table-refused : {n i : ℕ} {o o₁ : List ℕ} {a : ℕ} → r ≡ numbered.Refused n i → Puts (refusal n i) o 0 o₁ a → Puts (tableText t) o 0 o₁ a
-    unfolding tableText
-    table-refused {n} {i} e p = let k : number_of t listingRoom listingRoom ≡ numbered.Refused n i = sym answer-room ∙ e in rw k p
+    pub table-refused : {n i : ℕ} {o o₁ : List ℕ} {a : ℕ} → r ≡ numbered.Refused n i → Puts (refusal n i) o 0 o₁ a → Puts (table_text t) o 0 o₁ a
+    unfolding table_text
+    table-refused {n} {i} e p = let k : number_of t listing_room listing_room ≡ numbered.Refused n i = sym answer-room ∙ e in rw k p

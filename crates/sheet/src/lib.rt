@@ -1,9 +1,9 @@
 // A table as text: how many rows and priorities it has, and a line for each row with its priority.
 ghost use Rattle.std.specs.Prelude.{◌≡◌, length};
-ghost use Rattle.row.specs.Row.{rowsIn};
-ghost use Rattle.table.specs.Table.{rowCount};
+ghost use Rattle.row.specs.Row.{rows_in};
+ghost use Rattle.table.specs.Table.{row_count};
 ghost use Rattle.line.specs.Puts.{Puts};
-ghost use Rattle.sheet.specs.Sheet.{lines, tableText};
+ghost use Rattle.sheet.specs.Sheet.{lines, table_text};
 
 use line::{put_head, put_line, put_refusal};
 use priority::{Numbered, number};
@@ -14,7 +14,7 @@ pub const ROOM: usize = 1024;
 
 // Puts the text of a table at the start of a buffer, and answers where it ends. It is cut where the buffer ends.
 pub fn list_table(table: &[u32], out: &mut [u8]) -> usize
-    ensures { Puts (tableText table.now) out.old 0 out.new result }
+    ensures { Puts (table_text table.now) out.old 0 out.new result }
 {
     let mut priorities = [0u32; ROOM];
     let mut chain = [0u32; ROOM];
@@ -30,8 +30,8 @@ pub fn list_table(table: &[u32], out: &mut [u8]) -> usize
 
 // A line for each row, with its priority.
 fn put_lines(out: &mut [u8], at: usize, priorities: &[u32], table: &[u32]) -> usize
-    requires { length priorities.now ≡ rowCount table.now }
-    ensures { Puts (lines priorities.now (rowsIn table.now)) out.old at
+    requires { length priorities.now ≡ row_count table.now }
+    ensures { Puts (lines priorities.now (rows_in table.now)) out.old at
         out.new result }
 {
     let mut to = at;

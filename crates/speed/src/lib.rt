@@ -1,12 +1,12 @@
 // The library's functions under C names, for the benchmark, which links them into a Rust program.
 ghost use Rattle.std.specs.Prelude.{◌≡◌, length};
 ghost use Rattle.policy.specs.Read.{read_of};
-ghost use Rattle.tree.specs.Action.{treeActionOf};
-ghost use Rattle.compile.specs.Compile.{answer_of, tableAfter, scratchAfter, compileCount};
-ghost use Rattle.table.specs.Scan.{scanOf, scanAction, scanTried};
-ghost use Rattle.priority.specs.Numbering.{number_of, answerCount, prioritiesAfter, chainAfter};
-ghost use Rattle.hidden.specs.Hidden.{keptOf, tableKept, keptCount};
-ghost use Rattle.speed.specs.Answers.{readNumber, treeNumber, treeAction, withAction};
+ghost use Rattle.tree.specs.Action.{tree_action_of};
+ghost use Rattle.compile.specs.Compile.{answer_of, table_after, scratch_after, compile_count};
+ghost use Rattle.table.specs.Scan.{scan_of, scan_action, scan_tried};
+ghost use Rattle.priority.specs.Numbering.{number_of, answer_count, priorities_after, chain_after};
+ghost use Rattle.hidden.specs.Hidden.{kept_of, table_kept, kept_count};
+ghost use Rattle.speed.specs.Answers.{read_number, tree_number, tree_action, with_action};
 
 use action::{Action, kind, rate};
 use compile::{Compiled, compile};
@@ -20,7 +20,7 @@ use words::copy;
 // The number of a policy file's refusal, 0 where it is accepted.
 #[unsafe(no_mangle)]
 pub extern "C" fn speed_read(file: &[u32]) -> u32
-    ensures { result ≡ readNumber (read_of file.now) }
+    ensures { result ≡ read_number (read_of file.now) }
 {
     read_number(read(file))
 }
@@ -28,9 +28,9 @@ pub extern "C" fn speed_read(file: &[u32]) -> u32
 // The action's two words; the answer is the number of the refusal, 0 where there is none.
 #[unsafe(no_mangle)]
 pub extern "C" fn speed_tree(file: &[u32], packet: &[u32], given: &mut [u32]) -> u32
-    ensures { (result ≡ treeNumber (treeActionOf file.now packet.now))
-        × (given.new ≡ withAction given.old
-        (treeAction (treeActionOf file.now packet.now))) }
+    ensures { (result ≡ tree_number (tree_action_of file.now packet.now))
+        × (given.new ≡ with_action given.old
+        (tree_action (tree_action_of file.now packet.now))) }
 {
     let answer = tree_action(file, packet);
     put_action(given, tree_given(answer));
@@ -40,9 +40,9 @@ pub extern "C" fn speed_tree(file: &[u32], packet: &[u32], given: &mut [u32]) ->
 // The compile; the answer is the row count, 0 where it is refused.
 #[unsafe(no_mangle)]
 pub extern "C" fn speed_compile(file: &[u32], table: &mut [u32], scratch: &mut [u32]) -> usize
-    ensures { (result ≡ compileCount (answer_of file.now table.old scratch.old))
-        × (table.new ≡ tableAfter file.now table.old scratch.old)
-        × (scratch.new ≡ scratchAfter file.now table.old scratch.old) }
+    ensures { (result ≡ compile_count (answer_of file.now table.old scratch.old))
+        × (table.new ≡ table_after file.now table.old scratch.old)
+        × (scratch.new ≡ scratch_after file.now table.old scratch.old) }
 {
     row_count(compile(file, table, scratch))
 }
@@ -50,9 +50,9 @@ pub extern "C" fn speed_compile(file: &[u32], table: &mut [u32], scratch: &mut [
 // The action's two words; the answer is how many rows were tried, 0 where the scan is refused.
 #[unsafe(no_mangle)]
 pub extern "C" fn speed_scan(table: &[u32], packet: &[u32], given: &mut [u32]) -> usize
-    ensures { (result ≡ scanTried (scanOf table.now packet.now))
-        × (given.new ≡ withAction given.old
-        (scanAction (scanOf table.now packet.now))) }
+    ensures { (result ≡ scan_tried (scan_of table.now packet.now))
+        × (given.new ≡ with_action given.old
+        (scan_action (scan_of table.now packet.now))) }
 {
     let answer = scan(table, packet);
     put_action(given, scan_given(answer));
@@ -62,10 +62,10 @@ pub extern "C" fn speed_scan(table: &[u32], packet: &[u32], given: &mut [u32]) -
 // The numbering; the answer is how many priorities there are, 0 where it is refused.
 #[unsafe(no_mangle)]
 pub extern "C" fn speed_number(table: &[u32], priorities: &mut [u32], chain: &mut [u32]) -> u32
-    ensures { (result ≡ answerCount
+    ensures { (result ≡ answer_count
         (number_of table.now (length priorities.old) (length chain.old)))
-        × (priorities.new ≡ prioritiesAfter table.now priorities.old chain.old)
-        × (chain.new ≡ chainAfter table.now priorities.old chain.old) }
+        × (priorities.new ≡ priorities_after table.now priorities.old chain.old)
+        × (chain.new ≡ chain_after table.now priorities.old chain.old) }
 {
     priority_count(number(table, priorities, chain))
 }
@@ -73,14 +73,14 @@ pub extern "C" fn speed_number(table: &[u32], priorities: &mut [u32], chain: &mu
 // The pass that takes hidden rows out; the answer is how many rows stay, 0 where it is refused.
 #[unsafe(no_mangle)]
 pub extern "C" fn speed_hidden(table: &mut [u32]) -> usize
-    ensures { (result ≡ keptCount (keptOf table.old))
-        × (table.new ≡ tableKept table.old) }
+    ensures { (result ≡ kept_count (kept_of table.old))
+        × (table.new ≡ table_kept table.old) }
 {
     kept_count(drop_hidden(table))
 }
 
 fn read_number(answer: Reading) -> u32
-    ensures { result ≡ readNumber answer }
+    ensures { result ≡ read_number answer }
 {
     match answer {
         Reading::Accepted(_) => 0,
@@ -89,7 +89,7 @@ fn read_number(answer: Reading) -> u32
 }
 
 fn tree_number(answer: Evaluated) -> u32
-    ensures { result ≡ treeNumber answer }
+    ensures { result ≡ tree_number answer }
 {
     match answer {
         Evaluated::Gives(_) => 0,
@@ -98,7 +98,7 @@ fn tree_number(answer: Evaluated) -> u32
 }
 
 fn tree_given(answer: Evaluated) -> Action
-    ensures { result ≡ treeAction answer }
+    ensures { result ≡ tree_action answer }
 {
     match answer {
         Evaluated::Gives(action) => action,
@@ -107,7 +107,7 @@ fn tree_given(answer: Evaluated) -> Action
 }
 
 fn row_count(answer: Compiled) -> usize
-    ensures { result ≡ compileCount answer }
+    ensures { result ≡ compile_count answer }
 {
     match answer {
         Compiled::Rows(rows) => rows,
@@ -116,7 +116,7 @@ fn row_count(answer: Compiled) -> usize
 }
 
 fn scan_tried(answer: Scanned) -> usize
-    ensures { result ≡ scanTried answer }
+    ensures { result ≡ scan_tried answer }
 {
     match answer {
         Scanned::Found { action: _, tried } => tried,
@@ -128,7 +128,7 @@ fn scan_tried(answer: Scanned) -> usize
 }
 
 fn scan_given(answer: Scanned) -> Action
-    ensures { result ≡ scanAction answer }
+    ensures { result ≡ scan_action answer }
 {
     match answer {
         Scanned::Found { action, tried: _ } => action,
@@ -140,7 +140,7 @@ fn scan_given(answer: Scanned) -> Action
 }
 
 fn priority_count(answer: Numbered) -> u32
-    ensures { result ≡ answerCount answer }
+    ensures { result ≡ answer_count answer }
 {
     match answer {
         Numbered::Priorities(count) => count,
@@ -152,7 +152,7 @@ fn priority_count(answer: Numbered) -> u32
 }
 
 fn kept_count(answer: Kept) -> usize
-    ensures { result ≡ keptCount answer }
+    ensures { result ≡ kept_count answer }
 {
     match answer {
         Kept::Rows(rows) => rows,
@@ -165,7 +165,7 @@ fn kept_count(answer: Kept) -> usize
 
 // Stores an action's kind and rate at the start of a buffer that has room for them.
 fn put_action(given: &mut [u32], a: Action)
-    ensures { given.new ≡ withAction given.old a }
+    ensures { given.new ≡ with_action given.old a }
 {
     let words = [kind(a), rate(a)];
     copy(given, 0, &words);

@@ -13,15 +13,15 @@ use Rattle.words.specs.Records.{records, rows_of, flat}
 use Rattle.words.proofs.Records.{length-records, rows-flat}
 use Rattle.theory.specs.Rows.{Row}
 use Rattle.theory.specs.Number.{FirstPlace}
-use Rattle.flow.specs.Match.{match_of, is_empty, rightMatch}
+use Rattle.flow.specs.Match.{match_of, is_empty, right_match}
 use Rattle.flow.specs.declared.Match.{Match}
-use Rattle.action.specs.Action.{kind_of, rateOf, actionOf, rightAction}
+use Rattle.action.specs.Action.{kind_of, rate_of, action_of, right_action}
 use Rattle.action.specs.declared.Action.{Action}
 use Rattle.action.proofs.Words.{words-of-action, right-words}
-use Rattle.row.specs.Row.{rowLength, mostRows, kindPlace, ratePlace, row_of, rowAction, rowWords, rightRow, rightRowMatch, rightRowAction, RightRow}
-use Rattle.row.specs.Row.{rowsIn, tableRows}
+use Rattle.row.specs.Row.{row_length, most_rows, kind_place, rate_place, row_of, row_action, row_words, right_row, right_row_match, right_row_action, RightRow}
+use Rattle.row.specs.Row.{rows_in, table_rows}
 use Rattle.row.proofs.Rows.{row_back, row-long, words_count, words_back}
-use Rattle.table.specs.Table.{wrongTable, wrongRow, rowCount, past, rightLength, checkFrom, checkRows, checkOf, row_at, RightTable}
+use Rattle.table.specs.Table.{wrong_table, wrong_row, row_count, past, right_length, check_from, check_rows, check_of, row_at, RightTable}
 use Rattle.table.specs.Theorems.{CheckExactly, CheckFirst, TableRows, TableWords, RowsRead, RowsWritten}
 use Rattle.table.specs.declared.Checked.TheVariants.{Rows, Wrong}
 use Rattle.logic.specs.Lists.{All}
@@ -36,119 +36,119 @@ records-at (suc n) k (suc i) ws h =
     records-at n k i (drop k ws) (omega arith) ∙ rw (e, drop-drop (i * k) k ws)
 
 -- a table has as many rows as its row count says
-pub length-rows : (ws : List ℕ) → length (rowsIn ws) ≡ rowCount ws
+pub length-rows : (ws : List ℕ) → length (rows_in ws) ≡ row_count ws
 unfolding rows_of
-length-rows ws = length-map (records (rowCount ws) rowLength ws) row_of ∙ length-records (rowCount ws) rowLength ws
+length-rows ws = length-map (records (row_count ws) row_length ws) row_of ∙ length-records (row_count ws) row_length ws
 
 -- row i of a table is that of the words of row i
-pub row-at : (ws : List ℕ) (i : ℕ) → i < rowCount ws → get_or (rowsIn ws) i past ≡ row_of (row_at ws i)
+pub row-at : (ws : List ℕ) (i : ℕ) → i < row_count ws → get_or (rows_in ws) i past ≡ row_of (row_at ws i)
 unfolding rows_of
-row-at ws i h = get_or-map row_of (records (rowCount ws) rowLength ws) i [] ∙ ap row_of (records-at (rowCount ws) rowLength i ws h)
+row-at ws i h = get_or-map row_of (records (row_count ws) row_length ws) i [] ∙ ap row_of (records-at (row_count ws) row_length i ws h)
 
 -- the match of row i, as its words are read, and past the last row
-pub match-at : (ws : List ℕ) (i : ℕ) → i < rowCount ws
-    → match_of (take (i * rowLength + rowLength - i * rowLength) (drop (i * rowLength) ws)) ≡ (get_or (rowsIn ws) i past).match
+pub match-at : (ws : List ℕ) (i : ℕ) → i < row_count ws
+    → match_of (take (i * row_length + row_length - i * row_length) (drop (i * row_length) ws)) ≡ (get_or (rows_in ws) i past).match
 match-at ws i h =
-    let e : i * rowLength + rowLength - i * rowLength ≡ rowLength = omega arith in
+    let e : i * row_length + row_length - i * row_length ≡ row_length = omega arith in
     rw (e, row-at ws i h)
 
-pub match-past : (ws : List ℕ) (i : ℕ) → rowCount ws ≤ i → past.match ≡ (get_or (rowsIn ws) i past).match
-match-past ws i h = ap (λ r. r.match) (sym (get_or-eq_default (rowsIn ws) past (omega (arith, length-rows ws))))
+pub match-past : (ws : List ℕ) (i : ℕ) → row_count ws ≤ i → past.match ≡ (get_or (rows_in ws) i past).match
+match-past ws i h = ap (λ r. r.match) (sym (get_or-eq_default (rows_in ws) past (omega (arith, length-rows ws))))
 
 -- a row whose words are right is right, and a right row has right words
-pub row-right : (ws : List ℕ) → rightRow ws ≡ true → RightRow (row_of ws)
-unfolding rightRow rightRowMatch rightRowAction rowAction
+pub row-right : (ws : List ℕ) → right_row ws ≡ true → RightRow (row_of ws)
+unfolding right_row right_row_match right_row_action row_action
 row-right ws h =
-    let k : ℕ = get_or ws kindPlace 0 in
-    let n : ℕ = get_or ws ratePlace 0 in
-    let m : Bool = rightMatch (match_of ws) in
+    let k : ℕ = get_or ws kind_place 0 in
+    let n : ℕ = get_or ws rate_place 0 in
+    let m : Bool = right_match (match_of ws) in
     let some : Bool = not (is_empty (match_of ws)) in
-    let both : (m && some) ≡ true = and_left (m && some) (rightAction k n) h in
-    let right : rightAction k n ≡ true = and_right (m && some) (rightAction k n) h in
-    let w : (kind_of (actionOf k n) ≡ k) × (rateOf (actionOf k n) ≡ n) = words-of-action k n right in
+    let both : (m && some) ≡ true = and_left (m && some) (right_action k n) h in
+    let right : right_action k n ≡ true = and_right (m && some) (right_action k n) h in
+    let w : (kind_of (action_of k n) ≡ k) × (rate_of (action_of k n) ≡ n) = words-of-action k n right in
     record {
       match = and_left m some both;
-      notEmpty = not-true (is_empty (match_of ws)) (and_right m some both);
-      action = sym (right-words (actionOf k n)) ∙ ap₂ rightAction w.0 w.1 ∙ right;
+      not_empty = not-true (is_empty (match_of ws)) (and_right m some both);
+      action = sym (right-words (action_of k n)) ∙ ap₂ right_action w.0 w.1 ∙ right;
     }
 
-pub words_right : (r : Row Match Action) → RightRow r → rightRow (rowWords r) ≡ true
-unfolding rightRow rightRowMatch rightRowAction
-words_right r h = and_both (and_both h.match (ap not h.notEmpty)) (right-words r.action ∙ h.action)
+pub words_right : (r : Row Match Action) → RightRow r → right_row (row_words r) ≡ true
+unfolding right_row right_row_match right_row_action
+words_right r h = and_both (and_both h.match (ap not h.not_empty)) (right-words r.action ∙ h.action)
 
-right-action : (ws : List ℕ) → rightRow ws ≡ true → rightRowAction ws ≡ true
-unfolding rightRow
-right-action ws h = and_right (rightRowMatch ws && not (is_empty (match_of ws))) (rightRowAction ws) h
+right-action : (ws : List ℕ) → right_row ws ≡ true → right_row_action ws ≡ true
+unfolding right_row
+right-action ws h = and_right (right_row_match ws && not (is_empty (match_of ws))) (right_row_action ws) h
 
 -- where all rows are right, the check counts them; where row j is the first that is not, it names it
-check-counts : (i : ℕ) (rs : List (List ℕ)) → ((j : ℕ) → j < length rs → rightRow (get_or rs j []) ≡ true) → checkFrom i rs ≡ Rows (i + length rs)
+check-counts : (i : ℕ) (rs : List (List ℕ)) → ((j : ℕ) → j < length rs → right_row (get_or rs j []) ≡ true) → check_from i rs ≡ Rows (i + length rs)
 check-counts i [] f = let e : i ≡ i + 0 = omega arith in ap Rows e
 check-counts i (r ∷ rs) f =
     let e : suc i + length rs ≡ i + suc (length rs) = omega arith in
     rw (f 0 (omega arith)) (check-counts (suc i) rs (λ j h. f (suc j) (omega arith)) ∙ ap Rows e)
 
-check-names : (i j : ℕ) (rs : List (List ℕ)) → FirstPlace (λ k. not (rightRow (get_or rs k []))) (length rs) j → checkFrom i rs ≡ Wrong wrongRow (i + j)
+check-names : (i j : ℕ) (rs : List (List ℕ)) → FirstPlace (λ k. not (right_row (get_or rs k []))) (length rs) j → check_from i rs ≡ Wrong wrong_row (i + j)
 check-names i j [] f = absurd (omega (arith, f.within))
-check-names i zero (r ∷ rs) f = let e : i ≡ i + 0 = omega arith in rw (not-true (rightRow r) f.passes) (ap (Wrong wrongRow) e)
+check-names i zero (r ∷ rs) f = let e : i ≡ i + 0 = omega arith in rw (not-true (right_row r) f.passes) (ap (Wrong wrong_row) e)
 check-names i (suc j) (r ∷ rs) f =
     let e : suc i + j ≡ i + suc j = omega arith in
-    rw (not-false (rightRow r) (f.skips 0 (omega arith)))
+    rw (not-false (right_row r) (f.skips 0 (omega arith)))
     (check-names (suc i) j rs (record { within = omega (arith, f.within); passes = f.passes; skips = λ k h. f.skips (suc k) (omega arith) })
-    ∙ ap (Wrong wrongRow) e)
+    ∙ ap (Wrong wrong_row) e)
 
 -- and a check that passes went over right rows
-check-passed : (i n : ℕ) (rs : List (List ℕ)) → checkFrom i rs ≡ Rows n → (j : ℕ) → j < length rs → rightRow (get_or rs j []) ≡ true
+check-passed : (i n : ℕ) (rs : List (List ℕ)) → check_from i rs ≡ Rows n → (j : ℕ) → j < length rs → right_row (get_or rs j []) ≡ true
 check-passed i n [] e j h = absurd (omega arith)
 check-passed i n (r ∷ rs) e zero h =
-    by-test (rightRow r) (λ t. t) (λ t. let e' : Wrong wrongRow i ≡ Rows n = rw t at e in cc)
+    by-test (right_row r) (λ t. t) (λ t. let e' : Wrong wrong_row i ≡ Rows n = rw t at e in cc)
 check-passed i n (r ∷ rs) e (suc j) h =
-    by-test (rightRow r)
-    (λ t. let e' : checkFrom (suc i) rs ≡ Rows n = rw t at e in check-passed (suc i) n rs e' j (omega arith))
-    (λ t. let e' : Wrong wrongRow i ≡ Rows n = rw t at e in cc)
+    by-test (right_row r)
+    (λ t. let e' : check_from (suc i) rs ≡ Rows n = rw t at e in check-passed (suc i) n rs e' j (omega arith))
+    (λ t. let e' : Wrong wrong_row i ≡ Rows n = rw t at e in cc)
 
 -- the rows of a table, as the check goes over them
 module _ (ws : List ℕ) where
   abbrev each : List (List ℕ)
-  each = records (rowCount ws) rowLength ws
+  each = records (row_count ws) row_length ws
 
   each_at : (i : ℕ) → i < length each → get_or each i [] ≡ row_at ws i
-  each_at i h = records-at (rowCount ws) rowLength i ws (omega (arith, length-records (rowCount ws) rowLength ws))
+  each_at i h = records-at (row_count ws) row_length i ws (omega (arith, length-records (row_count ws) row_length ws))
 
-  table-passes : RightTable ws → checkOf ws ≡ Rows (rowCount ws)
-  unfolding checkOf checkRows rightLength
+  table-passes : RightTable ws → check_of ws ≡ Rows (row_count ws)
+  unfolding check_of check_rows right_length
   table-passes t =
-      let n : length each ≡ rowCount ws = length-records (rowCount ws) rowLength ws in
-      let e : 0 + length each ≡ rowCount ws = omega arith in
-      rw (eq-eqb (length ws % rowLength) 0 t.whole, le-leb (rowCount ws) mostRows t.few)
+      let n : length each ≡ row_count ws = length-records (row_count ws) row_length ws in
+      let e : 0 + length each ≡ row_count ws = omega arith in
+      rw (eq-eqb (length ws % row_length) 0 t.whole, le-leb (row_count ws) most_rows t.few)
       (check-counts 0 each (λ j h. rw (each_at j h) (t.rows j (omega arith))) ∙ ap Rows e)
 
-  passes-right : (n : ℕ) → checkOf ws ≡ Rows n → RightTable ws
-  unfolding checkOf checkRows rightLength
+  passes-right : (n : ℕ) → check_of ws ≡ Rows n → RightTable ws
+  unfolding check_of check_rows right_length
   passes-right n e =
-      let whole : Bool = eqb (length ws % rowLength) 0 in
-      let few : Bool = leb (rowCount ws) mostRows in
+      let whole : Bool = eqb (length ws % row_length) 0 in
+      let few : Bool = leb (row_count ws) most_rows in
       by-test (whole && few)
       (λ t.
-      let e' : checkFrom 0 each ≡ Rows n = rw t at e in
+      let e' : check_from 0 each ≡ Rows n = rw t at e in
       record {
-        whole = eqb-true (length ws % rowLength) 0 (and_left whole few t);
-        few = leb-true (rowCount ws) mostRows (and_right whole few t);
-        rows = λ i h. let l : i < length each = omega (arith, length-records (rowCount ws) rowLength ws) in rw (← each_at i l) (check-passed 0 n each e' i l);
+        whole = eqb-true (length ws % row_length) 0 (and_left whole few t);
+        few = leb-true (row_count ws) most_rows (and_right whole few t);
+        rows = λ i h. let l : i < length each = omega (arith, length-records (row_count ws) row_length ws) in rw (← each_at i l) (check-passed 0 n each e' i l);
       })
-      (λ t. let e' : Wrong wrongTable 0 ≡ Rows n = rw t at e in let z : ◌≡◌ {A = ℕ} 0 1 = cc in absurd (omega arith))
+      (λ t. let e' : Wrong wrong_table 0 ≡ Rows n = rw t at e in let z : ◌≡◌ {A = ℕ} 0 1 = cc in absurd (omega arith))
 
 pub check-exactly : CheckExactly
 check-exactly ws n = (
-  λ e. let t : RightTable ws = passes-right ws n e in let e' : Rows (rowCount ws) ≡ Rows n = sym (table-passes ws t) ∙ e in (t, cc),
+  λ e. let t : RightTable ws = passes-right ws n e in let e' : Rows (row_count ws) ≡ Rows n = sym (table-passes ws t) ∙ e in (t, cc),
   λ t. table-passes ws t.0 ∙ ap Rows (sym t.1),
 )
 
 pub check-first : CheckFirst
-unfolding checkOf checkRows
+unfolding check_of check_rows
 check-first ws i t f =
-    let n : length (each ws) ≡ rowCount ws = length-records (rowCount ws) rowLength ws in
+    let n : length (each ws) ≡ row_count ws = length-records (row_count ws) row_length ws in
     let e : 0 + i ≡ i = omega arith in
-    let same : (j : ℕ) → j < rowCount ws → get_or (each ws) j [] ≡ row_at ws j = λ j h. each_at ws j (omega arith) in
+    let same : (j : ℕ) → j < row_count ws → get_or (each ws) j [] ≡ row_at ws j = λ j h. each_at ws j (omega arith) in
     rw t
     (check-names 0 i (each ws)
     (record {
@@ -156,40 +156,40 @@ check-first ws i t f =
       passes = rw (same i f.within) f.passes;
       skips = λ j h. rw (same j (omega (arith, f.within))) (f.skips j h);
     })
-    ∙ ap (Wrong wrongRow) e)
+    ∙ ap (Wrong wrong_row) e)
 
-right-each : (ws : List ℕ) → RightTable ws → (j : ℕ) → j < length (each ws) → rightRow (get_or (each ws) j []) ≡ true
-right-each ws t j h = rw (each_at ws j h) (t.rows j (omega (arith, length-records (rowCount ws) rowLength ws)))
+right-each : (ws : List ℕ) → RightTable ws → (j : ℕ) → j < length (each ws) → right_row (get_or (each ws) j []) ≡ true
+right-each ws t j h = rw (each_at ws j h) (t.rows j (omega (arith, length-records (row_count ws) row_length ws)))
 
 pub table-rows : TableRows
 unfolding rows_of
 table-rows ws t = all_map RightRow row_of [] (each ws) (λ j h. row-right (get_or (each ws) j []) (right-each ws t j h))
 
 -- so is the row at each place
-pub right-row-at : (ws : List ℕ) → RightTable ws → (i : ℕ) → i < rowCount ws → RightRow (get_or (rowsIn ws) i past)
-right-row-at ws t i h = all-at RightRow past (rowsIn ws) i (table-rows ws t) (omega (arith, length-rows ws))
+pub right-row-at : (ws : List ℕ) → RightTable ws → (i : ℕ) → i < row_count ws → RightRow (get_or (rows_in ws) i past)
+right-row-at ws t i h = all-at RightRow past (rows_in ws) i (table-rows ws t) (omega (arith, length-rows ws))
 
 -- a row has words
-row-some : 0 < rowLength
+row-some : 0 < row_length
 row-some = omega arith
 
 pub rows-read : RowsRead
-rows-read = rows-flat rowLength row_of row-some rowWords row-long row_back
+rows-read = rows-flat row_length row_of row-some row_words row-long row_back
 
 -- row i of the words of rows
-pub flat-at : (N : List (Row Match Action)) (i : ℕ) → i < length N → row_at (flat rowWords N) i ≡ rowWords (get_or N i past)
+pub flat-at : (N : List (Row Match Action)) (i : ℕ) → i < length N → row_at (flat row_words N) i ≡ row_words (get_or N i past)
 flat-at [] i h = absurd (omega arith)
-flat-at (r ∷ N) zero h = take_at (rowWords r) (flat rowWords N) rowLength (row-long r)
+flat-at (r ∷ N) zero h = take_at (row_words r) (flat row_words N) row_length (row-long r)
 flat-at (r ∷ N) (suc i) h =
-    let e : suc i * rowLength ≡ rowLength + i * rowLength = omega arith in
-    ap (λ k. take rowLength (drop k (rowWords r ++ flat rowWords N))) e
-    ∙ ap (take rowLength) (sym (drop-drop (i * rowLength) rowLength (rowWords r ++ flat rowWords N)))
-    ∙ ap (λ l. take rowLength (drop (i * rowLength) l)) (drop_at (rowWords r) (flat rowWords N) rowLength (row-long r))
+    let e : suc i * row_length ≡ row_length + i * row_length = omega arith in
+    ap (λ k. take row_length (drop k (row_words r ++ flat row_words N))) e
+    ∙ ap (take row_length) (sym (drop-drop (i * row_length) row_length (row_words r ++ flat row_words N)))
+    ∙ ap (λ l. take row_length (drop (i * row_length) l)) (drop_at (row_words r) (flat row_words N) row_length (row-long r))
     ∙ flat-at N i (omega arith)
 
 pub table-words : TableWords
 table-words N f h =
-    let e : length (flat rowWords N) ≡ length N * rowLength = words_count N in
+    let e : length (flat row_words N) ≡ length N * row_length = words_count N in
     record {
       whole = rw e (omega arith);
       few = rw e (omega arith);
@@ -197,27 +197,27 @@ table-words N f h =
     }
 
 -- right rows that are read are written again
-words-again : (n : ℕ) (ws : List ℕ) → length ws ≡ n * rowLength → ((j : ℕ) → j < n → rightRow (get_or (records n rowLength ws) j []) ≡ true)
-    → flat rowWords (map row_of (records n rowLength ws)) ≡ ws
+words-again : (n : ℕ) (ws : List ℕ) → length ws ≡ n * row_length → ((j : ℕ) → j < n → right_row (get_or (records n row_length ws) j []) ≡ true)
+    → flat row_words (map row_of (records n row_length ws)) ≡ ws
 words-again zero [] e f = refl
 words-again zero (w ∷ ws) e f = absurd (omega arith)
 words-again (suc n) ws e f =
-    let l : length (take rowLength ws) ≡ rowLength = length-take-le rowLength ws (omega arith) in
+    let l : length (take row_length ws) ≡ row_length = length-take-le row_length ws (omega arith) in
     ap₂ (λ x y. x ++ y)
-    (words_back (take rowLength ws) l (right-action (take rowLength ws) (f 0 (omega arith))))
-    (words-again n (drop rowLength ws) (length-drop rowLength ws ∙ omega arith) (λ j h. f (suc j) (omega arith)))
-    ∙ take-append-drop rowLength ws
+    (words_back (take row_length ws) l (right-action (take row_length ws) (f 0 (omega arith))))
+    (words-again n (drop row_length ws) (length-drop row_length ws ∙ omega arith) (λ j h. f (suc j) (omega arith)))
+    ∙ take-append-drop row_length ws
 
 pub rows_written : RowsWritten
 unfolding rows_of
 rows_written ws t =
-    let n : length (each ws) ≡ rowCount ws = length-records (rowCount ws) rowLength ws in
-    words-again (rowCount ws) ws (omega (arith, t.whole)) (λ j h. right-each ws t j (omega arith))
+    let n : length (each ws) ≡ row_count ws = length-records (row_count ws) row_length ws in
+    words-again (row_count ws) ws (omega (arith, t.whole)) (λ j h. right-each ws t j (omega arith))
 
 -- rows at the front of a table that are a right table fit into it
-pub rows-within : (n : ℕ) (t : List ℕ) → checkOf (tableRows n t) ≡ Rows n → n * rowLength ≤ length t
+pub rows-within : (n : ℕ) (t : List ℕ) → check_of (table_rows n t) ≡ Rows n → n * row_length ≤ length t
 rows-within n t e =
-    let q : n ≡ rowCount (tableRows n t) = ((check-exactly (tableRows n t) n).0 e).1 in
-    by_le (n * rowLength) (length t) (λ h. h) (λ h.
-    let z : n ≡ rowCount t = q ∙ ap rowCount (take_all (n * rowLength) t (omega arith)) in
+    let q : n ≡ row_count (table_rows n t) = ((check-exactly (table_rows n t) n).0 e).1 in
+    by_le (n * row_length) (length t) (λ h. h) (λ h.
+    let z : n ≡ row_count t = q ∙ ap row_count (take_all (n * row_length) t (omega arith)) in
     absurd (omega arith))

@@ -1,14 +1,14 @@
 -- Tables: rows that stand one behind the other in a list of words, and which tables are right. See docs/FORMAT.md,
 -- "Rows" and "Numbers a caller can get back".
 --
---   wrongTable        the number of a table of a wrong length
---   wrongRow          the number of a wrong row
---   rowCount ws       how many rows the words hold
+--   wrong_table        the number of a table of a wrong length
+--   wrong_row          the number of a wrong row
+--   row_count ws       how many rows the words hold
 --   past              stands for a row past the last
---   rightLength ws    the words are whole rows, and not too many
---   checkFrom i rs    of the rows from row i on, the first wrong one, or how many rows there are
---   checkRows ws      the same of all rows
---   checkOf ws        the check's answer
+--   right_length ws    the words are whole rows, and not too many
+--   check_from i rs    of the rows from row i on, the first wrong one, or how many rows there are
+--   check_rows ws      the same of all rows
+--   check_of ws        the check's answer
 --   row_at ws i        the words of row i
 --   RightTable ws     what makes a table right
 use Rattle.std.specs.Prelude.{ℕ, suc, ◌*◌, ◌/◌, ◌%◌, ◌≤◌, ◌<◌, ◌≡◌, Bool, true, cond, ◌&&◌, List, [], ◌∷◌, eqb, leb, length, take, drop}
@@ -16,49 +16,49 @@ use Rattle.words.specs.Records.{records}
 use Rattle.theory.specs.Rows.{Row}
 use Rattle.flow.specs.declared.Match.{Match}
 use Rattle.action.specs.declared.Action.{Action}
-use Rattle.row.specs.Row.{rowLength, mostRows, row_of, rightRow}
+use Rattle.row.specs.Row.{row_length, most_rows, row_of, right_row}
 use Rattle.table.specs.declared.Checked.{Checked}
 use Rattle.table.specs.declared.Checked.TheVariants.{Rows, Wrong}
 
 -- the number of a table that is not a multiple of 11 words, or has too many rows
-abbrev pub wrongTable : ℕ
-wrongTable = 15
+abbrev pub wrong_table : ℕ
+wrong_table = 15
 
 -- the number of a wrong row
-abbrev pub wrongRow : ℕ
-wrongRow = 16
+abbrev pub wrong_row : ℕ
+wrong_row = 16
 
 -- how many rows the words hold
-abbrev pub rowCount : List ℕ → ℕ
-rowCount ws = length ws / rowLength
+abbrev pub row_count : List ℕ → ℕ
+row_count ws = length ws / row_length
 
 -- what stands for a row past the last, where a place is asked for that has none
 abbrev pub past : Row Match Action
 past = row_of []
 
 -- the words are whole rows, and not too many
-unfoldable pub rightLength : List ℕ → Bool
-rightLength ws = eqb (length ws % rowLength) 0 && leb (rowCount ws) mostRows
+unfoldable pub right_length : List ℕ → Bool
+right_length ws = eqb (length ws % row_length) 0 && leb (row_count ws) most_rows
 
 -- the first wrong row of those from row i on, each given by its words; how many rows there are if none is wrong
-abbrev pub checkFrom : ℕ → List (List ℕ) → Checked
-checkFrom i [] = Rows i
-checkFrom i (r ∷ rs) = cond (rightRow r) (checkFrom (suc i) rs) (Wrong wrongRow i)
+abbrev pub check_from : ℕ → List (List ℕ) → Checked
+check_from i [] = Rows i
+check_from i (r ∷ rs) = cond (right_row r) (check_from (suc i) rs) (Wrong wrong_row i)
 
 -- the same of all rows
-unfoldable pub checkRows : List ℕ → Checked
-checkRows ws = checkFrom 0 (records (rowCount ws) rowLength ws)
+unfoldable pub check_rows : List ℕ → Checked
+check_rows ws = check_from 0 (records (row_count ws) row_length ws)
 
 -- the check: first the length, then each row
-unfoldable pub checkOf : List ℕ → Checked
-checkOf ws = cond (rightLength ws) (checkRows ws) (Wrong wrongTable 0)
+unfoldable pub check_of : List ℕ → Checked
+check_of ws = cond (right_length ws) (check_rows ws) (Wrong wrong_table 0)
 
 -- the words of row i
 abbrev pub row_at : List ℕ → ℕ → List ℕ
-row_at ws i = take rowLength (drop (i * rowLength) ws)
+row_at ws i = take row_length (drop (i * row_length) ws)
 
 -- a right table: a multiple of 11 words, not too many rows, and each row right
 pub record RightTable (ws : List ℕ) : Type 0 where
-  pub whole : length ws % rowLength ≡ 0
-  pub few : rowCount ws ≤ mostRows
-  pub rows : (i : ℕ) → i < rowCount ws → rightRow (row_at ws i) ≡ true
+  pub whole : length ws % row_length ≡ 0
+  pub few : row_count ws ≤ most_rows
+  pub rows : (i : ℕ) → i < row_count ws → right_row (row_at ws i) ≡ true

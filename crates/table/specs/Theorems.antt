@@ -10,61 +10,61 @@
 --   ScanRefused                the order of the refusals: the packet, then the table
 use Rattle.std.specs.Prelude.{ℕ, suc, ◌≤◌, ◌<◌, ◌≡◌, true, false, not, List, ◌↔◌, length, get_or}
 use Rattle.words.specs.Records.{flat}
-use Rattle.theory.specs.Rows.{Row, matchesAt}
+use Rattle.theory.specs.Rows.{Row, matches_at}
 use Rattle.theory.specs.Number.{FirstPlace}
-use Rattle.flow.specs.Packet.{packetOf, rightPacketWords, wrongPacket}
+use Rattle.flow.specs.Packet.{packet_of, right_packet_words, wrong_packet}
 use Rattle.flow.specs.Match.{meets}
 use Rattle.flow.specs.declared.Match.{Match}
 use Rattle.action.specs.declared.Action.{Action}
 use Rattle.action.specs.declared.Action.TheVariants.{DontCare}
-use Rattle.row.specs.Row.{mostRows, rowWords, rightRow, RightRow, rowsIn}
-use Rattle.table.specs.Table.{wrongRow, rowCount, past, rightLength, checkOf, row_at, RightTable}
-use Rattle.table.specs.Scan.{scanOf}
+use Rattle.row.specs.Row.{most_rows, row_words, right_row, RightRow, rows_in}
+use Rattle.table.specs.Table.{wrong_row, row_count, past, right_length, check_of, row_at, RightTable}
+use Rattle.table.specs.Scan.{scan_of}
 use Rattle.table.specs.declared.Checked.TheVariants.{Rows, Wrong}
 use Rattle.table.specs.declared.Scanned.TheVariants.{Found, Refused}
 use Rattle.logic.specs.Lists.{All}
 
 -- the check passes exactly the right tables, and answers how many rows they have
 abbrev pub CheckExactly : Type 0
-CheckExactly = (ws : List ℕ) (n : ℕ) → (checkOf ws ≡ Rows n) ↔ (RightTable ws × (n ≡ rowCount ws))
+CheckExactly = (ws : List ℕ) (n : ℕ) → (check_of ws ≡ Rows n) ↔ (RightTable ws × (n ≡ row_count ws))
 
 -- in a table of right length the first wrong row is named
 abbrev pub CheckFirst : Type 0
 CheckFirst =
-    (ws : List ℕ) (i : ℕ) → rightLength ws ≡ true → FirstPlace (λ j. not (rightRow (row_at ws j))) (rowCount ws) i
-    → checkOf ws ≡ Wrong wrongRow i
+    (ws : List ℕ) (i : ℕ) → right_length ws ≡ true → FirstPlace (λ j. not (right_row (row_at ws j))) (row_count ws) i
+    → check_of ws ≡ Wrong wrong_row i
 
 -- each row of a right table is right
 abbrev pub TableRows : Type 0
-TableRows = (ws : List ℕ) → RightTable ws → All RightRow (rowsIn ws)
+TableRows = (ws : List ℕ) → RightTable ws → All RightRow (rows_in ws)
 
 -- the words of right rows, not too many, are a right table
 abbrev pub TableWords : Type 0
-TableWords = (N : List (Row Match Action)) → All RightRow N → length N ≤ mostRows → RightTable (flat rowWords N)
+TableWords = (N : List (Row Match Action)) → All RightRow N → length N ≤ most_rows → RightTable (flat row_words N)
 
 -- rows that are written are read again
 abbrev pub RowsRead : Type 0
-RowsRead = (N : List (Row Match Action)) → rowsIn (flat rowWords N) ≡ N
+RowsRead = (N : List (Row Match Action)) → rows_in (flat row_words N) ≡ N
 
 -- a right table that is read is written again
 abbrev pub RowsWritten : Type 0
-RowsWritten = (ws : List ℕ) → RightTable ws → flat rowWords (rowsIn ws) ≡ ws
+RowsWritten = (ws : List ℕ) → RightTable ws → flat row_words (rows_in ws) ≡ ws
 
 -- where row i is the first that matches: its action, and i + 1 rows tried
 abbrev pub ScanFirst : Type 0
-ScanFirst = (ws packet : List ℕ) (i : ℕ) → RightTable ws → rightPacketWords packet ≡ true
-    → FirstPlace (matchesAt meets past (rowsIn ws) (packetOf packet)) (rowCount ws) i
-    → scanOf ws packet ≡ Found (get_or (rowsIn ws) i past).action (suc i)
+ScanFirst = (ws packet : List ℕ) (i : ℕ) → RightTable ws → right_packet_words packet ≡ true
+    → FirstPlace (matches_at meets past (rows_in ws) (packet_of packet)) (row_count ws) i
+    → scan_of ws packet ≡ Found (get_or (rows_in ws) i past).action (suc i)
 
 -- where no row matches: don't care, and all rows tried
 abbrev pub ScanUnmatched : Type 0
-ScanUnmatched = (ws packet : List ℕ) → RightTable ws → rightPacketWords packet ≡ true
-    → ((i : ℕ) → i < rowCount ws → matchesAt meets past (rowsIn ws) (packetOf packet) i ≡ false)
-    → scanOf ws packet ≡ Found DontCare (rowCount ws)
+ScanUnmatched = (ws packet : List ℕ) → RightTable ws → right_packet_words packet ≡ true
+    → ((i : ℕ) → i < row_count ws → matches_at meets past (rows_in ws) (packet_of packet) i ≡ false)
+    → scan_of ws packet ≡ Found DontCare (row_count ws)
 
 -- words that are no packet are refused whatever the table is; else a table that is not right is refused as the check
 -- has it
 abbrev pub ScanRefused : Type 0
 ScanRefused = (ws packet : List ℕ)
-    → (rightPacketWords packet ≡ false → scanOf ws packet ≡ Refused wrongPacket 0)
-    × (rightPacketWords packet ≡ true → (n i : ℕ) → checkOf ws ≡ Wrong n i → scanOf ws packet ≡ Refused n i)
+    → (right_packet_words packet ≡ false → scan_of ws packet ≡ Refused wrong_packet 0)
+    × (right_packet_words packet ≡ true → (n i : ℕ) → check_of ws ≡ Wrong n i → scan_of ws packet ≡ Refused n i)

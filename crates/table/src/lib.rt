@@ -1,8 +1,8 @@
 // Tables: rows that stand one behind the other, which tables are right, and the scan.
 ghost use Rattle.std.specs.Prelude.{◌≡◌, get_or};
-ghost use Rattle.table.specs.Table.{past, rightLength, checkRows, checkOf};
-ghost use Rattle.table.specs.Scan.{found, scanOf};
-ghost use Rattle.row.specs.Row.{rowsIn};
+ghost use Rattle.table.specs.Table.{past, right_length, check_rows, check_of};
+ghost use Rattle.table.specs.Scan.{found, scan_of};
+ghost use Rattle.row.specs.Row.{rows_in};
 
 use action::Action;
 use flow::{Match, Packet, WRONG_PACKET, meets, read_match, read_packet, right_packet_words};
@@ -29,7 +29,7 @@ pub enum Scanned {
 
 // Scans a table for a packet, both as words.
 pub fn scan(table: &[u32], packet: &[u32]) -> Scanned
-    ensures { result ≡ scanOf table.now packet.now }
+    ensures { result ≡ scan_of table.now packet.now }
 {
     if !right_packet_words(packet) {
         return Scanned::Refused {
@@ -45,7 +45,7 @@ pub fn scan(table: &[u32], packet: &[u32]) -> Scanned
 
 // Tests a table: its length, then each row.
 pub fn check(table: &[u32]) -> Checked
-    ensures { result ≡ checkOf table.now }
+    ensures { result ≡ check_of table.now }
 {
     if !right_length(table) {
         return Checked::Wrong {
@@ -58,7 +58,7 @@ pub fn check(table: &[u32]) -> Checked
 
 // The first matching row's action and its place plus 1; don't care and the row count if none matches.
 pub fn first_match(table: &[u32], p: Packet) -> Scanned
-    ensures { result ≡ found 0 (rowsIn table.now) p }
+    ensures { result ≡ found 0 (rows_in table.now) p }
 {
     let rows = table.len() / ROW_WORDS;
     let mut at = 0;
@@ -84,7 +84,7 @@ pub fn first_match(table: &[u32], p: Packet) -> Scanned
 
 // The match of row i; past the last row, that of no words.
 pub fn match_at(table: &[u32], i: usize) -> Match
-    ensures { result ≡ (get_or (rowsIn table.now) i past).match }
+    ensures { result ≡ (get_or (rows_in table.now) i past).match }
 {
     if i < table.len() / ROW_WORDS {
         let from = i * ROW_WORDS;
@@ -96,14 +96,14 @@ pub fn match_at(table: &[u32], i: usize) -> Match
 
 // Whether the words of a table are rows, and not too many.
 fn right_length(table: &[u32]) -> bool
-    ensures { result ≡ rightLength table.now }
+    ensures { result ≡ right_length table.now }
 {
     (table.len() % ROW_WORDS == 0) & (table.len() / ROW_WORDS <= MOST_ROWS)
 }
 
 // The first wrong row, or how many rows there are.
 fn check_rows(table: &[u32]) -> Checked
-    ensures { result ≡ checkRows table.now }
+    ensures { result ≡ check_rows table.now }
 {
     let rows = table.len() / ROW_WORDS;
     let mut from = 0;

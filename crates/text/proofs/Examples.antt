@@ -1,30 +1,30 @@
 -- The examples, by computation.
 use mathlib.Core.Path.{refl}
-use Rattle.field.specs.Prefix.{inPrefix, rightPrefix, zeroBeyond, prefixesMeet, covers}
-use Rattle.field.specs.Value.{meetsValue, valuesMeet, valueInside, rightValue}
+use Rattle.field.specs.Prefix.{in_prefix, right_prefix, zero_beyond, prefixes_meet, covers}
+use Rattle.field.specs.Value.{meets_value, values_meet, value_inside, right_value}
 use Rattle.words.specs.Words.{laid}
 use Rattle.words.specs.Records.{rows_of}
-use Rattle.flow.specs.Match.{clash, unmet, is_empty, is_none, is_plain, rightMatch, overlap, common, both, inside}
-use Rattle.action.specs.Action.{actionOf, rightAction, in_range}
-use Rattle.action.specs.Operator.{coded, join, rightCell}
-use Rattle.action.specs.Laws.{commutes, associates, shown, pairs, triples, firstPair, firstTriple, lawSearch}
-use Rattle.row.specs.Row.{rowAction, rightRowMatch, rightRowAction, rightRow}
-use Rattle.section.specs.Sections.{countFault, cellsFault, atomFault, nodeFault, sectionFault}
-use Rattle.whole.specs.Whole.{shapeFault, sumFault, operatorFault, lawsFault}
-use Rattle.policy.specs.Read.{wholeStages, stages, answer, readAs}
-use Rattle.table.specs.Table.{rightLength, checkRows, checkOf}
-use Rattle.hidden.specs.Hidden.{keptWords, keptOf, tableKept}
-use Rattle.priority.specs.Numbering.{over, levelsOf, number_of}
-use Rattle.compile.specs.Compile.{compiledRows, answer_of, tableAfter}
-use Rattle.line.specs.Text.{digits, decimal, number, value, address, matchText, actionText, line, head, refusal}
-use Rattle.sheet.specs.Sheet.{tableText}
-use Rattle.text.specs.Listing.{rightInput, shownText, fileText, listingOf}
+use Rattle.flow.specs.Match.{clash, unmet, is_empty, is_none, is_plain, right_match, overlap, common, both, inside}
+use Rattle.action.specs.Action.{action_of, right_action, in_range}
+use Rattle.action.specs.Operator.{coded, join, right_cell}
+use Rattle.action.specs.Laws.{commutes, associates, shown, pairs, triples, first_pair, first_triple, law_search}
+use Rattle.row.specs.Row.{row_action, right_row_match, right_row_action, right_row}
+use Rattle.section.specs.Sections.{count_fault, cells_fault, atom_fault, node_fault, section_fault}
+use Rattle.whole.specs.Whole.{shape_fault, sum_fault, operator_fault, laws_fault}
+use Rattle.policy.specs.Read.{whole_stages, stages, answer, read_as}
+use Rattle.table.specs.Table.{right_length, check_rows, check_of}
+use Rattle.hidden.specs.Hidden.{kept_words, kept_of, table_kept}
+use Rattle.priority.specs.Numbering.{over, levels_of, number_of}
+use Rattle.compile.specs.Compile.{compiled_rows, answer_of, table_after}
+use Rattle.line.specs.Text.{digits, decimal, number, value, address, match_text, action_text, line, head, refusal}
+use Rattle.sheet.specs.Sheet.{table_text}
+use Rattle.text.specs.Listing.{right_input, shown_text, file_text, listing_of}
 use Rattle.text.specs.Theorems.{ExamplesListed}
 
 pub examples-listed : ExamplesListed
-unfolding inPrefix rightPrefix zeroBeyond prefixesMeet covers meetsValue valuesMeet valueInside rightValue laid rows_of clash unmet is_empty is_none is_plain
-    rightMatch overlap common both inside actionOf rightAction in_range coded join rightCell commutes associates shown pairs triples firstPair firstTriple
-    lawSearch rowAction rightRowMatch rightRowAction rightRow countFault cellsFault atomFault nodeFault sectionFault shapeFault sumFault operatorFault
-    lawsFault wholeStages stages answer readAs rightLength checkRows checkOf keptWords keptOf tableKept over levelsOf number_of compiledRows answer_of
-    tableAfter digits decimal number value address matchText actionText line head refusal rightInput tableText shownText fileText listingOf
+unfolding in_prefix right_prefix zero_beyond prefixes_meet covers meets_value values_meet value_inside right_value laid rows_of clash unmet is_empty is_none is_plain
+    right_match overlap common both inside action_of right_action in_range coded join right_cell commutes associates shown pairs triples first_pair first_triple
+    law_search row_action right_row_match right_row_action right_row count_fault cells_fault atom_fault node_fault section_fault shape_fault sum_fault operator_fault
+    laws_fault whole_stages stages answer read_as right_length check_rows check_of kept_words kept_of table_kept over levels_of number_of compiled_rows answer_of
+    table_after digits decimal number value address match_text action_text line head refusal right_input table_text shown_text file_text listing_of
 examples-listed = (refl, (refl, (refl, (refl, (refl, tt)))))

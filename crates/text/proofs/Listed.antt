@@ -10,95 +10,95 @@ use Rattle.words.specs.Words.{copied}
 use Rattle.words.specs.Bytes.{word_bytes, words_in}
 use Rattle.words.proofs.Laid.{copied-fits, length-copied, take-laid}
 use Rattle.words.proofs.Bytes.{length-words}
-use Rattle.row.specs.Row.{rowLength, mostRows, tableRows}
-use Rattle.table.specs.Table.{checkOf}
+use Rattle.row.specs.Row.{row_length, most_rows, table_rows}
+use Rattle.table.specs.Table.{check_of}
 use Rattle.table.proofs.Tables.{rows-within}
-use Rattle.hidden.specs.Hidden.{keptOf, tableKept}
+use Rattle.hidden.specs.Hidden.{kept_of, table_kept}
 use Rattle.hidden.specs.Theorems.{KeptTells}
 use Rattle.hidden.specs.declared.Kept.{Kept}
 use Rattle.hidden.specs.declared.Kept.TheVariants as kept
 use Rattle.hidden.proofs.Laws.{kept-rows}
-use Rattle.section.specs.Numbers.{longestFile}
+use Rattle.section.specs.Numbers.{longest_file}
 use Rattle.refusal.specs.declared.Refusal.{Refusal}
-use Rattle.compile.specs.Compile.{answer_of, tableAfter, Compiles}
+use Rattle.compile.specs.Compile.{answer_of, table_after, Compiles}
 use Rattle.compile.specs.declared.Compiled.{Compiled}
 use Rattle.compile.specs.declared.Compiled.TheVariants.{Rows}
 use Rattle.compile.specs.declared.Compiled.TheVariants as compiled
 use Rattle.compile.proofs.Answered.{answers-rows}
 use Rattle.line.specs.Text.{refusal}
 use Rattle.line.specs.Puts.{Puts}
-use Rattle.sheet.specs.Sheet.{tableText}
-use Rattle.text.specs.Listing.{wrongInput, longestInput, rightInput, blank, shownText, fileText}
-use Rattle.text.specs.Listing.{listingOf}
+use Rattle.sheet.specs.Sheet.{table_text}
+use Rattle.text.specs.Listing.{wrong_input, longest_input, right_input, blank, shown_text, file_text}
+use Rattle.text.specs.Listing.{listing_of}
 use Rattle.text.proofs.Right.{table-right}
 
 -- the words of an input, where it is right
-module _ (b : List ℕ) (right : rightInput b ≡ true) where
-  pub input-fits : length b / word_bytes ≤ longestFile
-  unfolding rightInput
+module _ (b : List ℕ) (right : right_input b ≡ true) where
+  pub input-fits : length b / word_bytes ≤ longest_file
+  unfolding right_input
   input-fits =
       let h = simp and-eq-true_iff at right in
-      omega (arith, leb-true (length b) longestInput h.1)
+      omega (arith, leb-true (length b) longest_input h.1)
 
-  pub input-words : (l l' : List ℕ) → length l ≡ longestFile → l' ≡ copied 0 (words_in b) l → take (length b / word_bytes) l' ≡ words_in b
+  pub input-words : (l l' : List ℕ) → length l ≡ longest_file → l' ≡ copied 0 (words_in b) l → take (length b / word_bytes) l' ≡ words_in b
   input-words l l' n e =
       let k : length (words_in b) ≡ length b / word_bytes = length-words b in
       let f : length b / word_bytes ≤ length l = omega (arith, input-fits) in
       ap (take (length b / word_bytes)) (e ∙ copied-fits 0 (words_in b) l (omega arith)) ∙ take-laid (words_in b) l (length b / word_bytes) k f
 
-  pub input-within : (l l' : List ℕ) → length l ≡ longestFile → l' ≡ copied 0 (words_in b) l → length b / word_bytes ≤ length l'
+  pub input-within : (l l' : List ℕ) → length l ≡ longest_file → l' ≡ copied 0 (words_in b) l → length b / word_bytes ≤ length l'
   input-within l l' n e =
       let k : length l' ≡ length l = ap length e ∙ length-copied 0 (words_in b) l in
       omega (arith, input-fits)
 
-  pub input-listed : (f : List ℕ) {l m : List ℕ} {r : ℕ} → f ≡ words_in b → Puts (fileText f) l 0 m r → Puts (listingOf b) l 0 m r
-  unfolding listingOf
-  input-listed f {l} {m} {r} e p = rw right (subst (λ x. Puts (fileText x) l 0 m r) e p)
+  pub input-listed : (f : List ℕ) {l m : List ℕ} {r : ℕ} → f ≡ words_in b → Puts (file_text f) l 0 m r → Puts (listing_of b) l 0 m r
+  unfolding listing_of
+  input-listed f {l} {m} {r} e p = rw right (subst (λ x. Puts (file_text x) l 0 m r) e p)
 
-pub input-refused : (b : List ℕ) {l m : List ℕ} {r : ℕ} → rightInput b ≡ false → Puts (refusal wrongInput 0) l 0 m r → Puts (listingOf b) l 0 m r
-unfolding listingOf
+pub input-refused : (b : List ℕ) {l m : List ℕ} {r : ℕ} → right_input b ≡ false → Puts (refusal wrong_input 0) l 0 m r → Puts (listing_of b) l 0 m r
+unfolding listing_of
 input-refused b e p = rw e p
 
 -- the table of a file, where the compile answers rows
 module _ {f t s t' s' : List ℕ} {r : Compiled} (c : Compiles f t s t' s' r) where
-  pub file-few : {n : ℕ} → r ≡ Rows n → n ≤ mostRows
+  pub file-few : {n : ℕ} → r ≡ Rows n → n ≤ most_rows
   file-few {n} e = omega (arith, (answers-rows f t s n (sym c.answer ∙ e)).fits)
 
-  pub file-fits : {n : ℕ} → r ≡ Rows n → n * rowLength ≤ length t'
-  file-fits {n} e = rows-within n t' (ap (λ x. checkOf (tableRows n x)) c.table ∙ table-right f t s n (sym c.answer ∙ e))
+  pub file-fits : {n : ℕ} → r ≡ Rows n → n * row_length ≤ length t'
+  file-fits {n} e = rows-within n t' (ap (λ x. check_of (table_rows n x)) c.table ∙ table-right f t s n (sym c.answer ∙ e))
 
   module _ (bt : t ≡ blank) (bs : s ≡ blank) where
     answer-blank : r ≡ answer_of f blank blank
     answer-blank = c.answer ∙ ap₂ (answer_of f) bt bs
 
-    table-blank : t' ≡ tableAfter f blank blank
-    table-blank = c.table ∙ ap₂ (tableAfter f) bt bs
+    table-blank : t' ≡ table_after f blank blank
+    table-blank = c.table ∙ ap₂ (table_after f) bt bs
 
-    pub file-listed : {n : ℕ} {l m : List ℕ} {i : ℕ} → r ≡ Rows n → Puts (shownText (take (n * rowLength) t')) l 0 m i → Puts (fileText f) l 0 m i
-    unfolding fileText
+    pub file-listed : {n : ℕ} {l m : List ℕ} {i : ℕ} → r ≡ Rows n → Puts (shown_text (take (n * row_length) t')) l 0 m i → Puts (file_text f) l 0 m i
+    unfolding file_text
     file-listed {n} {l} {m} {i} e p =
         let q : answer_of f blank blank ≡ Rows n = sym answer-blank ∙ e in
-        rw q (subst (λ x. Puts (shownText (take (n * rowLength) x)) l 0 m i) table-blank p)
+        rw q (subst (λ x. Puts (shown_text (take (n * row_length) x)) l 0 m i) table-blank p)
 
-    pub file-refused : {x : Refusal} {l m : List ℕ} {i : ℕ} → r ≡ compiled.Refused x → Puts (refusal x.number x.place) l 0 m i → Puts (fileText f) l 0 m i
-    unfolding fileText
+    pub file-refused : {x : Refusal} {l m : List ℕ} {i : ℕ} → r ≡ compiled.Refused x → Puts (refusal x.number x.place) l 0 m i → Puts (file_text f) l 0 m i
+    unfolding file_text
     file-refused {x} e p = let q : answer_of f blank blank ≡ compiled.Refused x = sym answer-blank ∙ e in rw q p
 
 -- the rows that stay, where the pass answers them
-module _ (t : List ℕ) {t' : List ℕ} {r : Kept} (e : r ≡ keptOf t) (w : t' ≡ tableKept t) where
+module _ (t : List ℕ) {t' : List ℕ} {r : Kept} (e : r ≡ kept_of t) (w : t' ≡ table_kept t) where
   module _ {n : ℕ} (q : r ≡ kept.Rows n) where
-    pub kept-few : n ≤ mostRows
+    pub kept-few : n ≤ most_rows
     kept-few = let k : KeptTells t n = kept-rows t n (sym e ∙ q) in omega (arith, k.fewer, k.right.few)
 
-    pub kept-fits : n * rowLength ≤ length t'
-    kept-fits = rows-within n t' (ap (λ x. checkOf (tableRows n x)) w ∙ (kept-rows t n (sym e ∙ q)).check)
+    pub kept-fits : n * row_length ≤ length t'
+    kept-fits = rows-within n t' (ap (λ x. check_of (table_rows n x)) w ∙ (kept-rows t n (sym e ∙ q)).check)
 
-    pub kept-listed : {l m : List ℕ} {i : ℕ} → Puts (tableText (take (n * rowLength) t')) l 0 m i → Puts (shownText t) l 0 m i
-    unfolding shownText
+    pub kept-listed : {l m : List ℕ} {i : ℕ} → Puts (table_text (take (n * row_length) t')) l 0 m i → Puts (shown_text t) l 0 m i
+    unfolding shown_text
     kept-listed {l} {m} {i} p =
-        let z : keptOf t ≡ kept.Rows n = sym e ∙ q in
-        rw z (subst (λ x. Puts (tableText (take (n * rowLength) x)) l 0 m i) w p)
+        let z : kept_of t ≡ kept.Rows n = sym e ∙ q in
+        rw z (subst (λ x. Puts (table_text (take (n * row_length) x)) l 0 m i) w p)
 
-  pub kept-refused : {n j : ℕ} {l m : List ℕ} {i : ℕ} → r ≡ kept.Refused n j → Puts (refusal n j) l 0 m i → Puts (shownText t) l 0 m i
-  unfolding shownText
-  kept-refused {n} {j} q p = let z : keptOf t ≡ kept.Refused n j = sym e ∙ q in rw z p
+  pub kept-refused : {n j : ℕ} {l m : List ℕ} {i : ℕ} → r ≡ kept.Refused n j → Puts (refusal n j) l 0 m i → Puts (shown_text t) l 0 m i
+  unfolding shown_text
+  kept-refused {n} {j} q p = let z : kept_of t ≡ kept.Refused n j = sym e ∙ q in rw z p

@@ -11,73 +11,73 @@ use borrow.Author.Tests.{le-leb, lt-leb}
 use Rattle.logic.proofs.Tests.{by-test, by_le}
 use Rattle.words.specs.Bytes.{words_in}
 use Rattle.words.proofs.Laid.{take-laid}
-use Rattle.theory.specs.Number.{levelCount}
+use Rattle.theory.specs.Number.{level_count}
 use Rattle.theory.specs.Rows.{Row}
 use Rattle.flow.specs.declared.Match.{Match}
 use Rattle.action.specs.declared.Action.{Action}
-use Rattle.row.specs.Row.{rowLength, rowsIn, tableRows}
-use Rattle.table.specs.Table.{rowCount, RightTable}
+use Rattle.row.specs.Row.{row_length, rows_in, table_rows}
+use Rattle.table.specs.Table.{row_count, RightTable}
 use Rattle.table.proofs.Tables.{check-exactly, length-rows}
-use Rattle.hidden.specs.Hidden.{keptRows, keptOf, tableKept}
+use Rattle.hidden.specs.Hidden.{kept_rows, kept_of, table_kept}
 use Rattle.hidden.specs.Theorems.{KeptTells}
 use Rattle.hidden.specs.declared.Kept.TheVariants as kept
 use Rattle.hidden.proofs.Laws.{kept-rows, right_kept}
-use Rattle.compile.specs.Compile.{answer_of, tableAfter}
+use Rattle.compile.specs.Compile.{answer_of, table_after}
 use Rattle.compile.specs.declared.Compiled.{Compiled}
 use Rattle.compile.specs.declared.Compiled.TheVariants.{Rows, Refused}
 use Rattle.compile.proofs.Answered.{answers-rows}
-use Rattle.priority.specs.Numbering.{levelsOf, prioritiesOf, number_of}
+use Rattle.priority.specs.Numbering.{levels_of, priorities_of, number_of}
 use Rattle.priority.specs.declared.Numbered.TheVariants.{Priorities}
 use Rattle.priority.proofs.Whole.{priorities-many}
-use Rattle.line.specs.Text.{line, head, longestLine}
+use Rattle.line.specs.Text.{line, head, longest_line}
 use Rattle.line.specs.Puts.{stop, Puts}
-use Rattle.sheet.specs.Sheet.{listingRoom, lines, tableText, rowsText}
-use Rattle.text.specs.Listing.{wrongInput, longestInput, rightInput, blank, shownText, fileText}
-use Rattle.text.specs.Listing.{listingOf, ListsWhole, longestListing, ListedRows}
+use Rattle.sheet.specs.Sheet.{listing_room, lines, table_text, rows_text}
+use Rattle.text.specs.Listing.{wrong_input, longest_input, right_input, blank, shown_text, file_text}
+use Rattle.text.specs.Listing.{listing_of, ListsWhole, longest_listing, ListedRows}
 use Rattle.text.specs.Theorems.{ListsRows, ListsRefused, RefusedInput, NeverCut, WrittenWhole, KnownByFirst}
 use Rattle.line.proofs.Lengths.{line-within, head-within, refusal-within}
 use Rattle.text.proofs.Right.{table-right}
 
 -- the rows of a file, where the compile answers rows
 module _ (f : List ℕ) (n : ℕ) (e : answer_of f blank blank ≡ Rows n) where
-  few : n ≤ listingRoom
-  few = let k : length blank ≡ rowLength * listingRoom = length-replicate {A = ℕ} (rowLength * listingRoom) 0 in omega
+  few : n ≤ listing_room
+  few = let k : length blank ≡ row_length * listing_room = length-replicate {A = ℕ} (row_length * listing_room) 0 in omega
       (arith, (answers-rows f blank blank n e).fits)
 
   -- the compiled rows
   abbrev compiled : List ℕ
-  compiled = tableRows n (tableAfter f blank blank)
+  compiled = table_rows n (table_after f blank blank)
 
-  checked : RightTable compiled × (n ≡ rowCount compiled)
+  checked : RightTable compiled × (n ≡ row_count compiled)
   checked = (check-exactly compiled n).0 (table-right f blank blank n e)
 
   -- how many of them stay, and what stands of them
   abbrev stay : ℕ
-  stay = length (keptRows compiled)
+  stay = length (kept_rows compiled)
 
   abbrev shown : List ℕ
-  shown = tableRows stay (tableKept compiled)
+  shown = table_rows stay (table_kept compiled)
 
-  stays : keptOf compiled ≡ kept.Rows stay
+  stays : kept_of compiled ≡ kept.Rows stay
   stays = right_kept compiled checked.0
 
   told : KeptTells compiled stay
   told = kept-rows compiled stay stays
 
-  fewer : stay ≤ listingRoom
+  fewer : stay ≤ listing_room
   fewer = omega (arith, few, checked.1, told.fewer)
 
-  many : stay ≡ rowCount shown
+  many : stay ≡ row_count shown
   many = ((check-exactly shown stay).0 told.check).1
 
-  numbers : number_of shown listingRoom listingRoom ≡ Priorities (levelCount (levelsOf shown))
+  numbers : number_of shown listing_room listing_room ≡ Priorities (level_count (levels_of shown))
   unfolding number_of
-  numbers = rw (told.check, le-leb stay listingRoom fewer)
+  numbers = rw (told.check, le-leb stay listing_room fewer)
 
   pub listed : ListedRows f stay shown
-  unfolding fileText shownText tableText
+  unfolding file_text shown_text table_text
   listed = record {
-    text = rw (e, stays, numbers) (ap (λ k. rowsText k shown) (sym many));
+    text = rw (e, stays, numbers) (ap (λ k. rows_text k shown) (sym many));
     rows = length-rows shown ∙ sym many;
     priorities = priorities-many shown ∙ sym many;
   }
@@ -86,68 +86,68 @@ pub lists-rows : ListsRows
 lists-rows f n e = record { count = stay f n e; stay = stays f n e; listed = listed f n e }
 
 pub lists-refused : ListsRefused
-unfolding fileText
+unfolding file_text
 lists-refused f r e = rw e
 
 pub refused-input : RefusedInput
-unfolding listingOf
+unfolding listing_of
 refused-input b e = rw e
 
 -- as many lines as rows, at most
-lines-within : (ps : List ℕ) (rs : List (Row Match Action)) → length (lines ps rs) ≤ longestLine * length rs
+lines-within : (ps : List ℕ) (rs : List (Row Match Action)) → length (lines ps rs) ≤ longest_line * length rs
 lines-within [] rs = omega arith
 lines-within (p ∷ ps) [] = omega arith
 lines-within (p ∷ ps) (r ∷ rs) = omega (arith, length-append (line p r) (lines ps rs), line-within p r, lines-within ps rs)
 
-file-long : (f : List ℕ) → length (fileText f) ≤ longestListing
+file-long : (f : List ℕ) → length (file_text f) ≤ longest_listing
 file-long f = by_answer (answer_of f blank blank) refl
   where
-    by_answer : (x : Compiled) → answer_of f blank blank ≡ x → length (fileText f) ≤ longestListing
+    by_answer : (x : Compiled) → answer_of f blank blank ≡ x → length (file_text f) ≤ longest_listing
     by_answer (Rows n) e =
         let t : List ℕ = shown f n e in
         let k : ℕ = stay f n e in
-        let h : length (head k (levelCount (levelsOf t))) ≤ longestLine = head-within k (levelCount (levelsOf t)) in
-        let i : length (lines (prioritiesOf t) (rowsIn t)) ≤ longestLine * length (rowsIn t) = lines-within (prioritiesOf t) (rowsIn t) in
+        let h : length (head k (level_count (levels_of t))) ≤ longest_line = head-within k (level_count (levels_of t)) in
+        let i : length (lines (priorities_of t) (rows_in t)) ≤ longest_line * length (rows_in t) = lines-within (priorities_of t) (rows_in t) in
         rw ((listed f n e).text, length-append) (omega (arith, fewer f n e, (listed f n e).rows))
     by_answer (Refused r) e = rw (lists-refused f r e) (omega (arith, refusal-within r.number r.place))
 
 pub never-cut : NeverCut
-unfolding listingOf
-never-cut b = by-test (rightInput b)
+unfolding listing_of
+never-cut b = by-test (right_input b)
     (λ t. rw t (file-long (words_in b)))
-    (λ t. rw t (omega (arith, refusal-within wrongInput 0)))
+    (λ t. rw t (omega (arith, refusal-within wrong_input 0)))
 
 pub written-whole : WrittenWhole
 unfolding stop
 written-whole b l m r p h =
-    let k : length (listingOf b) ≤ length l = omega (arith, never-cut b) in
-    let e : r ≡ length (listingOf b) = omega (arith, p.end) in
-    ap₂ take e p.bytes ∙ take-laid (listingOf b) l (length (listingOf b)) refl k
+    let k : length (listing_of b) ≤ length l = omega (arith, never-cut b) in
+    let e : r ≡ length (listing_of b) = omega (arith, p.end) in
+    ap₂ take e p.bytes ∙ take-laid (listing_of b) l (length (listing_of b)) refl k
 
 -- an input that is too long is refused
-too_long : (b : List ℕ) → longestInput < length b → rightInput b ≡ false
-unfolding rightInput
-too_long b h = rw (lt-leb (length b) longestInput h, and-false)
+too_long : (b : List ℕ) → longest_input < length b → right_input b ≡ false
+unfolding right_input
+too_long b h = rw (lt-leb (length b) longest_input h, and-false)
 
 pub known-by-first : KnownByFirst
-unfolding listingOf
+unfolding listing_of
 known-by-first b n h =
     by_le (length b) n
-    (λ k. ap listingOf (take_all n b k))
+    (λ k. ap listing_of (take_all n b k))
     (λ k.
     let e : length (take n b) ≡ n = length-take-le n b (omega arith) in
     rw (too_long (take n b) (omega arith), too_long b (omega arith)))
 
 -- the first bytes of a slice that has no more are all of it
-pub first-listed : (n : ℕ) (b : List ℕ) {l m : List ℕ} {r : ℕ} → Puts (listingOf b) l 0 m r → length b ≤ n → Puts (listingOf (take n b)) l 0 m r
+pub first-listed : (n : ℕ) (b : List ℕ) {l m : List ℕ} {r : ℕ} → Puts (listing_of b) l 0 m r → length b ≤ n → Puts (listing_of (take n b)) l 0 m r
 first-listed n b p h = rw (take_all n b h) p
 
 -- arrays that are long enough, for the input and for its listing
-pub lists-whole : (array : List ℕ) (n : ℕ) {l m : List ℕ} {r : ℕ} → Puts (listingOf (take n array)) l 0 m r → r ≤ length m → longestInput < length array
-    → longestListing ≤ length l
+pub lists-whole : (array : List ℕ) (n : ℕ) {l m : List ℕ} {r : ℕ} → Puts (listing_of (take n array)) l 0 m r → r ≤ length m → longest_input < length array
+    → longest_listing ≤ length l
     → ListsWhole array n l m r
 lists-whole array n {l} {m} {r} p w h k = record {
   puts = p;
   within = w;
-  whole = λ b e. written-whole (take n array) l m r p k ∙ ap listingOf (sym e) ∙ known-by-first b (length array) h;
+  whole = λ b e. written-whole (take n array) l m r p k ∙ ap listing_of (sym e) ∙ known-by-first b (length array) h;
 }

@@ -5,7 +5,7 @@
 --                                 pass nor the numbering refuses anything
 --   ListsRefused                  where the compile refuses, its number and place are listed
 --   RefusedInput                  an input that is no file is 18 at place 0
---   NeverCut                      no listing is longer than longestListing
+--   NeverCut                      no listing is longer than longest_listing
 --   WrittenWhole                  so a buffer of so many bytes holds the whole text
 --   KnownByFirst                  one byte more than the longest input has tells what is listed
 --   ExamplesListed                the text of each of some examples
@@ -13,51 +13,51 @@ use Rattle.std.specs.Prelude.{ℕ, ◌*◌, ◌≤◌, ◌<◌, ◌≡◌, false
 use Prim.Native.String.{String}
 use Rattle.words.specs.Records.{flat}
 use Rattle.words.specs.Bytes.{bytes_of}
-use Rattle.table.specs.Table.{checkOf}
+use Rattle.table.specs.Table.{check_of}
 use Rattle.table.specs.declared.Checked.TheVariants as checked
 use Rattle.action.specs.Operator.{sibling}
-use Rattle.policy.specs.Examples.{tenant, tenantWith, lone}
+use Rattle.policy.specs.Examples.{tenant, tenant_with, lone}
 use Rattle.refusal.specs.declared.Refusal.{Refusal}
-use Rattle.row.specs.Row.{tableRows}
-use Rattle.compile.specs.Compile.{answer_of, tableAfter}
+use Rattle.row.specs.Row.{table_rows}
+use Rattle.compile.specs.Compile.{answer_of, table_after}
 use Rattle.compile.specs.declared.Compiled.TheVariants.{Rows, Refused}
 use Rattle.line.specs.Text.{ascii, refusal}
 use Rattle.line.specs.Puts.{Puts}
-use Rattle.text.specs.Listing.{wrongInput, longestInput, rightInput, blank, fileText}
-use Rattle.text.specs.Listing.{listingOf, longestListing, ListedKept}
+use Rattle.text.specs.Listing.{wrong_input, longest_input, right_input, blank, file_text}
+use Rattle.text.specs.Listing.{listing_of, longest_listing, ListedKept}
 use Rattle.logic.specs.Lists.{All}
 
 -- the rows that the compile leaves pass the table's check, with as many rows
 abbrev pub TableRight : Type 0
 TableRight =
-    (f t s : List ℕ) (n : ℕ) → answer_of f t s ≡ Rows n → checkOf (tableRows n (tableAfter f t s)) ≡ checked.Rows n
+    (f t s : List ℕ) (n : ℕ) → answer_of f t s ≡ Rows n → check_of (table_rows n (table_after f t s)) ≡ checked.Rows n
 
 -- THE LISTING HAS A LINE FOR EACH COMPILED ROW THAT IS NOT HIDDEN
 abbrev pub ListsRows : Type 0
 ListsRows =
-    (f : List ℕ) (n : ℕ) → answer_of f blank blank ≡ Rows n → ListedKept f (tableRows n (tableAfter f blank blank))
+    (f : List ℕ) (n : ℕ) → answer_of f blank blank ≡ Rows n → ListedKept f (table_rows n (table_after f blank blank))
 
 -- or it is the compile's refusal
 abbrev pub ListsRefused : Type 0
 ListsRefused =
-    (f : List ℕ) (r : Refusal) → answer_of f blank blank ≡ Refused r → fileText f ≡ refusal r.number r.place
+    (f : List ℕ) (r : Refusal) → answer_of f blank blank ≡ Refused r → file_text f ≡ refusal r.number r.place
 
 -- bytes that are not whole words, or too many
 abbrev pub RefusedInput : Type 0
-RefusedInput = (b : List ℕ) → rightInput b ≡ false → listingOf b ≡ refusal wrongInput 0
+RefusedInput = (b : List ℕ) → right_input b ≡ false → listing_of b ≡ refusal wrong_input 0
 
 -- NO LISTING IS LONGER
 abbrev pub NeverCut : Type 0
-NeverCut = (b : List ℕ) → length (listingOf b) ≤ longestListing
+NeverCut = (b : List ℕ) → length (listing_of b) ≤ longest_listing
 
 -- what a buffer of so many bytes holds afterwards, up to the answer, is the listing
 abbrev pub WrittenWhole : Type 0
 WrittenWhole =
-    (b l m : List ℕ) (r : ℕ) → Puts (listingOf b) l 0 m r → longestListing ≤ length l → take r m ≡ listingOf b
+    (b l m : List ℕ) (r : ℕ) → Puts (listing_of b) l 0 m r → longest_listing ≤ length l → take r m ≡ listing_of b
 
 -- an input is known by its first bytes, if they are one more than the longest has: what is longer is refused
 abbrev pub KnownByFirst : Type 0
-KnownByFirst = (b : List ℕ) (n : ℕ) → longestInput < n → listingOf (take n b) ≡ listingOf b
+KnownByFirst = (b : List ℕ) (n : ℕ) → longest_input < n → listing_of (take n b) ≡ listing_of b
 
 -- an input, and the lines that are listed of it
 pub record Example : Type 0 where
@@ -76,7 +76,7 @@ examples =
           ∷ "1 * 0.0.0.0/0 10.7.0.0/16 * * * deny\n"
           ∷ [];
     }
-    ∷ record { input = flat bytes_of (tenantWith 1); listed = "refused 10 1\n" ∷ [] }
+    ∷ record { input = flat bytes_of (tenant_with 1); listed = "refused 10 1\n" ∷ [] }
     ∷ record { input = flat bytes_of (lone sibling); listed = "rows 0 priorities 0\n" ∷ [] }
     ∷ record { input = []; listed = "refused 1 0\n" ∷ [] }
     ∷ record { input = 0 ∷ []; listed = "refused 18 0\n" ∷ [] }
@@ -84,4 +84,4 @@ examples =
 
 -- each is listed as it says
 abbrev pub ExamplesListed : Type 0
-ExamplesListed = All (λ x. listingOf x.input ≡ flat ascii x.listed) examples
+ExamplesListed = All (λ x. listing_of x.input ≡ flat ascii x.listed) examples

@@ -1,7 +1,7 @@
 // The listing: the bytes of a policy file in, the text of its rows and priorities out.
 ghost use Rattle.std.specs.Prelude.{◌≡◌, ◌≤◌, length, take};
 ghost use Rattle.line.specs.Puts.{Puts};
-ghost use Rattle.text.specs.Listing.{rightInput, shownText, fileText, listingOf, ListsWhole};
+ghost use Rattle.text.specs.Listing.{right_input, shown_text, file_text, listing_of, ListsWhole};
 
 use compile::{Compiled, compile};
 use hidden::{Kept, drop_hidden};
@@ -32,7 +32,7 @@ pub type ListingBytes = [u8; LONGEST_LISTING];
 
 // Puts the listing of an input at the start of a buffer, and answers where it ends. It is cut where the buffer ends.
 pub fn list(input: &[u8], out: &mut [u8]) -> usize
-    ensures puts { Puts (listingOf input.now) out.old 0 out.new result }
+    ensures puts { Puts (listing_of input.now) out.old 0 out.new result }
     ensures upper_bound { result ≤ length out.new }
 {
     if right_input(input) {
@@ -53,7 +53,7 @@ pub fn list_whole(input: &InputBytes, got: usize, out: &mut ListingBytes) -> usi
 
 // The listing of the first bytes of a slice, or of all of them.
 fn list_first(input: &[u8], n: usize, out: &mut [u8]) -> usize
-    ensures puts { Puts (listingOf (take n input.now)) out.old 0 out.new result }
+    ensures puts { Puts (listing_of (take n input.now)) out.old 0 out.new result }
     ensures upper_bound { result ≤ length out.new }
 {
     if n < input.len() {
@@ -64,7 +64,7 @@ fn list_first(input: &[u8], n: usize, out: &mut [u8]) -> usize
 
 // The listing of a policy file.
 fn list_file(file: &[u32], out: &mut [u8]) -> usize
-    ensures { Puts (fileText file.now) out.old 0 out.new result }
+    ensures { Puts (file_text file.now) out.old 0 out.new result }
 {
     let mut table = [0u32; ROW_WORDS * ROOM];
     let mut scratch = [0u32; ROW_WORDS * ROOM];
@@ -77,7 +77,7 @@ fn list_file(file: &[u32], out: &mut [u8]) -> usize
 
 // The listing of compiled rows: the hidden ones are taken out first.
 fn list_rows(table: &mut [u32], out: &mut [u8]) -> usize
-    ensures { Puts (shownText table.old) out.old 0 out.new result }
+    ensures { Puts (shown_text table.old) out.old 0 out.new result }
 {
     match drop_hidden(table) {
         Kept::Rows(kept) => list_table(&table[..kept * ROW_WORDS], out),
@@ -87,7 +87,7 @@ fn list_rows(table: &mut [u32], out: &mut [u8]) -> usize
 
 // Whether an input is whole words, and not longer than the longest file.
 fn right_input(input: &[u8]) -> bool
-    ensures { result ≡ rightInput input.now }
+    ensures { result ≡ right_input input.now }
 {
     (input.len() % WORD_BYTES == 0) & (input.len() <= LONGEST_INPUT)
 }

@@ -8,7 +8,7 @@ use lib.ListN.{get_or, length, length-append, get_or-append}
 use lib.Seq.{get_or_at}
 use borrow.Author.Tests.{eqb-true}
 use Rattle.logic.proofs.Tests.{by_le, and_left, and_right}
-use Rattle.theory.specs.Number.{FirstPlace, levels, levelCount, atLevel, firstOfLevel, overlapsAt, stepBack, chainTo, chainUnder, Chained}
+use Rattle.theory.specs.Number.{FirstPlace, levels, level_count, at_level, first_of_level, overlaps_at, step_back, chain_to, chain_under, Chained}
 use Rattle.theory.specs.Theorems.{ChainHolds}
 use Rattle.theory.proofs.Seek.{seek-first}
 use Rattle.theory.proofs.Levels.{levelled, above_from, level-highest, length-levels}
@@ -19,7 +19,7 @@ module _ (over : ℕ → ℕ → Bool) (ls : List ℕ) where
     many : length c ≡ suc l
     ends : get_or c l 0 ≡ i
     rows : (k : ℕ) → k ≤ l → get_or c k 0 ≤ i
-    steps : (k : ℕ) → k < l → FirstPlace (overlapsAt over ls (get_or c (suc k) 0) k) (get_or c (suc k) 0) (get_or c k 0)
+    steps : (k : ℕ) → k < l → FirstPlace (overlaps_at over ls (get_or c (suc k) 0) k) (get_or c (suc k) 0) (get_or c k 0)
 
   chained-one : (i : ℕ) → ChainedTo (i ∷ []) 0 i
   chained-one i = record {
@@ -30,7 +30,7 @@ module _ (over : ℕ → ℕ → Bool) (ls : List ℕ) where
   }
 
   -- One row more at the end.
-  chained-snoc : (c : List ℕ) (l k i : ℕ) → ChainedTo c l k → FirstPlace (overlapsAt over ls i l) i k → ChainedTo (c ++ (i ∷ [])) (suc l) i
+  chained-snoc : (c : List ℕ) (l k i : ℕ) → ChainedTo c l k → FirstPlace (overlaps_at over ls i l) i k → ChainedTo (c ++ (i ∷ [])) (suc l) i
   chained-snoc c l k i r f =
       let m : length c ≡ suc l = r.many in
       let old : (j : ℕ) → j ≤ l → get_or (c ++ (i ∷ [])) j 0 ≡ get_or c j 0 = λ j g. get_or-append c (i ∷ []) 0 j (omega arith) in
@@ -48,25 +48,25 @@ module _ (over : ℕ → ℕ → Bool) (ls : List ℕ) where
 
 module _ (over : ℕ → ℕ → Bool) (n : ℕ) where
   -- A row above level 0 has a row to step back to.
-  step-first : (i l : ℕ) → i < n → get_or (levels over n) i 0 ≡ suc l → FirstPlace (overlapsAt over (levels over n) i l) i (stepBack over (levels over n) i l)
+  step-first : (i l : ℕ) → i < n → get_or (levels over n) i 0 ≡ suc l → FirstPlace (overlaps_at over (levels over n) i l) i (step_back over (levels over n) i l)
   step-first i l h e =
       let ls : List ℕ = levels over n in
-      seek-first (overlapsAt over ls i l) i (above_from over ls i i l (sym ((levelled over n).rule i h) ∙ e))
+      seek-first (overlaps_at over ls i l) i (above_from over ls i i l (sym ((levelled over n).rule i h) ∙ e))
 
-  chained-to : (l i : ℕ) → i < n → get_or (levels over n) i 0 ≡ l → ChainedTo over (levels over n) (chainTo over (levels over n) l i) l i
+  chained-to : (l i : ℕ) → i < n → get_or (levels over n) i 0 ≡ l → ChainedTo over (levels over n) (chain_to over (levels over n) l i) l i
   chained-to zero i h e = chained-one over (levels over n) i
   chained-to (suc l) i h e =
       let ls : List ℕ = levels over n in
-      let k : ℕ = stepBack over ls i l in
-      let f : FirstPlace (overlapsAt over ls i l) i k = step-first i l h e in
-      let low : get_or ls k 0 ≡ l = eqb-true (get_or ls k 0) l (and_right (over k i) (atLevel ls l k) f.passes) in
-      chained-snoc over ls (chainTo over ls l k) l k i (chained-to l k (omega (arith, f.within)) low) f
+      let k : ℕ = step_back over ls i l in
+      let f : FirstPlace (overlaps_at over ls i l) i k = step-first i l h e in
+      let low : get_or ls k 0 ≡ l = eqb-true (get_or ls k 0) l (and_right (over k i) (at_level ls l k) f.passes) in
+      chained-snoc over ls (chain_to over ls l k) l k i (chained-to l k (omega (arith, f.within)) low) f
 
   -- The highest level has a first row.
-  top-first : (l : ℕ) → levelCount (levels over n) ≡ suc l → FirstPlace (atLevel (levels over n) l) (length (levels over n)) (firstOfLevel (levels over n) l)
-  top-first l e = seek-first (atLevel (levels over n) l) (length (levels over n)) (level-highest (levels over n) l e)
+  top-first : (l : ℕ) → level_count (levels over n) ≡ suc l → FirstPlace (at_level (levels over n) l) (length (levels over n)) (first_of_level (levels over n) l)
+  top-first l e = seek-first (at_level (levels over n) l) (length (levels over n)) (level-highest (levels over n) l e)
 
-  chained-under : (l : ℕ) → levelCount (levels over n) ≡ l → Chained over (levels over n) (chainUnder over (levels over n) l)
+  chained-under : (l : ℕ) → level_count (levels over n) ≡ l → Chained over (levels over n) (chain_under over (levels over n) l)
   chained-under zero e = record {
     many = sym e;
     rows = λ k h. absurd (omega arith);
@@ -77,19 +77,19 @@ module _ (over : ℕ → ℕ → Bool) (n : ℕ) where
   }
   chained-under (suc l) e =
       let ls : List ℕ = levels over n in
-      let i : ℕ = firstOfLevel ls l in
-      let c : List ℕ = chainTo over ls l i in
-      let f : FirstPlace (atLevel ls l) (length ls) i = top-first l e in
+      let i : ℕ = first_of_level ls l in
+      let c : List ℕ = chain_to over ls l i in
+      let f : FirstPlace (at_level ls l) (length ls) i = top-first l e in
       let r : ChainedTo over ls c l i = chained-to l i (omega (arith, f.within, length-levels over n)) (eqb-true (get_or ls i 0) l f.passes) in
       let m : length c ≡ suc l = r.many in
       record {
         many = m ∙ sym e;
         rows = λ k h. omega (arith, r.rows k (omega arith), f.within);
         in_order = λ k h. (r.steps k (omega arith)).within;
-        overlaps = λ k h. and_left (over (get_or c k 0) (get_or c (suc k) 0)) (atLevel ls k (get_or c k 0)) (r.steps k (omega arith)).passes;
+        overlaps = λ k h. and_left (over (get_or c k 0) (get_or c (suc k) 0)) (at_level ls k (get_or c k 0)) (r.steps k (omega arith)).passes;
         ends = λ k h. let q : k ≡ l = omega arith in rw (q, r.ends) f;
         steps = λ k h. r.steps k (omega arith);
       }
 
   pub chain-holds : ChainHolds over n
-  chain-holds = chained-under (levelCount (levels over n)) refl
+  chain-holds = chained-under (level_count (levels over n)) refl

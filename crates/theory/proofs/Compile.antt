@@ -8,27 +8,27 @@ use Rattle.theory.specs.Tree.{Forest, node, bare, ◌▸◌, Node, own, evals, t
 use Rattle.theory.specs.Theorems.{Laws, ScanCompile, NodeChain}
 use Rattle.theory.proofs.Join.{scan-join}
 
-module _ {M P A O : Type 0} {meets : M → P → Bool} {dontCare : A} {joined : O → A → A → A} {common : M → M → M} {empty : M → Bool} where
-  pub scan-kept : Laws meets dontCare joined common empty → (x : Row M A) (p : P)
-      → scan meets dontCare (kept empty x) p ≡ cond (meets x.match p) x.action dontCare
+module _ {M P A O : Type 0} {meets : M → P → Bool} {dont_care : A} {joined : O → A → A → A} {common : M → M → M} {empty : M → Bool} where
+  pub scan-kept : Laws meets dont_care joined common empty → (x : Row M A) (p : P)
+      → scan meets dont_care (kept empty x) p ≡ cond (meets x.match p) x.action dont_care
   scan-kept laws x p = by-test (empty x.match) (λ t. rw (t, laws.meets-empty x.match p t)) (λ t. rw t)
 
   -- A node's own table gives its own action.
-  pub scan-table : Laws meets dontCare joined common empty → (i : O) (xs : List (Row M A)) (p : P)
-      → scan meets dontCare (table common empty joined i xs) p ≡ own meets dontCare joined i xs p
+  pub scan-table : Laws meets dont_care joined common empty → (i : O) (xs : List (Row M A)) (p : P)
+      → scan meets dont_care (table common empty joined i xs) p ≡ own meets dont_care joined i xs p
   scan-table laws i [] p = refl
   scan-table laws i (x ∷ xs) p =
       rw (scan-join laws, scan-kept laws x p, scan-table laws i xs p)
-      (by-test (meets x.match p) (λ t. rw t) (λ t. rw t (laws.identity-left i (own meets dontCare joined i xs p))))
+      (by-test (meets x.match p) (λ t. rw t) (λ t. rw t (laws.identity-left i (own meets dont_care joined i xs p))))
 
   mutual
-    pub scan-compile : ScanCompile meets dontCare joined common empty
+    pub scan-compile : ScanCompile meets dont_care joined common empty
     scan-compile laws (node n ts) p = simp (scan-join laws, scan-table laws, scan-compiles laws ts n.sibling p)
 
-    pub scan-compiles : Laws meets dontCare joined common empty → (ts : Forest (Node O M A)) (s : O) (p : P)
-        → scan meets dontCare (compiles common empty joined ts s) p ≡ evals meets dontCare joined ts s p
+    pub scan-compiles : Laws meets dont_care joined common empty → (ts : Forest (Node O M A)) (s : O) (p : P)
+        → scan meets dont_care (compiles common empty joined ts s) p ≡ evals meets dont_care joined ts s p
     scan-compiles laws bare s p = refl
     scan-compiles laws (t ▸ ts) s p = simp (scan-join laws, scan-compile laws t p, scan-compiles laws ts s p)
 
-  pub node-chain : NodeChain meets dontCare joined common empty
+  pub node-chain : NodeChain meets dont_care joined common empty
   node-chain laws a b c p = rw (scan-compile laws) (simp laws.identity-right)

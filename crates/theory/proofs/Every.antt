@@ -5,9 +5,9 @@ use mathlib.Core.List.{List, [], ◌∷◌, ◌++◌}
 use Rattle.logic.specs.Lists.{All}
 use Rattle.logic.proofs.Lists.{all_append, all_split}
 use Rattle.logic.proofs.Tests.{by-test}
-use Rattle.theory.specs.Rows.{Row, kept, commonRow, commonWith, commonRows, join}
+use Rattle.theory.specs.Rows.{Row, kept, common_row, common_with, common_rows, join}
 use Rattle.theory.specs.Tree.{Tree, Forest, node, bare, ◌▸◌, Node, EveryNode, EveryNodes, GoodNode, table, compile, compiles}
-use Rattle.theory.specs.Nodes.{Listed, listTree, listTrees}
+use Rattle.theory.specs.Nodes.{Listed, list_tree, list_trees}
 use Rattle.theory.specs.Theorems.{CompileEvery}
 
 -- what all listed nodes of a tree hold, every node of it does
@@ -16,15 +16,15 @@ module _ {X : Type 0} (Q : X → Type 0) where
   Held n = Q n.what
 
   mutual
-    pub listed-every : (t : Tree X) → All Held (listTree t) → EveryNode Q t
+    pub listed-every : (t : Tree X) → All Held (list_tree t) → EveryNode Q t
     listed-every (node x ts) f = (f.0, listed-all ts f.1)
 
-    listed-all : (ts : Forest X) → All Held (listTrees ts) → EveryNodes Q ts
+    listed-all : (ts : Forest X) → All Held (list_trees ts) → EveryNodes Q ts
     listed-all bare f = tt
-    listed-all (t ▸ ts) f = let g = all_split Held (listTree t) (listTrees ts) f in (listed-every t g.0, listed-all ts g.1)
+    listed-all (t ▸ ts) f = let g = all_split Held (list_tree t) (list_trees ts) f in (listed-every t g.0, listed-all ts g.1)
 
 module _ {M A O : Type 0} (joined : O → A → A → A) (common : M → M → M) (empty : M → Bool) (K : O → Type 0) (T : Row M A → Type 0)
-    (keeps : (o : O) (r s : Row M A) → K o → T r → T s → T (commonRow common (joined o) r s)) where
+    (keeps : (o : O) (r s : Row M A) → K o → T r → T s → T (common_row common (joined o) r s)) where
   -- The property, of a row whose match is not empty.
   abbrev Kept : Row M A → Type 0
   Kept r = T r × (empty r.match ≡ false)
@@ -32,21 +32,21 @@ module _ {M A O : Type 0} (joined : O → A → A → A) (common : M → M → M
   every-kept : (r : Row M A) → T r → All Kept (kept empty r)
   every-kept r f = by-test (empty r.match) (λ t. rw t tt) (λ t. rw t ((f, t), tt))
 
-  every-with : (o : O) → K o → (r : Row M A) (N' : List (Row M A)) → T r → All Kept N' → All Kept (commonWith common empty (joined o) r N')
+  every-with : (o : O) → K o → (r : Row M A) (N' : List (Row M A)) → T r → All Kept N' → All Kept (common_with common empty (joined o) r N')
   every-with o k r [] f g = tt
   every-with o k r (s ∷ N') f g =
-      all_append Kept (kept empty (commonRow common (joined o) r s)) (commonWith common empty (joined o) r N')
-      (every-kept (commonRow common (joined o) r s) (keeps o r s k f g.0.0)) (every-with o k r N' f g.1)
+      all_append Kept (kept empty (common_row common (joined o) r s)) (common_with common empty (joined o) r N')
+      (every-kept (common_row common (joined o) r s) (keeps o r s k f g.0.0)) (every-with o k r N' f g.1)
 
-  every-common : (o : O) → K o → (N N' : List (Row M A)) → All Kept N → All Kept N' → All Kept (commonRows common empty (joined o) N N')
+  every-common : (o : O) → K o → (N N' : List (Row M A)) → All Kept N → All Kept N' → All Kept (common_rows common empty (joined o) N N')
   every-common o k [] N' f g = tt
   every-common o k (r ∷ N) N' f g =
-      all_append Kept (commonWith common empty (joined o) r N') (commonRows common empty (joined o) N N')
+      all_append Kept (common_with common empty (joined o) r N') (common_rows common empty (joined o) N N')
       (every-with o k r N' f.0.0 g) (every-common o k N N' f.1 g)
 
   every-join : (o : O) → K o → (N N' : List (Row M A)) → All Kept N → All Kept N' → All Kept (join common empty (joined o) N N')
   every-join o k N N' f g =
-      all_append Kept (commonRows common empty (joined o) N N') (N ++ N') (every-common o k N N' f g) (all_append Kept N N' f g)
+      all_append Kept (common_rows common empty (joined o) N N') (N ++ N') (every-common o k N N' f g) (all_append Kept N N' f g)
 
   every-table : (i : O) → K i → (xs : List (Row M A)) → All T xs → All Kept (table common empty joined i xs)
   every-table i k [] f = tt

@@ -8,7 +8,7 @@ use lib.ListN.{get_or, length, length-map}
 use lib.Dec.{eqb}
 use borrow.Author.Tests.{eqb-true, eqb-false, eq-eqb, ne_eqb}
 use Rattle.logic.proofs.Tests.{by-test, by_le}
-use Rattle.theory.specs.Number.{levels, levelCount, priorities, chain, Chained, has, distinct}
+use Rattle.theory.specs.Number.{levels, level_count, priorities, chain, Chained, has, distinct}
 use Rattle.theory.specs.Theorems.{PrioritiesCount, FewestPriorities}
 use Rattle.theory.proofs.Levels.{length-levels, priorities-right, priorities-range}
 use Rattle.theory.proofs.Chain.{chain-holds}
@@ -85,16 +85,16 @@ abbrev up_to : ℕ → List ℕ
 up_to zero = []
 up_to (suc l) = suc l ∷ up_to l
 
-length-upTo : (l : ℕ) → length (up_to l) ≡ l
-length-upTo zero = refl
-length-upTo (suc l) = ap suc (length-upTo l)
+length-up_to : (l : ℕ) → length (up_to l) ≡ l
+length-up_to zero = refl
+length-up_to (suc l) = ap suc (length-up_to l)
 
-has-upTo : (l x : ℕ) → (1 ≤ x) × (x ≤ l) → has x (up_to l) ≡ true
-has-upTo zero x h = absurd (omega arith)
-has-upTo (suc l) x h =
+has-up_to : (l x : ℕ) → (1 ≤ x) × (x ≤ l) → has x (up_to l) ≡ true
+has-up_to zero x h = absurd (omega arith)
+has-up_to (suc l) x h =
     by-test (eqb x (suc l))
     (λ t. rw t)
-    (λ t. rw t (has-upTo l x (omega (arith, eqb-false x (suc l) t))))
+    (λ t. rw t (has-up_to l x (omega (arith, eqb-false x (suc l) t))))
 
 -- What falls from each place to the next falls from each to every later one.
 falls : (g : ℕ → ℕ) (n : ℕ) → ((k : ℕ) → suc k < n → g (suc k) < g k) → (j k : ℕ) → j < k → k < n → g k < g j
@@ -122,11 +122,11 @@ module _ (over : ℕ → ℕ → Bool) (n : ℕ) where
   priorities-count =
       let ls : List ℕ = levels over n in
       let ps : List ℕ = priorities ls in
-      let m : length ps ≡ n = length-map ls (λ l. levelCount ls - l) ∙ length-levels over n in
-      let range : (y : ℕ) → has y ps ≡ true → (1 ≤ y) × (y ≤ levelCount ls) =
-      has-each (λ y. (1 ≤ y) × (y ≤ levelCount ls)) ps (λ i h. priorities-range over n i (omega arith)) in
-      let most : length (distinct ps) ≤ length (up_to (levelCount ls)) =
-      pigeonhole (length (distinct ps)) (λ k. get_or (distinct ps) k 0) (up_to (levelCount ls)) (distinct-differ ps)
+      let m : length ps ≡ n = length-map ls (λ l. level_count ls - l) ∙ length-levels over n in
+      let range : (y : ℕ) → has y ps ≡ true → (1 ≤ y) × (y ≤ level_count ls) =
+      has-each (λ y. (1 ≤ y) × (y ≤ level_count ls)) ps (λ i h. priorities-range over n i (omega arith)) in
+      let most : length (distinct ps) ≤ length (up_to (level_count ls)) =
+      pigeonhole (length (distinct ps)) (λ k. get_or (distinct ps) k 0) (up_to (level_count ls)) (distinct-differ ps)
       (λ k h. let y : ℕ = get_or (distinct ps) k 0 in
-      has-upTo (levelCount ls) y (range y (sym (has-distinct y ps) ∙ has-at (distinct ps) k h))) in
-      omega (arith, fewest-priorities ps m (priorities-right over n), length-upTo (levelCount ls))
+      has-up_to (level_count ls) y (range y (sym (has-distinct y ps) ∙ has-at (distinct ps) k h))) in
+      omega (arith, fewest-priorities ps m (priorities-right over n), length-up_to (level_count ls))

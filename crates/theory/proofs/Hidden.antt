@@ -9,7 +9,7 @@ use lib.Seq.{take-suc, take-length}
 use Rattle.logic.proofs.Tests.{by-test}
 use Rattle.logic.specs.Lists.{All}
 use Rattle.theory.specs.Rows.{Row, scan}
-use Rattle.theory.specs.Hidden.{insideOne, stayingAfter, staying, insideEarlier, placesWhere, InsideSome, Enclosing, Nesting}
+use Rattle.theory.specs.Hidden.{inside_one, staying_after, staying, inside_earlier, places_where, InsideSome, Enclosing, Nesting}
 use Rattle.theory.specs.Theorems.{ScanHidden, HiddenExactly, OneExactly, NoneHidden, HiddenAgain, HiddenStep, HiddenLess, HiddenEvery}
 
 -- Both halves of a disjunction that fails.
@@ -18,38 +18,38 @@ or-none true b e = absurd (false≢true (sym e))
 or-none false b e = (refl, e)
 
 module _ {M A : Type 0} (inside : M → M → Bool) where
-  one-append : (m : M) (N N' : List (Row M A)) → insideOne inside m (N ++ N') ≡ (insideOne inside m N || insideOne inside m N')
+  one-append : (m : M) (N N' : List (Row M A)) → inside_one inside m (N ++ N') ≡ (inside_one inside m N || inside_one inside m N')
   one-append m [] N' = refl
-  one-append m (r ∷ N) N' = rw (one-append m N N') (sym (or_assoc (inside m r.match) (insideOne inside m N) (insideOne inside m N')))
+  one-append m (r ∷ N) N' = rw (one-append m N N') (sym (or_assoc (inside m r.match) (inside_one inside m N) (inside_one inside m N')))
 
-  one-snoc : (m : M) (N : List (Row M A)) (r : Row M A) → insideOne inside m (N ++ (r ∷ [])) ≡ (insideOne inside m N || inside m r.match)
-  one-snoc m N r = one-append m N (r ∷ []) ∙ ap (λ (b : Bool). insideOne inside m N || b) (or-false (inside m r.match))
+  one-snoc : (m : M) (N : List (Row M A)) (r : Row M A) → inside_one inside m (N ++ (r ∷ [])) ≡ (inside_one inside m N || inside m r.match)
+  one-snoc m N r = one-append m N (r ∷ []) ∙ ap (λ (b : Bool). inside_one inside m N || b) (or-false (inside m r.match))
 
   -- Rows behind rows.
-  staying-append : (E N N' : List (Row M A)) → stayingAfter inside E (N ++ N') ≡ stayingAfter inside E N ++ stayingAfter inside (E ++ N) N'
+  staying-append : (E N N' : List (Row M A)) → staying_after inside E (N ++ N') ≡ staying_after inside E N ++ staying_after inside (E ++ N) N'
   staying-append E [] N' = rw append-nil
   staying-append E (r ∷ N) N' =
-      let rest : stayingAfter inside (E ++ (r ∷ [])) (N ++ N') ≡ stayingAfter inside (E ++ (r ∷ [])) N ++ stayingAfter inside (E ++ (r ∷ N)) N' =
-      staying-append (E ++ (r ∷ [])) N N' ∙ ap (λ F. stayingAfter inside (E ++ (r ∷ [])) N ++ stayingAfter inside F N') (append_assoc E (r ∷ []) N) in
-      by-test (insideOne inside r.match E) (λ t. rw t rest) (λ t. rw t (ap (λ K. r ∷ K) rest))
+      let rest : staying_after inside (E ++ (r ∷ [])) (N ++ N') ≡ staying_after inside (E ++ (r ∷ [])) N ++ staying_after inside (E ++ (r ∷ N)) N' =
+      staying-append (E ++ (r ∷ [])) N N' ∙ ap (λ F. staying_after inside (E ++ (r ∷ [])) N ++ staying_after inside F N') (append_assoc E (r ∷ []) N) in
+      by-test (inside_one inside r.match E) (λ t. rw t rest) (λ t. rw t (ap (λ K. r ∷ K) rest))
 
   -- One row more at the end.
-  staying-snoc : (N : List (Row M A)) (r : Row M A) → staying inside (N ++ (r ∷ [])) ≡ staying inside N ++ cond (insideOne inside r.match N) [] (r ∷ [])
+  staying-snoc : (N : List (Row M A)) (r : Row M A) → staying inside (N ++ (r ∷ [])) ≡ staying inside N ++ cond (inside_one inside r.match N) [] (r ∷ [])
   staying-snoc N r = staying-append [] N (r ∷ [])
 
 module _ {M : Type 0} (A : Type 0) (inside : M → M → Bool) where
   -- The first k rows.
   exactly-take : (d : Row M A) (N : List (Row M A)) (k : ℕ) → k ≤ length N
-      → staying inside (take k N) ≡ map (λ i. get_or N i d) (placesWhere (λ i. not (insideEarlier inside d N i)) k)
+      → staying inside (take k N) ≡ map (λ i. get_or N i d) (places_where (λ i. not (inside_earlier inside d N i)) k)
   exactly-take d N zero h = refl
   exactly-take d N (suc k) h =
-      let ps : List ℕ = placesWhere (λ i. not (insideEarlier inside d N i)) k in
+      let ps : List ℕ = places_where (λ i. not (inside_earlier inside d N i)) k in
       rw (
         take-suc N k d h,
         staying-snoc inside (take k N) (get_or N k d),
         exactly-take d N k (omega arith),
       )
-      (by-test (insideEarlier inside d N k)
+      (by-test (inside_earlier inside d N k)
       (λ t. rw t (sym (map-append (λ i. get_or N i d) ps [])))
       (λ t. rw t (sym (map-append (λ i. get_or N i d) ps (k ∷ [])))))
 
@@ -57,33 +57,33 @@ module _ {M : Type 0} (A : Type 0) (inside : M → M → Bool) where
   hidden-exactly d N = ap (staying inside) (sym (take-length N)) ∙ exactly-take d N (length N) (omega arith)
 
   -- What stays behind some rows lies inside none of them.
-  after-clear : (d : Row M A) (E N : List (Row M A)) (i : ℕ) → i < length (stayingAfter inside E N)
-      → insideOne inside (get_or (stayingAfter inside E N) i d).match E ≡ false
+  after-clear : (d : Row M A) (E N : List (Row M A)) (i : ℕ) → i < length (staying_after inside E N)
+      → inside_one inside (get_or (staying_after inside E N) i d).match E ≡ false
   after-clear d E [] i h = absurd (omega arith)
   after-clear d E (r ∷ N) i h =
-      let K : List (Row M A) = stayingAfter inside (E ++ (r ∷ [])) N in
-      let rest : (k : ℕ) → k < length K → insideOne inside (get_or K k d).match E ≡ false =
-      λ k b. (or-none (insideOne inside (get_or K k d).match E) (inside (get_or K k d).match r.match)
+      let K : List (Row M A) = staying_after inside (E ++ (r ∷ [])) N in
+      let rest : (k : ℕ) → k < length K → inside_one inside (get_or K k d).match E ≡ false =
+      λ k b. (or-none (inside_one inside (get_or K k d).match E) (inside (get_or K k d).match r.match)
       (sym (one-snoc inside (get_or K k d).match E r) ∙ after-clear d (E ++ (r ∷ [])) N k b)).0 in
-      by-test (insideOne inside r.match E)
+      by-test (inside_one inside r.match E)
       (λ t. rw t (rest i (rw t at h)))
       (λ t. rw t (kept-clear d E r K t rest i (rw t at h)))
     where
-      kept-clear : (d : Row M A) (E : List (Row M A)) (r : Row M A) (K : List (Row M A)) → insideOne inside r.match E ≡ false
-          → ((k : ℕ) → k < length K → insideOne inside (get_or K k d).match E ≡ false)
-          → (i : ℕ) → i < length (r ∷ K) → insideOne inside (get_or (r ∷ K) i d).match E ≡ false
+      kept-clear : (d : Row M A) (E : List (Row M A)) (r : Row M A) (K : List (Row M A)) → inside_one inside r.match E ≡ false
+          → ((k : ℕ) → k < length K → inside_one inside (get_or K k d).match E ≡ false)
+          → (i : ℕ) → i < length (r ∷ K) → inside_one inside (get_or (r ∷ K) i d).match E ≡ false
       kept-clear d E r K t f zero h = t
       kept-clear d E r K t f (suc i) h = f i (omega arith)
 
-  after_none : (d : Row M A) (E N : List (Row M A)) (j i : ℕ) → j < i → i < length (stayingAfter inside E N)
-      → inside (get_or (stayingAfter inside E N) i d).match (get_or (stayingAfter inside E N) j d).match ≡ false
+  after_none : (d : Row M A) (E N : List (Row M A)) (j i : ℕ) → j < i → i < length (staying_after inside E N)
+      → inside (get_or (staying_after inside E N) i d).match (get_or (staying_after inside E N) j d).match ≡ false
   after_none d E [] j i l h = absurd (omega arith)
   after_none d E (r ∷ N) j i l h =
-      let K : List (Row M A) = stayingAfter inside (E ++ (r ∷ [])) N in
+      let K : List (Row M A) = staying_after inside (E ++ (r ∷ [])) N in
       let first : (k : ℕ) → k < length K → inside (get_or K k d).match r.match ≡ false =
-      λ k b. (or-none (insideOne inside (get_or K k d).match E) (inside (get_or K k d).match r.match)
+      λ k b. (or-none (inside_one inside (get_or K k d).match E) (inside (get_or K k d).match r.match)
       (sym (one-snoc inside (get_or K k d).match E r) ∙ after-clear d (E ++ (r ∷ [])) N k b)).1 in
-      by-test (insideOne inside r.match E)
+      by-test (inside_one inside r.match E)
       (λ t. rw t (after_none d (E ++ (r ∷ [])) N j i l (rw t at h)))
       (λ t. rw t (kept-none d r K first (after_none d (E ++ (r ∷ [])) N) j i l (rw t at h)))
     where
@@ -98,8 +98,8 @@ module _ {M : Type 0} (A : Type 0) (inside : M → M → Bool) where
   none_hidden d N = after_none d [] N
 
   -- Where no row lies inside an earlier one, all stay.
-  all_stay : (d : Row M A) (E K : List (Row M A)) → ((i : ℕ) → i < length K → insideOne inside (get_or K i d).match E ≡ false)
-      → ((j i : ℕ) → j < i → i < length K → inside (get_or K i d).match (get_or K j d).match ≡ false) → stayingAfter inside E K ≡ K
+  all_stay : (d : Row M A) (E K : List (Row M A)) → ((i : ℕ) → i < length K → inside_one inside (get_or K i d).match E ≡ false)
+      → ((j i : ℕ) → j < i → i < length K → inside (get_or K i d).match (get_or K j d).match ≡ false) → staying_after inside E K ≡ K
   all_stay d E [] f g = refl
   all_stay d E (r ∷ K) f g =
       rw (f 0 (omega arith))
@@ -112,57 +112,57 @@ module _ {M : Type 0} (A : Type 0) (inside : M → M → Bool) where
   hidden-again [] = refl
   hidden-again (r ∷ N) = all_stay r [] (staying inside (r ∷ N)) (λ i h. refl) (none_hidden r (r ∷ N))
 
-  after_less : (E N : List (Row M A)) → length (stayingAfter inside E N) ≤ length N
+  after_less : (E N : List (Row M A)) → length (staying_after inside E N) ≤ length N
   after_less E [] = omega arith
   after_less E (r ∷ N) =
-      by-test (insideOne inside r.match E)
+      by-test (inside_one inside r.match E)
       (λ t. rw t (omega (arith, after_less (E ++ (r ∷ [])) N)))
       (λ t. rw t (omega (arith, after_less (E ++ (r ∷ [])) N)))
 
   pub hidden-less : HiddenLess A inside
   hidden-less N = after_less [] N
 
-  after-every : (T : Row M A → Type 0) (E N : List (Row M A)) → All T N → All T (stayingAfter inside E N)
+  after-every : (T : Row M A → Type 0) (E N : List (Row M A)) → All T N → All T (staying_after inside E N)
   after-every T E [] f = tt
   after-every T E (r ∷ N) f =
-      by-test (insideOne inside r.match E)
+      by-test (inside_one inside r.match E)
       (λ t. rw t (after-every T (E ++ (r ∷ [])) N f.1))
       (λ t. rw t (f.0, after-every T (E ++ (r ∷ [])) N f.1))
 
   pub hidden-every : HiddenEvery A inside
   hidden-every T N f = after-every T [] N f
 
-module _ {M P A : Type 0} (meets : M → P → Bool) (dontCare : A) (inside : M → M → Bool) where
+module _ {M P A : Type 0} (meets : M → P → Bool) (dont_care : A) (inside : M → M → Bool) where
   -- No match inside one of the rows is met.
   abbrev Unmet : List (Row M A) → P → Type 0
-  Unmet E p = (m : M) → insideOne inside m E ≡ true → meets m p ≡ false
+  Unmet E p = (m : M) → inside_one inside m E ≡ true → meets m p ≡ false
 
   unmet-snoc : Enclosing meets inside → (E : List (Row M A)) (r : Row M A) (p : P) → Unmet E p → meets r.match p ≡ false → Unmet (E ++ (r ∷ [])) p
   unmet-snoc meets-inside E r p u e m h =
-      let o : (insideOne inside m E || inside m r.match) ≡ true = sym (one-snoc inside m E r) ∙ h in
-      by-test (insideOne inside m E)
+      let o : (inside_one inside m E || inside m r.match) ≡ true = sym (one-snoc inside m E r) ∙ h in
+      by-test (inside_one inside m E)
       (λ t. u m t)
       (λ t. by-test (meets m p)
       (λ k. absurd (false≢true (sym e ∙ meets-inside m r.match p (rw t at o) k)))
       (λ k. k))
 
-  scan-after : Enclosing meets inside → (E N : List (Row M A)) (p : P) → Unmet E p → scan meets dontCare (stayingAfter inside E N) p ≡ scan meets dontCare N p
+  scan-after : Enclosing meets inside → (E N : List (Row M A)) (p : P) → Unmet E p → scan meets dont_care (staying_after inside E N) p ≡ scan meets dont_care N p
   scan-after meets-inside E [] p u = refl
   scan-after meets-inside E (r ∷ N) p u =
       by-test (meets r.match p)
-      (λ e. by-test (insideOne inside r.match E) (λ t. absurd (false≢true (sym (u r.match t) ∙ e))) (λ t. rw (t, e)))
+      (λ e. by-test (inside_one inside r.match E) (λ t. absurd (false≢true (sym (u r.match t) ∙ e))) (λ t. rw (t, e)))
       (λ e.
-      let rest : scan meets dontCare (stayingAfter inside (E ++ (r ∷ [])) N) p ≡ scan meets dontCare N p =
+      let rest : scan meets dont_care (staying_after inside (E ++ (r ∷ [])) N) p ≡ scan meets dont_care N p =
       scan-after meets-inside (E ++ (r ∷ [])) N p (unmet-snoc meets-inside E r p u e) in
-      by-test (insideOne inside r.match E) (λ t. rw (t, e) rest) (λ t. rw (t, e) rest))
+      by-test (inside_one inside r.match E) (λ t. rw (t, e) rest) (λ t. rw (t, e) rest))
 
-  pub scan-hidden : ScanHidden meets dontCare inside
+  pub scan-hidden : ScanHidden meets dont_care inside
   scan-hidden meets-inside N p = scan-after meets-inside [] N p (λ m h. absurd (false≢true h))
 
 module _ {M : Type 0} (A : Type 0) (inside : M → M → Bool) where
   -- Inside a row that lies inside one of the rows is inside one of them.
   one-trans : Nesting inside → (m : M) (r : Row M A) (N : List (Row M A))
-      → inside m r.match ≡ true → insideOne inside r.match N ≡ true → insideOne inside m N ≡ true
+      → inside m r.match ≡ true → inside_one inside r.match N ≡ true → inside_one inside m N ≡ true
   one-trans trans m r [] e h = h
   one-trans trans m r (s ∷ N) e h =
       by-test (inside r.match s.match)
@@ -170,20 +170,20 @@ module _ {M : Type 0} (A : Type 0) (inside : M → M → Bool) where
       (λ t. rw (one-trans trans m r N e (rw t at h)) (or-true (inside m s.match)))
 
   -- One row more.
-  enough-snoc : Nesting inside → (m : M) (N : List (Row M A)) (r : Row M A) → insideOne inside m (staying inside N) ≡ insideOne inside m N
-      → insideOne inside m (staying inside (N ++ (r ∷ []))) ≡ insideOne inside m (N ++ (r ∷ []))
+  enough-snoc : Nesting inside → (m : M) (N : List (Row M A)) (r : Row M A) → inside_one inside m (staying inside N) ≡ inside_one inside m N
+      → inside_one inside m (staying inside (N ++ (r ∷ []))) ≡ inside_one inside m (N ++ (r ∷ []))
   enough-snoc trans m N r e =
       rw (staying-snoc inside N r, one-snoc inside m N r)
-      (by-test (insideOne inside r.match N)
+      (by-test (inside_one inside r.match N)
       (λ t. rw (t, append-nil, e)
       (by-test (inside m r.match)
       (λ k. rw (one-trans trans m r N k t))
-      (λ k. rw k (sym (or-false (insideOne inside m N))))))
+      (λ k. rw k (sym (or-false (inside_one inside m N))))))
       (λ t. rw (t, one-snoc inside m (staying inside N) r, e)))
 
   -- To ask only the rows that stay is to ask all rows.
   enough-take : Nesting inside → (m : M) (d : Row M A) (N : List (Row M A)) (k : ℕ) → k ≤ length N
-      → insideOne inside m (staying inside (take k N)) ≡ insideOne inside m (take k N)
+      → inside_one inside m (staying inside (take k N)) ≡ inside_one inside m (take k N)
   enough-take trans m d N zero h = refl
   enough-take trans m d N (suc k) h = rw (take-suc N k d h) (enough-snoc trans m (take k N) (get_or N k d) (enough-take trans m d N k (omega arith)))
 
@@ -192,7 +192,7 @@ module _ {M : Type 0} (A : Type 0) (inside : M → M → Bool) where
       rw (take-suc N i d h, staying-snoc inside (take i N) (get_or N i d), enough-take trans (get_or N i d).match d N i (omega arith))
 
   -- Where a match lies inside one of some rows there is a first such row, and where there is one it lies inside it.
-  one_found : (d : Row M A) (m : M) (N : List (Row M A)) → insideOne inside m N ≡ true → InsideSome inside d m N
+  one_found : (d : Row M A) (m : M) (N : List (Row M A)) → inside_one inside m N ≡ true → InsideSome inside d m N
   one_found d m [] e = absurd (false≢true e)
   one_found d m (r ∷ N) e =
       by-test (inside m r.match)
@@ -201,7 +201,7 @@ module _ {M : Type 0} (A : Type 0) (inside : M → M → Bool) where
       let later : InsideSome inside d m N = one_found d m N (rw t at e) in
       record { place = suc later.place; within = omega (arith, later.within); lies = later.lies })
 
-  one_at : (d : Row M A) (m : M) (N : List (Row M A)) (i : ℕ) → i < length N → inside m (get_or N i d).match ≡ true → insideOne inside m N ≡ true
+  one_at : (d : Row M A) (m : M) (N : List (Row M A)) (i : ℕ) → i < length N → inside m (get_or N i d).match ≡ true → inside_one inside m N ≡ true
   one_at d m [] i h e = absurd (omega arith)
   one_at d m (r ∷ N) zero h e = rw e
   one_at d m (r ∷ N) (suc i) h e = rw (one_at d m N i (omega arith) e) (or-true (inside m r.match))

@@ -9,7 +9,7 @@ use lib.Seq.{get_or_at}
 use lib.Dec.{eqb}
 use borrow.Author.Tests.{eqb-false}
 use Rattle.logic.proofs.Tests.{by-test, by_le}
-use Rattle.theory.specs.Number.{above, levels, levelCount, priorities, atLevel, overlapsAt}
+use Rattle.theory.specs.Number.{above, levels, level_count, priorities, at_level, overlaps_at}
 use Rattle.theory.specs.Theorems.{PrioritiesRight, PrioritiesRange}
 use Rattle.theory.proofs.Seek.{Passing, passing-more}
 
@@ -49,10 +49,10 @@ module _ (over : ℕ → ℕ → Bool) where
       (λ l. omega (arith, above-counts ls i k j l o))
 
   -- A level above 0 comes from an overlapping row one level lower.
-  pub above_from : (ls : List ℕ) (i k l : ℕ) → above over ls i k ≡ suc l → Passing (overlapsAt over ls i l) k
+  pub above_from : (ls : List ℕ) (i k l : ℕ) → above over ls i k ≡ suc l → Passing (overlaps_at over ls i l) k
   above_from ls i zero l e = absurd (omega arith)
   above_from ls i (suc k) l e =
-      by-test (overlapsAt over ls i l k)
+      by-test (overlaps_at over ls i l k)
       (λ t. record { place = k; within = omega arith; passes = t })
       (λ t.
       let before : above over ls i k ≡ suc l =
@@ -63,19 +63,19 @@ module _ (over : ℕ → ℕ → Bool) where
       (λ o. let e' : max (above over ls i k) 0 ≡ suc l = rw o at e in omega arith) in
       passing-more (above_from ls i k l before))
 
-pub level-below : (ls : List ℕ) (i : ℕ) → i < length ls → get_or ls i 0 < levelCount ls
+pub level-below : (ls : List ℕ) (i : ℕ) → i < length ls → get_or ls i 0 < level_count ls
 level-below [] i h = absurd (omega arith)
 level-below (l ∷ ls) zero h = omega arith
 level-below (l ∷ ls) (suc i) h = omega (arith, level-below ls i (omega arith))
 
 -- The highest level is that of some row.
-pub level-highest : (ls : List ℕ) (l : ℕ) → levelCount ls ≡ suc l → Passing (atLevel ls l) (length ls)
+pub level-highest : (ls : List ℕ) (l : ℕ) → level_count ls ≡ suc l → Passing (at_level ls l) (length ls)
 level-highest [] l e = absurd (omega arith)
 level-highest (x ∷ ls) l e =
     by-test (eqb x l)
     (λ t. record { place = 0; within = omega arith; passes = t })
     (λ t.
-    let w : Passing (atLevel ls l) (length ls) = level-highest ls l (omega (arith, eqb-false x l t)) in
+    let w : Passing (at_level ls l) (length ls) = level-highest ls l (omega (arith, eqb-false x l t)) in
     record { place = suc w.place; within = omega (arith, w.within); passes = w.passes })
 
 get_d_map : (f : ℕ → ℕ) (ls : List ℕ) (i : ℕ) → i < length ls → get_or (map f ls) i 0 ≡ f (get_or ls i 0)
@@ -91,8 +91,8 @@ module _ (over : ℕ → ℕ → Bool) (n : ℕ) where
   level-above : (j i : ℕ) → j < i → i < n → over j i ≡ true → get_or (levels over n) j 0 < get_or (levels over n) i 0
   level-above j i h k o = rw ((levelled over n).rule i k) (above-counts over (levels over n) i i j h o)
 
-  pub priority : (i : ℕ) → i < n → get_or (priorities (levels over n)) i 0 ≡ levelCount (levels over n) - get_or (levels over n) i 0
-  priority i h = get_d_map (λ l. levelCount (levels over n) - l) (levels over n) i (omega (arith, length-levels))
+  pub priority : (i : ℕ) → i < n → get_or (priorities (levels over n)) i 0 ≡ level_count (levels over n) - get_or (levels over n) i 0
+  priority i h = get_d_map (λ l. level_count (levels over n) - l) (levels over n) i (omega (arith, length-levels))
 
   pub priorities-right : PrioritiesRight over n
   priorities-right j i h k o =

@@ -6,37 +6,37 @@ use mathlib.Core.Bool.{Bool, true, false≢true}
 use mathlib.Core.List.{List}
 use lib.ListN.{get_or, length}
 use Rattle.logic.proofs.Tests.{by-test, by_le}
-use Rattle.theory.specs.Rows.{Row, matchesAt}
-use Rattle.theory.specs.Number.{FirstPlace, rowsOverlap, levels, priorities, Right, Obeyed}
+use Rattle.theory.specs.Rows.{Row, matches_at}
+use Rattle.theory.specs.Number.{FirstPlace, rows_overlap, levels, priorities, Right, Obeyed}
 use Rattle.theory.specs.Theorems.{Overlapping, SwitchScan, SwitchPriorities, SwitchFirst}
 use Rattle.theory.proofs.Places.{scan-place}
 use Rattle.theory.proofs.Levels.{priorities-right}
 
 module _ {M P A : Type 0} (meets : M → P → Bool) (overlap : M → M → Bool) (overlapping : Overlapping meets overlap)
-    (d : Row M A) (N : List (Row M A)) (q : ℕ → ℕ) (right : Right (rowsOverlap overlap d N) (length N) q) (p : P) where
+    (d : Row M A) (N : List (Row M A)) (q : ℕ → ℕ) (right : Right (rows_overlap overlap d N) (length N) q) (p : P) where
   -- Of two matching rows the earlier has the higher number.
-  matching-higher : (j i : ℕ) → j < i → i < length N → matchesAt meets d N p j ≡ true → matchesAt meets d N p i ≡ true → q i < q j
+  matching-higher : (j i : ℕ) → j < i → i < length N → matches_at meets d N p j ≡ true → matches_at meets d N p i ≡ true → q i < q j
   matching-higher j i h k s t = right j i h k (overlapping (get_or N j d).match (get_or N i d).match p s t)
 
-  obeyed-first : (i : ℕ) → Obeyed meets d N q p i → FirstPlace (matchesAt meets d N p) (length N) i
+  obeyed-first : (i : ℕ) → Obeyed meets d N q p i → FirstPlace (matches_at meets d N p) (length N) i
   obeyed-first i o = record {
     within = o.within;
     passes = o.matches;
-    skips = λ j h. by-test (matchesAt meets d N p j)
+    skips = λ j h. by-test (matches_at meets d N p j)
         (λ t. absurd (omega (arith, matching-higher j i h o.within t o.matches, o.highest j (omega (arith, o.within)) t)))
         (λ t. t);
   }
 
-module _ {M P A : Type 0} (meets : M → P → Bool) (dontCare : A) (overlap : M → M → Bool) where
-  pub switch-scan : SwitchScan meets dontCare overlap
-  switch-scan overlapping d N q right p i o = sym (scan-place meets dontCare d N p i (obeyed-first meets overlap overlapping d N q right p i o)).0
+module _ {M P A : Type 0} (meets : M → P → Bool) (dont_care : A) (overlap : M → M → Bool) where
+  pub switch-scan : SwitchScan meets dont_care overlap
+  switch-scan overlapping d N q right p i o = sym (scan-place meets dont_care d N p i (obeyed-first meets overlap overlapping d N q right p i o)).0
 
-  pub switch-priorities : SwitchPriorities meets dontCare overlap
+  pub switch-priorities : SwitchPriorities meets dont_care overlap
   switch-priorities overlapping d N =
-      switch-scan overlapping d N (λ k. get_or (priorities (levels (rowsOverlap overlap d N) (length N))) k 0)
-      (priorities-right (rowsOverlap overlap d N) (length N))
+      switch-scan overlapping d N (λ k. get_or (priorities (levels (rows_overlap overlap d N) (length N))) k 0)
+      (priorities-right (rows_overlap overlap d N) (length N))
 
-  pub switch-first : SwitchFirst meets dontCare overlap
+  pub switch-first : SwitchFirst meets dont_care overlap
   switch-first overlapping d N q right p i f = record {
     within = f.within;
     matches = f.passes;

@@ -10,7 +10,7 @@ use lib.Dec.{eqb}
 use borrow.Author.Tests.{eq-eqb, ne_eqb, lt-ltb, le-ltb}
 use Rattle.logic.proofs.Tests.{by-test, by_le}
 use Rattle.theory.specs.Number.{has}
-use Rattle.theory.specs.Hidden.{placesWhere}
+use Rattle.theory.specs.Hidden.{places_where}
 use Rattle.theory.specs.Theorems.{HasWhere, WhereRises}
 use Rattle.theory.proofs.Fewest.{has-at}
 
@@ -22,7 +22,7 @@ module _ (test : ℕ → Bool) where
   pub has-where : HasWhere test
   has-where zero i = rw (le-ltb i 0 (omega arith))
   has-where (suc n) i =
-      rw (has-append i (placesWhere test n) (cond (test n) (n ∷ []) []), has-where n i)
+      rw (has-append i (places_where test n) (cond (test n) (n ∷ []) []), has-where n i)
       (by_le i n
       (λ l. by_le n i
       (λ g.
@@ -37,20 +37,20 @@ module _ (test : ℕ → Bool) where
       rw (le-ltb i n (omega arith), le-ltb i (suc n) l)
       (by-test (test n) (λ u. rw (u, ne_eqb i n (λ e. omega arith))) (λ u. rw u))))
 
-  -- Every place in placesWhere lies below n.
-  where_below : (n k : ℕ) → k < length (placesWhere test n) → get_or (placesWhere test n) k 0 < n
+  -- Every place in places_where lies below n.
+  where_below : (n k : ℕ) → k < length (places_where test n) → get_or (places_where test n) k 0 < n
   where_below n k h =
-      by_le n (get_or (placesWhere test n) k 0)
+      by_le n (get_or (places_where test n) k 0)
       (λ l.
-      let out : has (get_or (placesWhere test n) k 0) (placesWhere test n) ≡ false =
-      has-where n (get_or (placesWhere test n) k 0) ∙ rw (le-ltb (get_or (placesWhere test n) k 0) n l) in
-      absurd (false≢true (sym out ∙ has-at (placesWhere test n) k h)))
+      let out : has (get_or (places_where test n) k 0) (places_where test n) ≡ false =
+      has-where n (get_or (places_where test n) k 0) ∙ rw (le-ltb (get_or (places_where test n) k 0) n l) in
+      absurd (false≢true (sym out ∙ has-at (places_where test n) k h)))
       (λ l. l)
 
   pub where-rises : WhereRises test
   where-rises zero k h = absurd (omega arith)
   where-rises (suc n) k h =
-      let ps : List ℕ = placesWhere test n in
+      let ps : List ℕ = places_where test n in
       by-test (test n)
       (λ t.
       let g : suc k < length (ps ++ (n ∷ [])) = rw t at h in

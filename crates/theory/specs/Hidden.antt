@@ -1,11 +1,11 @@
 -- Hidden rows: a row whose match lies inside one earlier row's match goes, the others stay in order. See
 -- docs/FORMAT.md, "Hidden rows".
 --
---   insideOne          whether a match lies inside that of one of some rows
---   stayingAfter       of rows that stand behind others, those that lie inside no row before them
+--   inside_one          whether a match lies inside that of one of some rows
+--   staying_after       of rows that stand behind others, those that lie inside no row before them
 --   staying            of a table's rows, those that lie inside no earlier one
---   insideEarlier      whether the row at a place lies inside an earlier row
---   placesWhere        the places that pass a test, in order
+--   inside_earlier      whether the row at a place lies inside an earlier row
+--   places_where        the places that pass a test, in order
 --   Enclosing          asked of `inside`: a packet that meets the inner match meets the outer
 --   Nesting            asked of it too: what lies inside a match lies inside all that this one lies inside
 --   InsideSome         one of some rows whose match a match lies inside
@@ -14,24 +14,24 @@ use Rattle.theory.specs.Rows.{Row}
 
 module _ {M A : Type 0} (inside : M → M → Bool) where
   -- Whether a match lies inside that of one of the rows.
-  abbrev pub insideOne : M → List (Row M A) → Bool
-  insideOne m [] = false
-  insideOne m (r ∷ N) = inside m r.match || insideOne m N
+  abbrev pub inside_one : M → List (Row M A) → Bool
+  inside_one m [] = false
+  inside_one m (r ∷ N) = inside m r.match || inside_one m N
 
   -- Of the rows N, which stand behind the rows E, those that lie inside no row before them, whether that one goes or
   -- stays.
-  abbrev pub stayingAfter : List (Row M A) → List (Row M A) → List (Row M A)
-  stayingAfter E [] = []
-  stayingAfter E (r ∷ N) =
-      let rest : List (Row M A) = stayingAfter (E ++ (r ∷ [])) N in cond (insideOne r.match E) rest (r ∷ rest)
+  abbrev pub staying_after : List (Row M A) → List (Row M A) → List (Row M A)
+  staying_after E [] = []
+  staying_after E (r ∷ N) =
+      let rest : List (Row M A) = staying_after (E ++ (r ∷ [])) N in cond (inside_one r.match E) rest (r ∷ rest)
 
   -- The rows that lie inside no earlier row of the table.
   abbrev pub staying : List (Row M A) → List (Row M A)
-  staying N = stayingAfter [] N
+  staying N = staying_after [] N
 
   -- Whether row i lies inside an earlier row; d stands for a row past the last.
-  abbrev pub insideEarlier : Row M A → List (Row M A) → ℕ → Bool
-  insideEarlier d N i = insideOne (get_or N i d).match (take i N)
+  abbrev pub inside_earlier : Row M A → List (Row M A) → ℕ → Bool
+  inside_earlier d N i = inside_one (get_or N i d).match (take i N)
 
   -- A row of the table whose match m lies inside, by its place.
   pub record InsideSome (d : Row M A) (m : M) (N : List (Row M A)) : Type 0 where
@@ -40,9 +40,9 @@ module _ {M A : Type 0} (inside : M → M → Bool) where
     pub lies : inside m (get_or N place d).match ≡ true
 
 -- The places below n that pass the test, in order.
-abbrev pub placesWhere : (ℕ → Bool) → ℕ → List ℕ
-placesWhere test zero = []
-placesWhere test (suc n) = placesWhere test n ++ cond (test n) (n ∷ []) []
+abbrev pub places_where : (ℕ → Bool) → ℕ → List ℕ
+places_where test zero = []
+places_where test (suc n) = places_where test n ++ cond (test n) (n ∷ []) []
 
 -- A packet that meets a match meets every match that it lies inside.
 abbrev pub Enclosing : {M P : Type 0} → (M → P → Bool) → (M → M → Bool) → Type 0

@@ -1,29 +1,29 @@
 -- The numbering over places: rows are known by place, and `over j i` tests whether rows j and i overlap. See
 -- docs/FORMAT.md, "Priorities".
 --
---   rowsOverlap       that test, for the rows of a table
+--   rows_overlap       that test, for the rows of a table
 --   FirstPlace        a place is the first that passes a test
 --   seek              that place, computed
 --   above             the level that the rows before a place give a row
 --   levels            the levels of the first n rows
---   levelCount        how many levels there are: L
+--   level_count        how many levels there are: L
 --   priorities        the rows' priorities, from their levels
---   atLevel           whether a row has a level
---   firstOfLevel      the first row of a level
---   overlapsAt        whether a row overlaps another and has a level
---   stepBack          the first earlier such row
---   chainTo           the chain that ends at a row
+--   at_level           whether a row has a level
+--   first_of_level      the first row of a level
+--   overlaps_at        whether a row overlaps another and has a level
+--   step_back          the first earlier such row
+--   chain_to           the chain that ends at a row
 --   chain             the chain that forces L priorities
 --   Chained           what makes a chain right
 --   Right             what makes a numbering right
 --   Obeyed            a switch with such numbers may obey a row
 --   has, distinct     whether a list has a number, and its distinct numbers
 use Rattle.std.specs.Prelude.{ℕ, zero, suc, ◌-◌, ◌≤◌, ◌<◌, max, ◌≡◌, Bool, true, false, cond, ◌&&◌, List, [], ◌∷◌, ◌++◌, map, get_or, length, eqb}
-use Rattle.theory.specs.Rows.{Row, matchesAt}
+use Rattle.theory.specs.Rows.{Row, matches_at}
 
 -- Whether the rows at two places of a table overlap; d stands for a row past the last.
-abbrev pub rowsOverlap : {M A : Type 0} → (M → M → Bool) → Row M A → List (Row M A) → ℕ → ℕ → Bool
-rowsOverlap overlap d N j i = overlap (get_or N j d).match (get_or N i d).match
+abbrev pub rows_overlap : {M A : Type 0} → (M → M → Bool) → Row M A → List (Row M A) → ℕ → ℕ → Bool
+rows_overlap overlap d N j i = overlap (get_or N j d).match (get_or N i d).match
 
 -- Place i is the first below n that passes the test.
 pub record FirstPlace (test : ℕ → Bool) (n i : ℕ) : Type 0 where
@@ -49,55 +49,55 @@ module _ (over : ℕ → ℕ → Bool) where
   levels (suc n) = levels n ++ (above (levels n) n n ∷ [])
 
 -- How many levels there are: 1 more than the highest, 0 if there is no row.
-abbrev pub levelCount : List ℕ → ℕ
-levelCount [] = 0
-levelCount (l ∷ ls) = max (suc l) (levelCount ls)
+abbrev pub level_count : List ℕ → ℕ
+level_count [] = 0
+level_count (l ∷ ls) = max (suc l) (level_count ls)
 
 -- With L levels, a row's priority is L minus its level.
 abbrev pub priorities : List ℕ → List ℕ
-priorities ls = map (λ l. levelCount ls - l) ls
+priorities ls = map (λ l. level_count ls - l) ls
 
 -- Row j has level l.
-abbrev pub atLevel : List ℕ → ℕ → ℕ → Bool
-atLevel ls l j = eqb (get_or ls j 0) l
+abbrev pub at_level : List ℕ → ℕ → ℕ → Bool
+at_level ls l j = eqb (get_or ls j 0) l
 
 -- The first row of level l.
-abbrev pub firstOfLevel : List ℕ → ℕ → ℕ
-firstOfLevel ls l = seek (atLevel ls l) (length ls) 0
+abbrev pub first_of_level : List ℕ → ℕ → ℕ
+first_of_level ls l = seek (at_level ls l) (length ls) 0
 
 module _ (over : ℕ → ℕ → Bool) (ls : List ℕ) where
   -- Row j overlaps row i and has level l.
-  abbrev pub overlapsAt : ℕ → ℕ → ℕ → Bool
-  overlapsAt i l j = over j i && atLevel ls l j
+  abbrev pub overlaps_at : ℕ → ℕ → ℕ → Bool
+  overlaps_at i l j = over j i && at_level ls l j
 
   -- The first row before i that overlaps it and has level l.
-  abbrev pub stepBack : ℕ → ℕ → ℕ
-  stepBack i l = seek (overlapsAt i l) i 0
+  abbrev pub step_back : ℕ → ℕ → ℕ
+  step_back i l = seek (overlaps_at i l) i 0
 
   -- The chain that ends at row i of level l, in scan order: each step back goes one level lower.
-  abbrev pub chainTo : ℕ → ℕ → List ℕ
-  chainTo zero i = i ∷ []
-  chainTo (suc l) i = chainTo l (stepBack i l) ++ (i ∷ [])
+  abbrev pub chain_to : ℕ → ℕ → List ℕ
+  chain_to zero i = i ∷ []
+  chain_to (suc l) i = chain_to l (step_back i l) ++ (i ∷ [])
 
   -- With L levels, the chain that ends at the first row of level L - 1; no row if L is 0.
-  abbrev pub chainUnder : ℕ → List ℕ
-  chainUnder zero = []
-  chainUnder (suc l) = chainTo l (firstOfLevel ls l)
+  abbrev pub chain_under : ℕ → List ℕ
+  chain_under zero = []
+  chain_under (suc l) = chain_to l (first_of_level ls l)
 
   -- The chain.
   abbrev pub chain : List ℕ
-  chain = chainUnder (levelCount ls)
+  chain = chain_under (level_count ls)
 
 -- L places of rows in scan order, neighbours overlapping: the end is the first row of level L - 1, each step back the
 -- first earlier overlapping row one level lower.
 pub record Chained (over : ℕ → ℕ → Bool) (ls c : List ℕ) : Type 0 where
-  pub many : length c ≡ levelCount ls
+  pub many : length c ≡ level_count ls
   pub rows : (k : ℕ) → k < length c → get_or c k 0 < length ls
   pub in_order : (k : ℕ) → suc k < length c → get_or c k 0 < get_or c (suc k) 0
   pub overlaps : (k : ℕ) → suc k < length c → over (get_or c k 0) (get_or c (suc k) 0) ≡ true
-  pub ends : (k : ℕ) → suc k ≡ length c → FirstPlace (atLevel ls k) (length ls) (get_or c k 0)
+  pub ends : (k : ℕ) → suc k ≡ length c → FirstPlace (at_level ls k) (length ls) (get_or c k 0)
   pub steps : (k : ℕ) → suc k < length c
-      → FirstPlace (overlapsAt over ls (get_or c (suc k) 0) k) (get_or c (suc k) 0) (get_or c k 0)
+      → FirstPlace (overlaps_at over ls (get_or c (suc k) 0) k) (get_or c (suc k) 0) (get_or c k 0)
 
 -- A numbering of n rows is right where of two rows that overlap the earlier has the strictly higher number.
 abbrev pub Right : (ℕ → ℕ → Bool) → ℕ → (ℕ → ℕ) → Type 0
@@ -117,5 +117,5 @@ distinct (x ∷ xs) = cond (has x xs) (distinct xs) (x ∷ distinct xs)
 pub record Obeyed {M P A : Type 0} (meets : M → P → Bool) (d : Row M A) (N : List (Row M A)) (q : ℕ → ℕ) (p : P)
     (i : ℕ) : Type 0 where
   pub within : i < length N
-  pub matches : matchesAt meets d N p i ≡ true
-  pub highest : (j : ℕ) → j < length N → matchesAt meets d N p j ≡ true → q j ≤ q i
+  pub matches : matches_at meets d N p i ≡ true
+  pub highest : (j : ℕ) → j < length N → matches_at meets d N p j ≡ true → q j ≤ q i

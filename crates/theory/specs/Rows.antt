@@ -5,11 +5,11 @@
 --   scan           the first matching row's action, or don't care
 --   place          the first matching row's place, or the number of rows
 --   tried          how many rows the scan tries
---   matchesAt      whether the row at a place matches
+--   matches_at      whether the row at a place matches
 --   kept           an atom's table
---   commonRow      a row of N and a row of N' as one
---   commonWith     the common rows of one row and a table
---   commonRows     the common rows of two tables
+--   common_row      a row of N and a row of N' as one
+--   common_with     the common rows of one row and a table
+--   common_rows     the common rows of two tables
 --   join           two tables joined
 use Rattle.std.specs.Prelude.{ℕ, suc, Bool, cond, List, [], ◌∷◌, ◌++◌, get_or}
 
@@ -18,10 +18,10 @@ pub record Row (M A : Type 0) : Type 0 where
   pub match : M
   pub action : A
 
-module _ {M P A : Type 0} (meets : M → P → Bool) (dontCare : A) where
+module _ {M P A : Type 0} (meets : M → P → Bool) (dont_care : A) where
   -- The first matching row's action; don't care if none matches.
   abbrev pub scan : List (Row M A) → P → A
-  scan [] p = dontCare
+  scan [] p = dont_care
   scan (r ∷ N) p = cond (meets r.match p) r.action (scan N p)
 
 module _ {M P A : Type 0} (meets : M → P → Bool) where
@@ -36,28 +36,28 @@ module _ {M P A : Type 0} (meets : M → P → Bool) where
   tried (r ∷ N) p = suc (cond (meets r.match p) 0 (tried N p))
 
 -- Whether the row at place i of a table matches; d stands for a row past the last.
-abbrev pub matchesAt : {M P A : Type 0} → (M → P → Bool) → Row M A → List (Row M A) → P → ℕ → Bool
-matchesAt meets d N p i = meets (get_or N i d).match p
+abbrev pub matches_at : {M P A : Type 0} → (M → P → Bool) → Row M A → List (Row M A) → P → ℕ → Bool
+matches_at meets d N p i = meets (get_or N i d).match p
 
 -- An atom's table: one row, or none if its match is empty.
 abbrev pub kept : {M A : Type 0} → (M → Bool) → Row M A → List (Row M A)
 kept empty r = cond (empty r.match) [] (r ∷ [])
 
 -- The common match of a row of N and a row of N', with the joined action, left from N.
-abbrev pub commonRow : {M A : Type 0} → (M → M → M) → (A → A → A) → Row M A → Row M A → Row M A
-commonRow common op r s = record { match = common r.match s.match; action = op r.action s.action }
+abbrev pub common_row : {M A : Type 0} → (M → M → M) → (A → A → A) → Row M A → Row M A → Row M A
+common_row common op r s = record { match = common r.match s.match; action = op r.action s.action }
 
 module _ {M A : Type 0} (common : M → M → M) (empty : M → Bool) (op : A → A → A) where
   -- One row of N with each row of N' in order, dropped if empty.
-  abbrev pub commonWith : Row M A → List (Row M A) → List (Row M A)
-  commonWith r [] = []
-  commonWith r (s ∷ N') = kept empty (commonRow common op r s) ++ commonWith r N'
+  abbrev pub common_with : Row M A → List (Row M A) → List (Row M A)
+  common_with r [] = []
+  common_with r (s ∷ N') = kept empty (common_row common op r s) ++ common_with r N'
 
   -- Each row of N in order, with each row of N' in order.
-  abbrev pub commonRows : List (Row M A) → List (Row M A) → List (Row M A)
-  commonRows [] N' = []
-  commonRows (r ∷ N) N' = commonWith r N' ++ commonRows N N'
+  abbrev pub common_rows : List (Row M A) → List (Row M A) → List (Row M A)
+  common_rows [] N' = []
+  common_rows (r ∷ N) N' = common_with r N' ++ common_rows N N'
 
   -- N joined with N': the common rows, then N, then N'.
   abbrev pub join : List (Row M A) → List (Row M A) → List (Row M A)
-  join N N' = commonRows N N' ++ (N ++ N')
+  join N N' = common_rows N N' ++ (N ++ N')

@@ -21,39 +21,39 @@
 --   HiddenLess, HiddenEvery                no more rows than before, each with what every row has
 use Rattle.std.specs.Prelude.{ℕ, suc, ◌+◌, ◌*◌, ◌≤◌, ◌<◌, ◌≡◌, Bool, true, false, cond, not, ◌&&◌, List, [], ◌∷◌, ◌++◌, map, ◌↔◌, ltb, get_or, length, take}
 use Rattle.logic.specs.Lists.{All}
-use Rattle.theory.specs.Rows.{Row, scan, place, tried, matchesAt, commonRow, join}
+use Rattle.theory.specs.Rows.{Row, scan, place, tried, matches_at, common_row, join}
 use Rattle.theory.specs.Tree.{Tree, node, bare, ◌▸◌, Node, EveryNode, GoodNode, own, eval, compile}
-use Rattle.theory.specs.Nodes.{Listed, plant, listTree, listTrees, ChildrenFound}
-use Rattle.theory.specs.Number.{rowsOverlap, FirstPlace, levels, levelCount, priorities, chain, Chained, Right}
+use Rattle.theory.specs.Nodes.{Listed, plant, list_tree, list_trees, ChildrenFound}
+use Rattle.theory.specs.Number.{rows_overlap, FirstPlace, levels, level_count, priorities, chain, Chained, Right}
 use Rattle.theory.specs.Number.{distinct, has, Obeyed}
-use Rattle.theory.specs.Hidden.{insideOne, staying, insideEarlier, InsideSome, placesWhere, Enclosing, Nesting}
+use Rattle.theory.specs.Hidden.{inside_one, staying, inside_earlier, InsideSome, places_where, Enclosing, Nesting}
 
-module _ {M P A O : Type 0} (meets : M → P → Bool) (dontCare : A) (joined : O → A → A → A) (common : M → M → M)
+module _ {M P A O : Type 0} (meets : M → P → Bool) (dont_care : A) (joined : O → A → A → A) (common : M → M → M)
     (empty : M → Bool) where
   -- A packet meets the common match exactly when it meets both; an empty match is met by no packet; don't care is every
   -- operator's identity.
   pub record Laws : Type 0 where
     pub meets-common : (m n : M) (p : P) → meets (common m n) p ≡ (meets m p && meets n p)
     pub meets-empty : (m : M) (p : P) → empty m ≡ true → meets m p ≡ false
-    pub identity-left : (o : O) (a : A) → joined o dontCare a ≡ a
-    pub identity-right : (o : O) (a : A) → joined o a dontCare ≡ a
+    pub identity-left : (o : O) (a : A) → joined o dont_care a ≡ a
+    pub identity-right : (o : O) (a : A) → joined o a dont_care ≡ a
 
   -- Lemma 1: the scan of a join is the join of the scans.
   abbrev pub ScanJoin : Type 0
   ScanJoin = Laws → (o : O) (N N' : List (Row M A)) (p : P)
-      → scan meets dontCare (join common empty (joined o) N N') p
-      ≡ joined o (scan meets dontCare N p) (scan meets dontCare N' p)
+      → scan meets dont_care (join common empty (joined o) N N') p
+      ≡ joined o (scan meets dont_care N p) (scan meets dont_care N' p)
 
   -- Theorem 1: the scan of the compiled rows is the tree's action, for every tree and packet.
   abbrev pub ScanCompile : Type 0
   ScanCompile = Laws → (t : Tree (Node O M A)) (p : P)
-      → scan meets dontCare (compile common empty joined t) p ≡ eval meets dontCare joined t p
+      → scan meets dont_care (compile common empty joined t) p ≡ eval meets dont_care joined t p
 
   -- A chain of nodes a, b, c is joined from the last up; no operator need be associative.
   abbrev pub NodeChain : Type 0
   NodeChain = Laws → (a b c : Node O M A) (p : P)
-      → let action : Node O M A → A = λ n. own meets dontCare joined n.inner n.atoms p in
-      scan meets dontCare (compile common empty joined (node a (node b (node c bare ▸ bare) ▸ bare))) p
+      → let action : Node O M A → A = λ n. own meets dont_care joined n.inner n.atoms p in
+      scan meets dont_care (compile common empty joined (node a (node b (node c bare ▸ bare) ▸ bare))) p
       ≡ joined a.parent (action a) (joined b.parent (action b) (action c))
 
 module _ {M A : Type 0} (common : M → M → M) (empty : M → Bool) (op : A → A → A) where
@@ -67,29 +67,29 @@ module _ {M A O : Type 0} (joined : O → A → A → A) (common : M → M → M
   -- has; and no compiled row has the empty match.
   abbrev pub CompileEvery : Type 1
   CompileEvery = (K : O → Type 0) (T : Row M A → Type 0)
-      → ((o : O) (r s : Row M A) → K o → T r → T s → T (commonRow common (joined o) r s))
+      → ((o : O) (r s : Row M A) → K o → T r → T s → T (common_row common (joined o) r s))
       → (t : Tree (Node O M A)) → EveryNode (GoodNode K T) t
       → All (λ r. T r × (empty r.match ≡ false)) (compile common empty joined t)
 
 module _ (X : Type 0) where
   -- Where every node finds its children, the list of the planted trees is the nodes.
   abbrev pub ListPlant : Type 0
-  ListPlant = (ns : List (Listed X)) → ChildrenFound ns → listTrees (plant ns) ≡ ns
+  ListPlant = (ns : List (Listed X)) → ChildrenFound ns → list_trees (plant ns) ≡ ns
 
   -- The list of a tree, planted, is that tree alone.
   abbrev pub PlantList : Type 0
-  PlantList = (t : Tree X) → plant (listTree t) ≡ t ▸ bare
+  PlantList = (t : Tree X) → plant (list_tree t) ≡ t ▸ bare
 
-module _ {M P A : Type 0} (meets : M → P → Bool) (dontCare : A) where
+module _ {M P A : Type 0} (meets : M → P → Bool) (dont_care : A) where
   -- Where row i is the first that matches, the scan answers its action and has tried its place plus 1 rows.
   abbrev pub ScanPlace : Type 0
-  ScanPlace = (d : Row M A) (N : List (Row M A)) (p : P) (i : ℕ) → FirstPlace (matchesAt meets d N p) (length N) i
-      → (scan meets dontCare N p ≡ (get_or N i d).action) × (place meets N p ≡ i) × (tried meets N p ≡ suc i)
+  ScanPlace = (d : Row M A) (N : List (Row M A)) (p : P) (i : ℕ) → FirstPlace (matches_at meets d N p) (length N) i
+      → (scan meets dont_care N p ≡ (get_or N i d).action) × (place meets N p ≡ i) × (tried meets N p ≡ suc i)
 
   -- Where no row matches, the scan answers don't care and has tried all rows.
   abbrev pub ScanNone : Type 0
-  ScanNone = (d : Row M A) (N : List (Row M A)) (p : P) → ((i : ℕ) → i < length N → matchesAt meets d N p i ≡ false)
-      → (scan meets dontCare N p ≡ dontCare) × (place meets N p ≡ length N) × (tried meets N p ≡ length N)
+  ScanNone = (d : Row M A) (N : List (Row M A)) (p : P) → ((i : ℕ) → i < length N → matches_at meets d N p i ≡ false)
+      → (scan meets dont_care N p ≡ dont_care) × (place meets N p ≡ length N) × (tried meets N p ≡ length N)
 
 module _ (over : ℕ → ℕ → Bool) (n : ℕ) where
   -- Of two rows that overlap the earlier has the strictly higher priority.
@@ -99,16 +99,16 @@ module _ (over : ℕ → ℕ → Bool) (n : ℕ) where
   -- Each row's priority lies in 1..L.
   abbrev pub PrioritiesRange : Type 0
   PrioritiesRange = (i : ℕ) → i < n
-      → let q : ℕ = get_or (priorities (levels over n)) i 0 in (1 ≤ q) × (q ≤ levelCount (levels over n))
+      → let q : ℕ = get_or (priorities (levels over n)) i 0 in (1 ≤ q) × (q ≤ level_count (levels over n))
 
   -- There are exactly L distinct priorities.
   abbrev pub PrioritiesCount : Type 0
-  PrioritiesCount = length (distinct (priorities (levels over n))) ≡ levelCount (levels over n)
+  PrioritiesCount = length (distinct (priorities (levels over n))) ≡ level_count (levels over n)
 
   -- Every right numbering of the same rows has at least L distinct numbers.
   abbrev pub FewestPriorities : Type 0
   FewestPriorities = (qs : List ℕ) → length qs ≡ n → Right over n (λ i. get_or qs i 0)
-      → levelCount (levels over n) ≤ length (distinct qs)
+      → level_count (levels over n) ≤ length (distinct qs)
 
   -- The chain is right.
   abbrev pub ChainHolds : Type 0
@@ -118,40 +118,40 @@ module _ (over : ℕ → ℕ → Bool) (n : ℕ) where
 abbrev pub Overlapping : {M P : Type 0} → (M → P → Bool) → (M → M → Bool) → Type 0
 Overlapping {M} {P} meets overlap = (m n : M) (p : P) → meets m p ≡ true → meets n p ≡ true → overlap m n ≡ true
 
-module _ {M P A : Type 0} (meets : M → P → Bool) (dontCare : A) (overlap : M → M → Bool) where
+module _ {M P A : Type 0} (meets : M → P → Bool) (dont_care : A) (overlap : M → M → Bool) where
   -- Under a right numbering, whatever row a switch obeys has the scan's action.
   abbrev pub SwitchScan : Type 0
   SwitchScan = Overlapping meets overlap → (d : Row M A) (N : List (Row M A)) (q : ℕ → ℕ)
-      → Right (rowsOverlap overlap d N) (length N) q
-      → (p : P) (i : ℕ) → Obeyed meets d N q p i → (get_or N i d).action ≡ scan meets dontCare N p
+      → Right (rows_overlap overlap d N) (length N) q
+      → (p : P) (i : ℕ) → Obeyed meets d N q p i → (get_or N i d).action ≡ scan meets dont_care N p
 
   -- So it is under our priorities.
   abbrev pub SwitchPriorities : Type 0
   SwitchPriorities = Overlapping meets overlap → (d : Row M A) (N : List (Row M A)) (p : P) (i : ℕ)
-      → Obeyed meets d N (λ k. get_or (priorities (levels (rowsOverlap overlap d N) (length N))) k 0) p i
-      → (get_or N i d).action ≡ scan meets dontCare N p
+      → Obeyed meets d N (λ k. get_or (priorities (levels (rows_overlap overlap d N) (length N))) k 0) p i
+      → (get_or N i d).action ≡ scan meets dont_care N p
 
   -- Where some row matches, the switch has a row to obey: the first that matches.
   abbrev pub SwitchFirst : Type 0
   SwitchFirst = Overlapping meets overlap → (d : Row M A) (N : List (Row M A)) (q : ℕ → ℕ)
-      → Right (rowsOverlap overlap d N) (length N) q
-      → (p : P) (i : ℕ) → FirstPlace (matchesAt meets d N p) (length N) i → Obeyed meets d N q p i
+      → Right (rows_overlap overlap d N) (length N) q
+      → (p : P) (i : ℕ) → FirstPlace (matches_at meets d N p) (length N) i → Obeyed meets d N q p i
 
-module _ {M P A : Type 0} (meets : M → P → Bool) (dontCare : A) (inside : M → M → Bool) where
+module _ {M P A : Type 0} (meets : M → P → Bool) (dont_care : A) (inside : M → M → Bool) where
   -- Without the hidden rows the scan is the same, for every packet.
   abbrev pub ScanHidden : Type 0
   ScanHidden = Enclosing meets inside → (N : List (Row M A)) (p : P)
-      → scan meets dontCare (staying inside N) p ≡ scan meets dontCare N p
+      → scan meets dont_care (staying inside N) p ≡ scan meets dont_care N p
 
 module _ {M : Type 0} (A : Type 0) (inside : M → M → Bool) where
   -- What stays are the rows at the places that lie inside no earlier row of the table, in order.
   abbrev pub HiddenExactly : Type 0
   HiddenExactly = (d : Row M A) (N : List (Row M A))
-      → staying inside N ≡ map (λ i. get_or N i d) (placesWhere (λ i. not (insideEarlier inside d N i)) (length N))
+      → staying inside N ≡ map (λ i. get_or N i d) (places_where (λ i. not (inside_earlier inside d N i)) (length N))
 
   -- A match lies inside one of some rows exactly when there is one that it lies inside.
   abbrev pub OneExactly : Type 0
-  OneExactly = (d : Row M A) (m : M) (N : List (Row M A)) → (insideOne inside m N ≡ true) ↔ InsideSome inside d m N
+  OneExactly = (d : Row M A) (m : M) (N : List (Row M A)) → (inside_one inside m N ≡ true) ↔ InsideSome inside d m N
 
   -- Of what stays no row lies inside an earlier one.
   abbrev pub NoneHidden : Type 0
@@ -166,7 +166,7 @@ module _ {M : Type 0} (A : Type 0) (inside : M → M → Bool) where
   abbrev pub HiddenStep : Type 0
   HiddenStep = Nesting inside → (d : Row M A) (N : List (Row M A)) (i : ℕ) → i < length N
       → let K : List (Row M A) = staying inside (take i N) in
-      staying inside (take (suc i) N) ≡ K ++ cond (insideOne inside (get_or N i d).match K) [] (get_or N i d ∷ [])
+      staying inside (take (suc i) N) ≡ K ++ cond (inside_one inside (get_or N i d).match K) [] (get_or N i d ∷ [])
 
   -- No more rows stay than there were.
   abbrev pub HiddenLess : Type 0
@@ -179,9 +179,9 @@ module _ {M : Type 0} (A : Type 0) (inside : M → M → Bool) where
 module _ (test : ℕ → Bool) where
   -- The places that pass the test are had, and no other.
   abbrev pub HasWhere : Type 0
-  HasWhere = (n i : ℕ) → has i (placesWhere test n) ≡ (ltb i n && test i)
+  HasWhere = (n i : ℕ) → has i (places_where test n) ≡ (ltb i n && test i)
 
   -- Each lies after the one before it.
   abbrev pub WhereRises : Type 0
-  WhereRises = (n k : ℕ) → suc k < length (placesWhere test n)
-      → get_or (placesWhere test n) k 0 < get_or (placesWhere test n) (suc k) 0
+  WhereRises = (n k : ℕ) → suc k < length (places_where test n)
+      → get_or (places_where test n) k 0 < get_or (places_where test n) (suc k) 0

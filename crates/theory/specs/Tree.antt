@@ -49,11 +49,11 @@ pub record GoodNode {O M A : Type 0} (K : O → Type 0) (T : Row M A → Type 0)
   pub sibling : K n.sibling
   pub atoms : All T n.atoms
 
-module _ {M P A O : Type 0} (meets : M → P → Bool) (dontCare : A) (joined : O → A → A → A) where
+module _ {M P A O : Type 0} (meets : M → P → Bool) (dont_care : A) (joined : O → A → A → A) where
   -- The matching atoms' actions, each one counted, folded from the last, don't care at the end. Figure 1: cmb = A'₁ +
   -- .. + A'ₖ + 0.
   abbrev pub own : O → List (Row M A) → P → A
-  own i [] p = dontCare
+  own i [] p = dont_care
   own i (x ∷ xs) p = cond (meets x.match p) (joined i x.action (own i xs p)) (own i xs p)
 
   abbrev mutual
@@ -64,7 +64,7 @@ module _ {M P A O : Type 0} (meets : M → P → Bool) (dontCare : A) (joined : 
     -- The children's actions folded from the last, don't care at the end. Figure 1: Aᵢ = eval(Tᵢ, K) +S Aᵢ₊₁, the last
     -- with 0.
     pub evals : Forest (Node O M A) → O → P → A
-    evals bare s p = dontCare
+    evals bare s p = dont_care
     evals (t ▸ ts) s p = joined s (eval t p) (evals ts s p)
 
 -- Tables are joined exactly as the actions above are folded.

@@ -3,7 +3,7 @@ use Prim.Native.Nat.{ℕ}
 use mathlib.Core.Path.{◌≡◌, ap₂, ◌∙◌}
 use mathlib.Core.Bool.{Bool, true, false}
 use mathlib.Core.List.{List}
-use Rattle.flow.specs.Packet.{packetOf, rightPacketWords, wrongPacket}
+use Rattle.flow.specs.Packet.{packet_of, right_packet_words, wrong_packet}
 use Rattle.flow.specs.declared.Packet.{Packet}
 use Rattle.action.specs.declared.Action.{Action}
 use Rattle.refusal.specs.Plain.{plain}
@@ -13,10 +13,10 @@ use Rattle.policy.specs.declared.Layout.{Layout}
 use Rattle.policy.specs.declared.Reading.{Reading}
 use Rattle.policy.specs.declared.Reading.TheVariants.{Accepted, Refused}
 use Rattle.refusal.specs.declared.Refusal.{Refusal}
-use Rattle.nodes.specs.Nodes.{rootSpot}
+use Rattle.nodes.specs.Nodes.{root_spot}
 use Rattle.nodes.specs.declared.Spot.{Spot}
 use Rattle.nodes.proofs.Walk.{root-tree}
-use Rattle.tree.specs.Action.{evalTree, acceptedAction, treeActionOf}
+use Rattle.tree.specs.Action.{eval_tree, accepted_action, tree_action_of}
 use Rattle.tree.specs.Steps.{TreeGave}
 use Rattle.tree.specs.Theorems.{ActionEval, ActionRefused, ActionPacket}
 use Rattle.tree.specs.declared.Evaluated.{Evaluated}
@@ -24,37 +24,37 @@ use Rattle.tree.specs.declared.Evaluated.TheVariants as evaluated
 use Rattle.tree.specs.declared.Gave.{Gave}
 
 -- what the walk from the root gives
-pub root-gave : (f : List ℕ) (l : Layout) → read_of f ≡ Accepted l → (at : Spot) → at ≡ rootSpot l → (p : Packet) {q : Packet} {r : Gave} → q ≡ p
-    → TreeGave f at q r → r.action ≡ evalTree (tree_of f l) p
-root-gave f l e at start p same t = t.action ∙ ap₂ evalTree (root-tree f l e at start) same
+pub root-gave : (f : List ℕ) (l : Layout) → read_of f ≡ Accepted l → (at : Spot) → at ≡ root_spot l → (p : Packet) {q : Packet} {r : Gave} → q ≡ p
+    → TreeGave f at q r → r.action ≡ eval_tree (tree_of f l) p
+root-gave f l e at start p same t = t.action ∙ ap₂ eval_tree (root-tree f l e at start) same
 
 -- the packet's test, as the code has it
-module _ (f : List ℕ) (l : Layout) (p : List ℕ) (t : Bool) (q : t ≡ rightPacketWords p) where
-  pub accepted-gives : {x : Action} → t ≡ true → x ≡ evalTree (tree_of f l) (packetOf p) → evaluated.Gives x ≡ acceptedAction f l p
-  unfolding acceptedAction
+module _ (f : List ℕ) (l : Layout) (p : List ℕ) (t : Bool) (q : t ≡ right_packet_words p) where
+  pub accepted-gives : {x : Action} → t ≡ true → x ≡ eval_tree (tree_of f l) (packet_of p) → evaluated.Gives x ≡ accepted_action f l p
+  unfolding accepted_action
   accepted-gives {x} h e = rw (← q, h, e)
 
-  pub accepted-refuses : t ≡ false → evaluated.Refused (plain wrongPacket 0) ≡ acceptedAction f l p
-  unfolding acceptedAction
+  pub accepted-refuses : t ≡ false → evaluated.Refused (plain wrong_packet 0) ≡ accepted_action f l p
+  unfolding accepted_action
   accepted-refuses h = rw (← q, h)
 
 -- what reading answered picks the case
-pub read-accepted : (f p : List ℕ) {r : Reading} (l : Layout) {x : Evaluated} → r ≡ read_of f → r ≡ Accepted l → x ≡ acceptedAction f l p → x ≡ treeActionOf f p
-unfolding treeActionOf
+pub read-accepted : (f p : List ℕ) {r : Reading} (l : Layout) {x : Evaluated} → r ≡ read_of f → r ≡ Accepted l → x ≡ accepted_action f l p → x ≡ tree_action_of f p
+unfolding tree_action_of
 read-accepted f p l e g h = rw (← e, g) h
 
-pub read-refused : (f p : List ℕ) {r : Reading} (x : Refusal) → r ≡ read_of f → r ≡ Refused x → evaluated.Refused x ≡ treeActionOf f p
-unfolding treeActionOf
+pub read-refused : (f p : List ℕ) {r : Reading} (x : Refusal) → r ≡ read_of f → r ≡ Refused x → evaluated.Refused x ≡ tree_action_of f p
+unfolding tree_action_of
 read-refused f p x e g = rw (← e, g)
 
 pub action-eval : ActionEval
-unfolding treeActionOf acceptedAction
+unfolding tree_action_of accepted_action
 action-eval f p l e right = rw (e, right)
 
 pub action-refused : ActionRefused
-unfolding treeActionOf
+unfolding tree_action_of
 action-refused f p r e = rw e
 
 pub action-packet : ActionPacket
-unfolding treeActionOf acceptedAction
+unfolding tree_action_of accepted_action
 action-packet f p l e wrong = rw (e, wrong)

@@ -1,14 +1,14 @@
 -- The tree's action, for every list of words and every packet: the file's refusals come first, then the packet's. See
 -- docs/FORMAT.md, "The tree's action".
 --
---   evalTree             eval of Figure 1 on a policy tree
---   acceptedAction       of an accepted file: the packet is tested, then eval
---   actionAfter         what reading answered, carried on
---   treeActionOf         the tree's action
---   treeRefusal, given   the refusal and the action of an answer
+--   eval_tree             eval of Figure 1 on a policy tree
+--   accepted_action       of an accepted file: the packet is tested, then eval
+--   action_after         what reading answered, carried on
+--   tree_action_of         the tree's action
+--   tree_refusal, given   the refusal and the action of an answer
 use Rattle.std.specs.Prelude.{ℕ, cond, List}
 use Rattle.theory.specs.Tree.{eval}
-use Rattle.flow.specs.Packet.{packetOf, rightPacketWords, wrongPacket}
+use Rattle.flow.specs.Packet.{packet_of, right_packet_words, wrong_packet}
 use Rattle.flow.specs.Match.{meets}
 use Rattle.flow.specs.declared.Packet.{Packet}
 use Rattle.action.specs.Operator.{join}
@@ -25,28 +25,28 @@ use Rattle.tree.specs.declared.Evaluated.{Evaluated}
 use Rattle.tree.specs.declared.Evaluated.TheVariants as evaluated
 
 -- eval of Figure 1, at the matches, actions and operators of a policy file
-abbrev pub evalTree : PolicyTree → Packet → Action
-evalTree t p = eval meets DontCare join t p
+abbrev pub eval_tree : PolicyTree → Packet → Action
+eval_tree t p = eval meets DontCare join t p
 
 -- an accepted file's tree and a right packet: eval of the tree
-unfoldable pub acceptedAction : List ℕ → Layout → List ℕ → Evaluated
-acceptedAction f l p =
-    cond (rightPacketWords p) (evaluated.Gives (evalTree (tree_of f l) (packetOf p)))
-    (evaluated.Refused (plain wrongPacket 0))
+unfoldable pub accepted_action : List ℕ → Layout → List ℕ → Evaluated
+accepted_action f l p =
+    cond (right_packet_words p) (evaluated.Gives (eval_tree (tree_of f l) (packet_of p)))
+    (evaluated.Refused (plain wrong_packet 0))
 
 -- what reading answered, carried on
-abbrev pub actionAfter : List ℕ → List ℕ → Reading → Evaluated
-actionAfter f p (Accepted l) = acceptedAction f l p
-actionAfter f p (Refused r) = evaluated.Refused r
+abbrev pub action_after : List ℕ → List ℕ → Reading → Evaluated
+action_after f p (Accepted l) = accepted_action f l p
+action_after f p (Refused r) = evaluated.Refused r
 
 -- THE TREE'S ACTION
-unfoldable pub treeActionOf : List ℕ → List ℕ → Evaluated
-treeActionOf f p = actionAfter f p (read_of f)
+unfoldable pub tree_action_of : List ℕ → List ℕ → Evaluated
+tree_action_of f p = action_after f p (read_of f)
 
 -- the number, place, law and actions of an answer: 0, 0, no law and three don't cares where an action is given
-abbrev pub treeRefusal : Evaluated → Refusal
-treeRefusal (evaluated.Gives a) = plain 0 0
-treeRefusal (evaluated.Refused r) = r
+abbrev pub tree_refusal : Evaluated → Refusal
+tree_refusal (evaluated.Gives a) = plain 0 0
+tree_refusal (evaluated.Refused r) = r
 
 -- the action of an answer: don't care where it is a refusal
 abbrev pub given : Evaluated → Action

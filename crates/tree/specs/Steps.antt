@@ -1,37 +1,37 @@
 -- What the steps of the walk give, for their own contracts: a node's own action over the words of its atoms, and what
 -- stands behind a subtree or some children.
 --
---   ownAction, withAtom      a node's own action, and one atom before the others
+--   own_action, with_atom      a node's own action, and one atom before the others
 --   TreeGave, ChildrenGave   what the walk gives of a subtree, and of some children
 use Rattle.std.specs.Prelude.{ℕ, ◌≡◌, cond, List}
 use Rattle.words.specs.Records.{rows_of}
 use Rattle.theory.specs.Tree.{own, evals}
-use Rattle.row.specs.Row.{rowLength, row_of, rowAction}
+use Rattle.row.specs.Row.{row_length, row_of, row_action}
 use Rattle.flow.specs.Match.{meets, match_of}
 use Rattle.flow.specs.declared.Packet.{Packet}
 use Rattle.action.specs.Operator.{join}
 use Rattle.action.specs.declared.Action.{Action}
 use Rattle.action.specs.declared.Action.TheVariants.{DontCare}
-use Rattle.nodes.specs.Nodes.{cellsAt}
-use Rattle.nodes.specs.Walk.{treeAt, childrenAt, AfterTree, AfterChildren}
+use Rattle.nodes.specs.Nodes.{cells_at}
+use Rattle.nodes.specs.Walk.{tree_at, children_at, AfterTree, AfterChildren}
 use Rattle.nodes.specs.declared.Spot.{Spot}
-use Rattle.tree.specs.Action.{evalTree}
+use Rattle.tree.specs.Action.{eval_tree}
 use Rattle.tree.specs.declared.Gave.{Gave}
 
 -- a node's own action, over the words of its atoms
-unfoldable pub ownAction : List ℕ → List ℕ → Packet → Action
-ownAction o atoms p = own meets DontCare join o (rows_of rowLength row_of atoms) p
+unfoldable pub own_action : List ℕ → List ℕ → Packet → Action
+own_action o atoms p = own meets DontCare join o (rows_of row_length row_of atoms) p
 
 -- one atom before the others
-unfoldable pub withAtom : List ℕ → List ℕ → Packet → Action → Action
-withAtom o atom p rest = cond (meets (match_of atom) p) (join o (rowAction atom) rest) rest
+unfoldable pub with_atom : List ℕ → List ℕ → Packet → Action → Action
+with_atom o atom p rest = cond (meets (match_of atom) p) (join o (row_action atom) rest) rest
 
 -- the action is that of the tree at the place, and the next place is behind it
 pub record TreeGave (f : List ℕ) (s : Spot) (p : Packet) (r : Gave) : Type 0 where
-  pub action : r.action ≡ evalTree (treeAt f s) p
+  pub action : r.action ≡ eval_tree (tree_at f s) p
   pub after : AfterTree f s r.next
 
 -- the action is that of k children from the place on under a sibling operator, and the next place is behind them
 pub record ChildrenGave (f : List ℕ) (s : Spot) (sibling k : ℕ) (p : Packet) (r : Gave) : Type 0 where
-  pub action : r.action ≡ evals meets DontCare join (childrenAt f s k) (cellsAt f sibling) p
+  pub action : r.action ≡ evals meets DontCare join (children_at f s k) (cells_at f sibling) p
   pub after : AfterChildren f s k r.next

@@ -2,11 +2,11 @@
 ghost use Rattle.std.specs.Prelude.{◌≡◌, ◌<◌, ◌%◌, length};
 ghost use Rattle.policy.specs.Read.{read_of};
 ghost use Rattle.policy.specs.declared.Reading.TheVariants.{Accepted};
-ghost use Rattle.nodes.specs.Nodes.{cellsAt};
+ghost use Rattle.nodes.specs.Nodes.{cells_at};
 ghost use Rattle.nodes.specs.Walk.{Reached};
-ghost use Rattle.row.specs.Row.{rowLength};
-ghost use Rattle.tree.specs.Action.{treeActionOf, acceptedAction};
-ghost use Rattle.tree.specs.Steps.{ownAction, withAtom, TreeGave, ChildrenGave};
+ghost use Rattle.row.specs.Row.{row_length};
+ghost use Rattle.tree.specs.Action.{tree_action_of, accepted_action};
+ghost use Rattle.tree.specs.Steps.{own_action, with_atom, TreeGave, ChildrenGave};
 
 use action::Action;
 use flow::{Packet, WRONG_PACKET, meets, read_match, read_packet, right_packet_words};
@@ -31,7 +31,7 @@ pub struct Gave {
 
 // What the policy in a file says of a packet.
 pub fn tree_action(file: &[u32], packet: &[u32]) -> Evaluated
-    ensures { result ≡ treeActionOf file.now packet.now }
+    ensures { result ≡ tree_action_of file.now packet.now }
 {
     let reading = read(file);
     match reading {
@@ -43,7 +43,7 @@ pub fn tree_action(file: &[u32], packet: &[u32]) -> Evaluated
 // The same of an accepted file: the packet is tested, and the walk starts at the root.
 fn accepted_action(file: &[u32], layout: Layout, packet: &[u32]) -> Evaluated
     requires { read_of file.now ≡ Accepted layout }
-    ensures { result ≡ acceptedAction file.now layout packet.now }
+    ensures { result ≡ accepted_action file.now layout packet.now }
 {
     if right_packet_words(packet) {
         let gave = subtree(file, root(layout), read_packet(packet));
@@ -105,8 +105,8 @@ fn children(file: &[u32], at: Spot, sibling: u32, count: u32, packet: Packet) ->
 
 // A node's own action: its matching atoms, folded from the last.
 fn own_action(file: &[u32], inner: u32, atoms: &[u32], packet: Packet) -> Action
-    requires { length atoms.now % rowLength ≡ 0 }
-    ensures { result ≡ ownAction (cellsAt file.now inner) atoms.now packet }
+    requires { length atoms.now % row_length ≡ 0 }
+    ensures { result ≡ own_action (cells_at file.now inner) atoms.now packet }
 {
     let mut i = atoms.len();
     let mut given = Action::DONT_CARE;
@@ -121,7 +121,7 @@ fn own_action(file: &[u32], inner: u32, atoms: &[u32], packet: Packet) -> Action
 
 // One atom before the others.
 fn with_atom(file: &[u32], inner: u32, atom: &[u32], packet: Packet, rest: Action) -> Action
-    ensures { result ≡ withAtom (cellsAt file.now inner) atom.now packet rest }
+    ensures { result ≡ with_atom (cells_at file.now inner) atom.now packet rest }
 {
     if meets(read_match(atom), packet) {
         join_at(file, inner, row_action(atom), rest)

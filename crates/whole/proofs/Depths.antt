@@ -8,12 +8,12 @@ use mathlib.Core.Logic.{◌⊎◌, inl, inr}
 use lib.Dec.{eqb, leb}
 use lib.ListN.{length, take}
 use borrow.Author.Tests.{leb-true, le-leb, ne_eqb}
-use Rattle.section.specs.Numbers.{deepest, noTree}
+use Rattle.section.specs.Numbers.{deepest, no_tree}
 use Rattle.refusal.specs.Plain.{plain}
 use Rattle.section.specs.Sections.{unless}
-use Rattle.whole.specs.Whole.{waitingNodes, oneLess, shape}
+use Rattle.whole.specs.Whole.{waiting_nodes, one_less, shape}
 use Rattle.section.specs.Due.{FirstWrong}
-use Rattle.whole.specs.Meaning.{lacking, ended, nodesAbove, HasPlace}
+use Rattle.whole.specs.Meaning.{lacking, ended, nodes_above, HasPlace}
 use Rattle.section.specs.declared.Test.TheVariants.{Failed}
 use Rattle.logic.proofs.Tests.{by-test, by_le, and_left, and_right}
 
@@ -29,8 +29,8 @@ enter k (n ∷ st) = k ∷ pred n ∷ st
 
 -- the settled stack behind some nodes
 abbrev run : List ℕ → List ℕ → List ℕ
-run st [] = waitingNodes st
-run st (k ∷ ks) = run (enter k (waitingNodes st)) ks
+run st [] = waiting_nodes st
+run st (k ∷ ks) = run (enter k (waiting_nodes st)) ks
 
 -- 1 where some of n nodes are still lacking behind some
 abbrev some : ℕ → List ℕ → ℕ
@@ -61,7 +61,7 @@ lacking-none (k ∷ ks) = refl
 
 -- the height of the stack behind some nodes
 abbrev High : List ℕ → List ℕ → Type 0
-High ks st = length (run st ks) ≡ cond (eqb (lacking (total st) ks) 0) 0 (kept 0 st ks + nodesAbove ks)
+High ks st = length (run st ks) ≡ cond (eqb (lacking (total st) ks) 0) 0 (kept 0 st ks + nodes_above ks)
 
 high-none : (st : List ℕ) → High [] st
 high-none [] = refl
@@ -86,7 +86,7 @@ high-more k ks ih (suc n ∷ st) =
     let x : k + (n + total st) ≡ n + total st + k = omega arith in
     let w : 0 + k + n ≡ n + k = omega arith in
     let l : ℕ = kept (n + k) st ks in
-    let e : some (0 + k) ks + (some (n + k) ks + l) + nodesAbove ks ≡ some (n + k) ks + l + (some (0 + k) ks + nodesAbove ks) = omega arith in
+    let e : some (0 + k) ks + (some (n + k) ks + l) + nodes_above ks ≡ some (n + k) ks + l + (some (0 + k) ks + nodes_above ks) = omega arith in
     rw (z, y, kept_next n k st ks, ← e) (rw (x, w) at (ih (k ∷ n ∷ st)))
 
 high : (ks st : List ℕ) → High ks st
@@ -94,7 +94,7 @@ high [] st = high-none st
 high (k ∷ ks) st = high-more k ks (high ks) st
 
 -- the depth of the next node, where the tree has not ended
-height : (ks : List ℕ) → length (run (1 ∷ []) ks) ≡ cond (ended ks) 0 (suc (nodesAbove ks))
+height : (ks : List ℕ) → length (run (1 ∷ []) ks) ≡ cond (ended ks) 0 (suc (nodes_above ks))
 height ks = by-test (ended ks)
     (λ t. high ks (1 ∷ []) ∙ rw t)
     (λ t. high ks (1 ∷ []) ∙ rw t (omega arith))
@@ -104,22 +104,22 @@ record Fits (n : ℕ) : Type 0 where
   waits : 1 ≤ n
   few : n ≤ deepest
 
-enter-less : (k : ℕ) (st : List ℕ) → 1 ≤ length st → enter k st ≡ k ∷ oneLess st
+enter-less : (k : ℕ) (st : List ℕ) → 1 ≤ length st → enter k st ≡ k ∷ one_less st
 enter-less k [] h = absurd (omega arith)
 enter-less k (n ∷ st) h = refl
 
 -- the first node without a place is named
 shape_at : (ks st : List ℕ) (i m : ℕ) → m < length ks → ((j : ℕ) → j < m → Fits (length (run st (take j ks)))) → ¬ Fits (length (run st (take m ks)))
-    → shape ks st i ≡ Failed (plain noTree (i + m))
+    → shape ks st i ≡ Failed (plain no_tree (i + m))
 shape_at [] st i m h b w = absurd (omega arith)
 shape_at (k ∷ ks) st i zero h b w =
-    let n : ℕ = length (waitingNodes st) in
+    let n : ℕ = length (waiting_nodes st) in
     let z : i + 0 ≡ i = omega arith in
     by-test (leb 1 n && leb n deepest)
     (λ t. absurd (w (record { waits = leb-true 1 n (and_left (leb 1 n) (leb n deepest) t); few = leb-true n deepest (and_right (leb 1 n) (leb n deepest) t) })))
     (λ t. rw (t, z))
 shape_at (k ∷ ks) st i (suc m) h b w =
-    let s : List ℕ = waitingNodes st in
+    let s : List ℕ = waiting_nodes st in
     let f : Fits (length s) = b 0 (omega arith) in
     let z : i + suc m ≡ suc i + m = omega arith in
     rw (le-leb 1 (length s) f.waits, le-leb (length s) deepest f.few, ← enter-less k s f.waits, z)
@@ -127,10 +127,10 @@ shape_at (k ∷ ks) st i (suc m) h b w =
 
 -- where every node has a place the end decides
 shape-end : (ks st : List ℕ) (i : ℕ) → ((j : ℕ) → j < length ks → Fits (length (run st (take j ks))))
-    → shape ks st i ≡ unless (eqb (length (run st ks)) 0) noTree (i + length ks)
+    → shape ks st i ≡ unless (eqb (length (run st ks)) 0) no_tree (i + length ks)
 shape-end [] st i b = let z : i + 0 ≡ i = omega arith in rw z
 shape-end (k ∷ ks) st i b =
-    let s : List ℕ = waitingNodes st in
+    let s : List ℕ = waiting_nodes st in
     let f : Fits (length s) = b 0 (omega arith) in
     let z : i + suc (length ks) ≡ suc i + length ks = omega arith in
     rw (le-leb 1 (length s) f.waits, le-leb (length s) deepest f.few, ← enter-less k s f.waits, z)
@@ -139,31 +139,31 @@ shape-end (k ∷ ks) st i b =
 module _ (ks : List ℕ) where
   place-fits : (i : ℕ) → HasPlace ks i → Fits (length (run (1 ∷ []) (take i ks)))
   place-fits i p =
-      let e : length (run (1 ∷ []) (take i ks)) ≡ suc (nodesAbove (take i ks)) = height (take i ks) ∙ rw p.awaited in
+      let e : length (run (1 ∷ []) (take i ks)) ≡ suc (nodes_above (take i ks)) = height (take i ks) ∙ rw p.awaited in
       record { waits = omega arith; few = omega (arith, p.shallow) }
 
   fits-place : (i : ℕ) → Fits (length (run (1 ∷ []) (take i ks))) → HasPlace ks i
   fits-place i f = by-test (ended (take i ks))
       (λ t. absurd (let e : length (run (1 ∷ []) (take i ks)) ≡ 0 = height (take i ks) ∙ rw t in omega (arith, f.waits)))
       (λ t.
-      let e : length (run (1 ∷ []) (take i ks)) ≡ suc (nodesAbove (take i ks)) = height (take i ks) ∙ rw t in
+      let e : length (run (1 ∷ []) (take i ks)) ≡ suc (nodes_above (take i ks)) = height (take i ks) ∙ rw t in
       record { awaited = t; shallow = omega (arith, f.few) })
 
   -- THE FIRST NODE WITHOUT A PLACE is what the shape test names
-  pub shape-first : (i : ℕ) → FirstWrong (HasPlace ks) (length ks) i → shape ks (1 ∷ []) 0 ≡ Failed (plain noTree i)
+  pub shape-first : (i : ℕ) → FirstWrong (HasPlace ks) (length ks) i → shape ks (1 ∷ []) 0 ≡ Failed (plain no_tree i)
   shape-first i w =
       let z : 0 + i ≡ i = omega arith in
       shape_at ks (1 ∷ []) 0 i w.within (λ j l. place-fits j (w.before j l)) (λ f. w.wrong (fits-place i f)) ∙ rw z
 
   -- AND WHERE EVERY NODE HAS ONE it asks whether the tree has ended
-  pub shape-places : ((i : ℕ) → i < length ks → HasPlace ks i) → shape ks (1 ∷ []) 0 ≡ unless (ended ks) noTree (length ks)
+  pub shape-places : ((i : ℕ) → i < length ks → HasPlace ks i) → shape ks (1 ∷ []) 0 ≡ unless (ended ks) no_tree (length ks)
   shape-places p =
       let z : 0 + length ks ≡ length ks = omega arith in
       let e : eqb (length (run (1 ∷ []) ks)) 0 ≡ ended ks =
-      ap (λ n. eqb n 0) (height ks) ∙ by-test (ended ks) (λ t. rw t) (λ t. rw t (ne_eqb (suc (nodesAbove ks)) 0 (λ q. omega arith))) in
+      ap (λ n. eqb n 0) (height ks) ∙ by-test (ended ks) (λ t. rw t) (λ t. rw t (ne_eqb (suc (nodes_above ks)) 0 (λ q. omega arith))) in
       shape-end ks (1 ∷ []) 0 (λ j l. place-fits j (p j l)) ∙ rw (e, z)
 
   pub has-place : (i : ℕ) → HasPlace ks i ⊎ (¬ HasPlace ks i)
   has-place i = by-test (ended (take i ks))
       (λ t. inr (λ p. let z : true ≡ false = sym t ∙ p.awaited in let y : ◌≡◌ {A = ℕ} 0 1 = cc in omega arith))
-      (λ t. by_le (suc (nodesAbove (take i ks))) deepest (λ l. inl (record { awaited = t; shallow = l })) (λ l. inr (λ p. omega (arith, p.shallow))))
+      (λ t. by_le (suc (nodes_above (take i ks))) deepest (λ l. inl (record { awaited = t; shallow = l })) (λ l. inr (λ p. omega (arith, p.shallow))))

@@ -8,17 +8,17 @@ use mathlib.Core.Logic.{⊎_elim}
 use lib.Dec.{eqb}
 use lib.ListN.{get_or, length}
 use borrow.Author.Tests.{eqb-true, eq-eqb}
-use Rattle.action.specs.Operator.{rightCell, RightCodes, cells_of}
-use Rattle.action.specs.Laws.{lawSearch}
+use Rattle.action.specs.Operator.{right_cell, RightCodes, cells_of}
+use Rattle.action.specs.Laws.{law_search}
 use Rattle.action.specs.declared.Lawful.{Lawful}
 use Rattle.action.specs.declared.Lawful.TheVariants.{Yes, Broken}
 use Rattle.action.proofs.Cells.{cells-many, cell-word}
 use Rattle.action.proofs.Exact.{search-exact}
-use Rattle.section.specs.Numbers.{operatorLengthIn, operatorLength}
-use Rattle.section.specs.Sections.{inner_of, siblingOf}
-use Rattle.whole.specs.Whole.{names, named, broken, operatorFault, lawsFault}
-use Rattle.section.specs.Cells.{rightCellIn, operatorRow, operatorRows}
-use Rattle.whole.specs.Meaning.{operatorAt, KeepsLaws, LawsKept}
+use Rattle.section.specs.Numbers.{operator_length_in, operator_length}
+use Rattle.section.specs.Sections.{inner_of, sibling_of}
+use Rattle.whole.specs.Whole.{names, named, broken, operator_fault, laws_fault}
+use Rattle.section.specs.Cells.{right_cell_in, operator_row, operator_rows}
+use Rattle.whole.specs.Meaning.{operator_at, KeepsLaws, LawsKept}
 use Rattle.section.specs.Due.{RightNode}
 use Rattle.section.specs.declared.Edition.{Edition}
 use Rattle.section.specs.declared.Edition.TheVariants.{First}
@@ -51,70 +51,70 @@ unbroken i Yes g = refl
 unbroken i (Broken l a b c) g = let w : ◌≡◌ {A = ℕ} 0 1 = cc in absurd (omega arith)
 
 -- an operator passes exactly when the search of it, if it is named, finds nothing
-pub passed-search : (ns : List (List ℕ)) (i : ℕ) (o : List ℕ) → operatorFault ns i o ≡ Passed → named i ns ≡ true → lawSearch (cells_of o) ≡ Yes
-unfolding operatorFault
-passed-search ns i o e n = unbroken i (lawSearch (cells_of o)) (rw n at e)
+pub passed-search : (ns : List (List ℕ)) (i : ℕ) (o : List ℕ) → operator_fault ns i o ≡ Passed → named i ns ≡ true → law_search (cells_of o) ≡ Yes
+unfolding operator_fault
+passed-search ns i o e n = unbroken i (law_search (cells_of o)) (rw n at e)
 
-search-passed : (ns : List (List ℕ)) (i : ℕ) (o : List ℕ) → (named i ns ≡ true → lawSearch (cells_of o) ≡ Yes) → operatorFault ns i o ≡ Passed
-unfolding operatorFault
+search-passed : (ns : List (List ℕ)) (i : ℕ) (o : List ℕ) → (named i ns ≡ true → law_search (cells_of o) ≡ Yes) → operator_fault ns i o ≡ Passed
+unfolding operator_fault
 search-passed ns i o h = by-test (named i ns) (λ t. rw (t, h t)) (λ t. rw t)
 
 -- right cells are right codes
-pub right-codes : (r : List ℕ) → ((j : ℕ) → j < operatorLength → rightCell j (get_or r j 0) ≡ true) → RightCodes (cells_of r)
+pub right-codes : (r : List ℕ) → ((j : ℕ) → j < operator_length → right_cell j (get_or r j 0) ≡ true) → RightCodes (cells_of r)
 right-codes r h = (cells-many r, λ j l. rw (cell-word r j l) (h j l))
 
 -- for each edition
-right-codes-in : (e : Edition) (r : List ℕ) → ((j : ℕ) → j < operatorLengthIn e → rightCellIn e j (get_or r j 0) ≡ true) → RightCodes (cells_of (operatorRow e r))
+right-codes-in : (e : Edition) (r : List ℕ) → ((j : ℕ) → j < operator_length_in e → right_cell_in e j (get_or r j 0) ≡ true) → RightCodes (cells_of (operator_row e r))
 right-codes-in First r h = right-codes r h
 
 -- the operators of an edition in their newest form: as many, and one by one
-pub operators-many : (e : Edition) (os : List (List ℕ)) → length (operatorRows e os) ≡ length os
+pub operators-many : (e : Edition) (os : List (List ℕ)) → length (operator_rows e os) ≡ length os
 operators-many First os = refl
 
-operators-at : (e : Edition) (os : List (List ℕ)) (i : ℕ) → i < length os → get_or (operatorRows e os) i [] ≡ operatorRow e (get_or os i [])
+operators-at : (e : Edition) (os : List (List ℕ)) (i : ℕ) → i < length os → get_or (operator_rows e os) i [] ≡ operator_row e (get_or os i [])
 operators-at First os i h = refl
 
 -- so they have right codes
 pub right-operators : (e : Edition) (os : List (List ℕ)) (a : ℕ) → length os ≡ a
-    → ((i j : ℕ) → i < a → j < operatorLengthIn e → rightCellIn e j (get_or (get_or os i []) j 0) ≡ true) → (i : ℕ) → i < a → RightCodes
-    (operatorAt (operatorRows e os) i)
+    → ((i j : ℕ) → i < a → j < operator_length_in e → right_cell_in e j (get_or (get_or os i []) j 0) ≡ true) → (i : ℕ) → i < a → RightCodes
+    (operator_at (operator_rows e os) i)
 right-operators e os a many cells i l =
     subst (λ r. RightCodes (cells_of r)) (sym (operators-at e os i (omega arith))) (right-codes-in e (get_or os i []) (λ j. cells i j l))
 
 -- THE LAWS: the stage is passed exactly when every operator that a node names as inner or sibling keeps them at all allowed rates
 module _ (a : ℕ) (os ns : List (List ℕ)) (many : length os ≡ a)
-    (codes : (i : ℕ) → i < a → RightCodes (operatorAt os i))
+    (codes : (i : ℕ) → i < a → RightCodes (operator_at os i))
     (nodes : (i : ℕ) → i < length ns → RightNode a (get_or ns i [])) where
-  pub laws-kept : lawsFault ns os ≡ Passed → LawsKept os ns
-  unfolding lawsFault
+  pub laws-kept : laws_fault ns os ≡ Passed → LawsKept os ns
+  unfolding laws_fault
   laws-kept e n h =
       let r : List ℕ = get_or ns n [] in
       let inner : inner_of r < a = (nodes n h).inner in
-      let sibling : siblingOf r < a = (nodes n h).sibling in (
+      let sibling : sibling_of r < a = (nodes n h).sibling in (
         kept (inner_of r) inner (named_by (inner_of r) ns n h (rw (eq-eqb (inner_of r) (inner_of r) refl))),
-        kept (siblingOf r) sibling
-            (named_by (siblingOf r) ns n h (by-test (eqb (inner_of r) (siblingOf r)) (λ t. rw t) (λ t. rw (t, eq-eqb (siblingOf r) (siblingOf r) refl)))),
+        kept (sibling_of r) sibling
+            (named_by (sibling_of r) ns n h (by-test (eqb (inner_of r) (sibling_of r)) (λ t. rw t) (λ t. rw (t, eq-eqb (sibling_of r) (sibling_of r) refl)))),
       )
     where
-      kept : (i : ℕ) → i < a → named i ns ≡ true → KeepsLaws (operatorAt os i)
+      kept : (i : ℕ) → i < a → named i ns ≡ true → KeepsLaws (operator_at os i)
       kept i l t =
-          (search-exact (operatorAt os i) (codes i l)).0
-          (passed-search ns i (get_or os i []) (each-passed [] (operatorFault ns) 1 0 os e i (omega arith) i (omega arith)) t)
+          (search-exact (operator_at os i) (codes i l)).0
+          (passed-search ns i (get_or os i []) (each-passed [] (operator_fault ns) 1 0 os e i (omega arith) i (omega arith)) t)
 
-  pub kept_laws : LawsKept os ns → lawsFault ns os ≡ Passed
-  unfolding lawsFault
+  pub kept_laws : LawsKept os ns → laws_fault ns os ≡ Passed
+  unfolding laws_fault
   kept_laws keeps =
-      passed-each [] (operatorFault ns) 1 0 os
+      passed-each [] (operator_fault ns) 1 0 os
       (λ j h p q. let z : p ≡ j = omega arith in rw z (search-passed ns j (get_or os j []) (searched j h)))
     where
-      searched : (j : ℕ) → j < length os → named j ns ≡ true → lawSearch (cells_of (get_or os j [])) ≡ Yes
+      searched : (j : ℕ) → j < length os → named j ns ≡ true → law_search (cells_of (get_or os j [])) ≡ Yes
       searched j h t =
           let n : Naming j ns = naming j ns t in
           let r : List ℕ = get_or ns n.node [] in
-          let k : KeepsLaws (operatorAt os (inner_of r)) × KeepsLaws (operatorAt os (siblingOf r)) = keeps n.node n.within in
-          let exact : KeepsLaws (operatorAt os j) → lawSearch (operatorAt os j) ≡ Yes =
-          (search-exact (operatorAt os j) (codes j (omega arith))).1 in
+          let k : KeepsLaws (operator_at os (inner_of r)) × KeepsLaws (operator_at os (sibling_of r)) = keeps n.node n.within in
+          let exact : KeepsLaws (operator_at os j) → law_search (operator_at os j) ≡ Yes =
+          (search-exact (operator_at os j) (codes j (omega arith))).1 in
           ⊎_elim
           (λ e. let q : inner_of r ≡ j = eqb-true (inner_of r) j e in exact (rw (← q) k.0))
-          (λ e. let q : siblingOf r ≡ j = eqb-true (siblingOf r) j e in exact (rw (← q) k.1))
-          (or_split (eqb (inner_of r) j) (eqb (siblingOf r) j) n.names-it)
+          (λ e. let q : sibling_of r ≡ j = eqb-true (sibling_of r) j e in exact (rw (← q) k.1))
+          (or_split (eqb (inner_of r) j) (eqb (sibling_of r) j) n.names-it)

@@ -6,7 +6,7 @@ use mathlib.Core.Path.{◌≡◌, refl, ap, ap₂, ◌∙◌}
 use mathlib.Core.List.{List, ◌∷◌}
 use lib.ListN.{get_or, length, set, length-set}
 use lib.Seq.{get_or-set_same, get_or-set_other}
-use Rattle.whole.specs.Whole.{waitingNodes, oneLess, stacked}
+use Rattle.whole.specs.Whole.{waiting_nodes, one_less, stacked}
 
 pub stacked-length : (w : List ℕ) (d : ℕ) → length (stacked w d) ≡ d
 stacked-length w zero = refl
@@ -20,7 +20,7 @@ stacked-above w (suc d) j v h =
     ap₂ (λ x xs. x ∷ xs) (get_or-set_other w j d v 0 n) (stacked-above w d j v (omega arith))
 
 -- a node that has all its children goes
-pub settle-on : (w : List ℕ) (d : ℕ) → 0 < d → get_or w (d - 1) 0 ≡ 0 → waitingNodes (stacked w d) ≡ waitingNodes (stacked w (d - 1))
+pub settle-on : (w : List ℕ) (d : ℕ) → 0 < d → get_or w (d - 1) 0 ≡ 0 → waiting_nodes (stacked w d) ≡ waiting_nodes (stacked w (d - 1))
 settle-on w zero h e = absurd (omega arith)
 settle-on w (suc d) h e =
     let s : suc d - 1 ≡ d = omega arith in
@@ -28,20 +28,20 @@ settle-on w (suc d) h e =
     rw (s, e')
 
 -- one that waits for a child stays
-pub settle-here : (w : List ℕ) (d : ℕ) → 0 < d → (get_or w (d - 1) 0 ≡ 0 → ⊥) → stacked w d ≡ waitingNodes (stacked w d)
+pub settle-here : (w : List ℕ) (d : ℕ) → 0 < d → (get_or w (d - 1) 0 ≡ 0 → ⊥) → stacked w d ≡ waiting_nodes (stacked w d)
 settle-here w zero h n = absurd (omega arith)
 settle-here w (suc d) h n = stays (get_or w d 0) (λ e. n (rw s e))
   where
     s : suc d - 1 ≡ d
     s = omega arith
 
-    stays : (x : ℕ) → (x ≡ 0 → ⊥) → x ∷ stacked w d ≡ waitingNodes (x ∷ stacked w d)
+    stays : (x : ℕ) → (x ≡ 0 → ⊥) → x ∷ stacked w d ≡ waiting_nodes (x ∷ stacked w d)
     stays zero m = absurd (m refl)
     stays (suc x) m = refl
 
 -- a child of the innermost node
 pub enter : (w : List ℕ) (d k : ℕ) → 0 < d → d < length w
-    → stacked (set (set w (d - 1) (get_or w (d - 1) 0 - 1)) d k) (d + 1) ≡ k ∷ oneLess (stacked w d)
+    → stacked (set (set w (d - 1) (get_or w (d - 1) 0 - 1)) d k) (d + 1) ≡ k ∷ one_less (stacked w d)
 enter w zero k h g = absurd (omega arith)
 enter w (suc d) k h g =
     let s : suc d - 1 ≡ d = omega arith in
@@ -54,7 +54,7 @@ enter w (suc d) k h g =
     (get_or-set_other v (suc d) d k 0 (λ e. omega arith) ∙ get_or-set_same w d (get_or w d 0 - 1) 0 (omega arith) ∙ q)
     (stacked-above v d (suc d) k (omega arith) ∙ stacked-above w d d (get_or w d 0 - 1) (omega arith))))
 
-pub settle-none : (w : List ℕ) (d : ℕ) → d ≤ 0 → stacked w d ≡ waitingNodes (stacked w d)
+pub settle-none : (w : List ℕ) (d : ℕ) → d ≤ 0 → stacked w d ≡ waiting_nodes (stacked w d)
 settle-none w zero h = refl
 settle-none w (suc d) h = absurd (omega arith)
 

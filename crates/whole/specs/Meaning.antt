@@ -4,17 +4,17 @@
 --   depth, depths          how deep a tree is; the deepest of some trees
 --   OneTree                some nodes in file order are those of one tree, no deeper than allowed
 --   lacking, ended         how many nodes are lacking behind some nodes; the tree has ended
---   nodesAbove, HasPlace   how many nodes are above the next one; the tree has a place for a node
---   operatorAt             the cells of the operator at an index
+--   nodes_above, HasPlace   how many nodes are above the next one; the tree has a place for a node
+--   operator_at             the cells of the operator at an index
 --   KeepsLaws              an operator is commutative and associative over all actions with allowed rates
 --   LawsKept               the operators that nodes name as inner or sibling keep the laws
 use Rattle.std.specs.Prelude.{ℕ, zero, suc, ◌+◌, ◌≤◌, ◌<◌, max, ◌≡◌, Bool, false, cond, List, [], ◌∷◌, eqb, get_or, length, take}
 use Rattle.theory.specs.Tree.{Tree, Forest, node, bare, ◌▸◌}
-use Rattle.theory.specs.Nodes.{Listed, listTree}
+use Rattle.theory.specs.Nodes.{Listed, list_tree}
 use Rattle.action.specs.Operator.{cells_of}
 use Rattle.action.specs.Laws.{Commutative, Associative}
 use Rattle.section.specs.Numbers.{deepest}
-use Rattle.section.specs.Sections.{inner_of, siblingOf}
+use Rattle.section.specs.Sections.{inner_of, sibling_of}
 
 module _ {X : Type 0} where
   abbrev mutual
@@ -30,7 +30,7 @@ module _ {X : Type 0} where
 -- the nodes, parent first and then each child's whole subtree, are those of one tree
 pub record OneTree {X : Type 0} (ns : List (Listed X)) : Type 0 where
   pub tree : Tree X
-  pub lists : listTree tree ≡ ns
+  pub lists : list_tree tree ≡ ns
   pub shallow : depth tree ≤ deepest
 
 -- how many nodes are lacking behind some nodes, given by their child counts, where n were lacking before them: each is
@@ -45,18 +45,18 @@ abbrev pub ended : List ℕ → Bool
 ended ks = eqb (lacking 1 ks) 0
 
 -- how many nodes are above the one behind some nodes: those of them whose tree has not ended before it
-abbrev pub nodesAbove : List ℕ → ℕ
-nodesAbove [] = 0
-nodesAbove (k ∷ ks) = cond (ended (k ∷ ks)) 0 1 + nodesAbove ks
+abbrev pub nodes_above : List ℕ → ℕ
+nodes_above [] = 0
+nodes_above (k ∷ ks) = cond (ended (k ∷ ks)) 0 1 + nodes_above ks
 
 -- the tree has a place for node i: it had not ended before it, and its depth, the nodes above it and itself, is allowed
 pub record HasPlace (ks : List ℕ) (i : ℕ) : Type 0 where
   pub awaited : ended (take i ks) ≡ false
-  pub shallow : suc (nodesAbove (take i ks)) ≤ deepest
+  pub shallow : suc (nodes_above (take i ks)) ≤ deepest
 
 -- the cells of the operator at an index
-abbrev pub operatorAt : List (List ℕ) → ℕ → List ℕ
-operatorAt os i = cells_of (get_or os i [])
+abbrev pub operator_at : List (List ℕ) → ℕ → List ℕ
+operator_at os i = cells_of (get_or os i [])
 
 -- an operator keeps both laws over all actions with allowed rates
 abbrev pub KeepsLaws : List ℕ → Type 0
@@ -65,4 +65,4 @@ KeepsLaws o = Commutative o × Associative o
 -- the operators that nodes name as inner or sibling keep the laws
 abbrev pub LawsKept : List (List ℕ) → List (List ℕ) → Type 0
 LawsKept os ns = (i : ℕ) → i < length ns
-    → KeepsLaws (operatorAt os (inner_of (get_or ns i []))) × KeepsLaws (operatorAt os (siblingOf (get_or ns i [])))
+    → KeepsLaws (operator_at os (inner_of (get_or ns i []))) × KeepsLaws (operator_at os (sibling_of (get_or ns i [])))

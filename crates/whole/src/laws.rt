@@ -1,9 +1,9 @@
 // The laws of the operators that some node names as inner or sibling.
 ghost use Rattle.std.specs.Prelude.{◌≡◌, ◌+◌, ◌*◌, ◌≤◌, length, drop};
 ghost use Rattle.words.specs.Records.{records};
-ghost use Rattle.section.specs.Numbers.{operatorLengthIn, nodeLength};
-ghost use Rattle.section.specs.Cells.{operatorRow, operatorRows};
-ghost use Rattle.whole.specs.Whole.{names, named, broken, operatorFault, lawsFault};
+ghost use Rattle.section.specs.Numbers.{operator_length_in, node_length};
+ghost use Rattle.section.specs.Cells.{operator_row, operator_rows};
+ghost use Rattle.whole.specs.Whole.{names, named, broken, operator_fault, laws_fault};
 ghost use Rattle.section.specs.Sections.{Reaches};
 
 use action::Lawful;
@@ -23,9 +23,9 @@ pub fn laws_fault(
     at: usize,
     count: usize,
 ) -> Test
-    requires { Reaches edition file.now h operators (at + nodeLength * count) }
-    ensures { result ≡ lawsFault (records count nodeLength (drop at file.now))
-        (operatorRows edition (records operators (operatorLengthIn edition) (drop (h + 1) file.now))) }
+    requires { Reaches edition file.now h operators (at + node_length * count) }
+    ensures { result ≡ laws_fault (records count node_length (drop at file.now))
+        (operator_rows edition (records operators (operator_length_in edition) (drop (h + 1) file.now))) }
 {
     let step = operator_words(edition);
     let mut i = 0;
@@ -53,9 +53,9 @@ fn operator_fault(
     at: usize,
     count: usize,
 ) -> Test
-    requires { at + nodeLength * count ≤ length file.now }
-    ensures { result ≡ operatorFault (records count nodeLength (drop at file.now)) i
-        (operatorRow edition words.now) }
+    requires { at + node_length * count ≤ length file.now }
+    ensures { result ≡ operator_fault (records count node_length (drop at file.now)) i
+        (operator_row edition words.now) }
 {
     if is_named(file, at, count, i) {
         broken(operator_in(words, edition).law_search(), i)
@@ -66,8 +66,8 @@ fn operator_fault(
 
 // Whether some node names an operator as inner or sibling.
 fn is_named(file: &[u32], at: usize, count: usize, operator: usize) -> bool
-    requires { at + nodeLength * count ≤ length file.now }
-    ensures { result ≡ named operator (records count nodeLength (drop at file.now)) }
+    requires { at + node_length * count ≤ length file.now }
+    ensures { result ≡ named operator (records count node_length (drop at file.now)) }
 {
     let mut from = at;
     let mut left = count;

@@ -1,8 +1,8 @@
 // Whether the nodes are one tree of the depth allowed, and their own-atom counts.
 ghost use Rattle.std.specs.Prelude.{◌≡◌, ◌+◌, ◌-◌, ◌*◌, ◌≤◌, ◌<◌, length, get_or, drop, set};
 ghost use Rattle.words.specs.Records.{records};
-ghost use Rattle.section.specs.Numbers.{nodeLength, mostNodes, deepest};
-ghost use Rattle.whole.specs.Whole.{waitingNodes, shapeFault, ownAtoms, sumFault, stacked};
+ghost use Rattle.section.specs.Numbers.{node_length, most_nodes, deepest};
+ghost use Rattle.whole.specs.Whole.{waiting_nodes, shape_fault, own_atoms, sum_fault, stacked};
 
 use section::{CHILDREN, NO_TREE, NODE_WORDS, OWN, Test, WRONG_SUM, unless, wide};
 
@@ -12,8 +12,8 @@ const DEEPEST: usize = 16;
 // The first node that the tree has no place for: it had ended, or the node is too deep; or the node count, if children
 // are missing.
 pub fn shape_fault(file: &[u32], at: usize, count: usize) -> Test
-    requires { at + nodeLength * count ≤ length file.now }
-    ensures { result ≡ shapeFault (records count nodeLength (drop at file.now)) }
+    requires { at + node_length * count ≤ length file.now }
+    ensures { result ≡ shape_fault (records count node_length (drop at file.now)) }
 {
     let mut waiting = [0u32; DEEPEST + 1];
     waiting[0] = 1;
@@ -45,7 +45,7 @@ pub fn shape_fault(file: &[u32], at: usize, count: usize) -> Test
 // Goes up past the nodes that have all their children.
 fn settled(waiting: [u32; DEEPEST + 1], height: usize) -> usize
     requires { height ≤ deepest + 1 }
-    ensures { (stacked waiting result ≡ waitingNodes (stacked waiting height)) × (result ≤ height)
+    ensures { (stacked waiting result ≡ waiting_nodes (stacked waiting height)) × (result ≤ height)
         × (0 < result → 0 < get_or waiting (result - 1) 0) }
 {
     let mut d = height;
@@ -62,8 +62,8 @@ fn settled(waiting: [u32; DEEPEST + 1], height: usize) -> usize
 
 // Whether the own-atom counts add up to the atoms.
 pub fn sum_fault(file: &[u32], at: usize, count: usize, atoms: usize) -> Test
-    requires { (at + nodeLength * count ≤ length file.now) × (count ≤ mostNodes) }
-    ensures { result ≡ sumFault (records count nodeLength (drop at file.now)) atoms }
+    requires { (at + node_length * count ≤ length file.now) × (count ≤ most_nodes) }
+    ensures { result ≡ sum_fault (records count node_length (drop at file.now)) atoms }
 {
     let sum = own_atoms(file, at, count);
     unless(sum == atoms, WRONG_SUM, 0)
@@ -71,8 +71,8 @@ pub fn sum_fault(file: &[u32], at: usize, count: usize, atoms: usize) -> Test
 
 // How many atoms the nodes take together.
 fn own_atoms(file: &[u32], at: usize, count: usize) -> usize
-    requires { (at + nodeLength * count ≤ length file.now) × (count ≤ mostNodes) }
-    ensures { result ≡ ownAtoms (records count nodeLength (drop at file.now)) }
+    requires { (at + node_length * count ≤ length file.now) × (count ≤ most_nodes) }
+    ensures { result ≡ own_atoms (records count node_length (drop at file.now)) }
 {
     let mut sum = 0;
     let mut from = at;

@@ -62,8 +62,8 @@ module _ (F l : List ℕ) (n : ℕ) (e : length F ≡ n) (h : n ≤ length l) wh
   pub drop-laid : drop n (laid 0 F l) ≡ drop n l
   drop-laid = ap (drop n) laid-front ∙ drop_at F (drop n l) n e
 
-  pub getD-laid : (i : ℕ) → i < n → get_or (laid 0 F l) i 0 ≡ get_or F i 0
-  getD-laid i g = ap (λ x. get_or x i 0) laid-front ∙ get_or-append F (drop n l) 0 i (omega arith)
+  pub get_or-laid : (i : ℕ) → i < n → get_or (laid 0 F l) i 0 ≡ get_or F i 0
+  get_or-laid i g = ap (λ x. get_or x i 0) laid-front ∙ get_or-append F (drop n l) 0 i (omega arith)
 
 -- words that fit are laid, others change nothing
 pub copied-fits : (a : ℕ) (F l : List ℕ) → a + length F ≤ length l → copied a F l ≡ laid a F l

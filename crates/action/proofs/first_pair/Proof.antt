@@ -4,7 +4,7 @@ use native.Mathlib.Omega.{arith}
 use mathlib.Core.Path.{◌≡◌, refl}
 use lib.ListN.{length, drop}
 use borrow.Author.Rules.{rules}
-use Rattle.action.specs.Laws.{along, shown, pairs, commutes, firstPair}
+use Rattle.action.specs.Laws.{along, shown, pairs, commutes, first_pair}
 use Rattle.action.specs.declared.Action.TheVariants.{DontCare}
 use Rattle.action.proofs.Along.{hit, miss, none_left}
 use Rattle.action.proofs.Product.{pair-tried}
@@ -12,13 +12,13 @@ use Rattle.action.proofs.first_pair.Statement.{statement}
 use Rattle.action.proofs.first_pair.Tie as tie
 
 abbrev invariant-loop : tie.invariant-loop
-invariant-loop cells k₀ k = along (commutes cells) (drop k pairs) ≡ firstPair cells
+invariant-loop cells k₀ k = along (commutes cells) (drop k pairs) ≡ first_pair cells
 
 abbrev decreases-loop : tie.decreases-loop
 decreases-loop cells k₀ k = length pairs - k
 
 loop-holds : tie.Need-loop-init invariant-loop decreases-loop
-unfolding firstPair
+unfolding first_pair
 loop-holds c = refl
 
 returns : tie.Need-returns invariant-loop decreases-loop

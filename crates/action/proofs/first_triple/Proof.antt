@@ -4,15 +4,15 @@ use native.Mathlib.Omega.{arith}
 use mathlib.Core.Path.{◌≡◌}
 use lib.ListN.{length, drop}
 use borrow.Author.Rules.{rules}
-use Rattle.action.specs.Laws.{along, shown, pairs, firstTriple}
+use Rattle.action.specs.Laws.{along, shown, pairs, first_triple}
 use Rattle.action.specs.declared.Action.TheVariants.{DontCare}
 use Rattle.action.proofs.Along.{else-hit, else-miss, turn, none_left}
-use Rattle.action.proofs.Product.{byPair, pair-thirds, triples-by-pair}
+use Rattle.action.proofs.Product.{by_pair, pair-thirds, triples-by-pair}
 use Rattle.action.proofs.first_triple.Statement.{statement}
 use Rattle.action.proofs.first_triple.Tie as tie
 
 abbrev invariant-loop : tie.invariant-loop
-invariant-loop cells k₀ k = along (byPair cells) (drop k pairs) ≡ firstTriple cells
+invariant-loop cells k₀ k = along (by_pair cells) (drop k pairs) ≡ first_triple cells
 
 abbrev decreases-loop : tie.decreases-loop
 decreases-loop cells k₀ k = length pairs - k
@@ -28,7 +28,7 @@ returns c =
     let o = start.args.cells.now in
     let h : l.k < length pairs = omega arith in
     else-hit _ _ _
-    (turn (byPair o) pairs (DontCare, DontCare) l.k h l.invariant
+    (turn (by_pair o) pairs (DontCare, DontCare) l.k h l.invariant
     (pair-thirds o l.k _ _ _ h
     c.before.before.before.before.showing.ensures
     c.before.before.before.showing2.ensures
@@ -51,7 +51,7 @@ loop-again c =
     let o = start.args.cells.now in
     let h : l.k < length pairs = omega arith in
     else-miss _ _ _
-    (turn (byPair o) pairs (DontCare, DontCare) l.k h l.invariant
+    (turn (by_pair o) pairs (DontCare, DontCare) l.k h l.invariant
     (pair-thirds o l.k _ _ _ h
     c.before.before.before.before.showing.ensures
     c.before.before.before.showing2.ensures

@@ -5,16 +5,16 @@ use native.Mathlib.Omega.{arith}
 use Prim.Native.Nat.{◌-◌, ◌≤◌}
 use mathlib.Core.Path.{◌≡◌, refl}
 use lib.ListN.{length, take, length-set}
-use Rattle.action.specs.Operator.{cellCount, wordsFrom}
+use Rattle.action.specs.Operator.{cell_count, words_from}
 use Rattle.action.proofs.Cells.{cell-read, cells-read}
 use Rattle.action.proofs.operator_of.Statement.{statement}
 use Rattle.action.proofs.operator_of.Tie as tie
 
 abbrev invariant-loop : tie.invariant-loop
-invariant-loop words cells₀ i₀ cells i = (i ≤ cellCount) × (length cells ≡ cellCount) × (take i cells ≡ wordsFrom 0 i words)
+invariant-loop words cells₀ i₀ cells i = (i ≤ cell_count) × (length cells ≡ cell_count) × (take i cells ≡ words_from 0 i words)
 
 abbrev decreases-loop : tie.decreases-loop
-decreases-loop words cells₀ i₀ cells i = cellCount - i
+decreases-loop words cells₀ i₀ cells i = cell_count - i
 
 loop-holds : tie.Need-loop-init invariant-loop decreases-loop
 loop-holds c = (omega arith, refl, refl)

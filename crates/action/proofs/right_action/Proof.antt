@@ -8,7 +8,7 @@ use mathlib.Core.Logic.{⊎_elim}
 use lib.Dec.{eqb, leb, ltb}
 use borrow.Author.Tests.{eqb-true, eqb-false, leb-true, le-leb, ltb-true, lt-ltb}
 use Rattle.logic.proofs.Tests.{by-test, same_test, or_split}
-use Rattle.action.specs.Action.{gmb, largestRate, rightRate, rightAction}
+use Rattle.action.specs.Action.{gmb, largest_rate, right_rate, right_action}
 use Rattle.action.proofs.right_action.Statement.{statement}
 use Rattle.action.proofs.right_action.Tie as tie
 
@@ -37,16 +37,16 @@ by_cases false true true s apart small = and-false s
 by_cases false true false s apart small = and-true s
 by_cases false false z s apart small = refl
 
-told : (k n : ℕ) → (leb k gmb && leb n largestRate && beq (eqb k gmb) (not (eqb n 0))) ≡ ((ltb k gmb && eqb n 0) || (eqb k gmb && rightRate n))
+told : (k n : ℕ) → (leb k gmb && leb n largest_rate && beq (eqb k gmb) (not (eqb n 0))) ≡ ((ltb k gmb && eqb n 0) || (eqb k gmb && right_rate n))
 told k n =
-    ap (λ (t : Bool). t && leb n largestRate && beq (eqb k gmb) (not (eqb n 0))) (up_to k gmb)
-    ∙ by_cases (ltb k gmb) (eqb k gmb) (eqb n 0) (leb n largestRate)
+    ap (λ (t : Bool). t && leb n largest_rate && beq (eqb k gmb) (not (eqb n 0))) (up_to k gmb)
+    ∙ by_cases (ltb k gmb) (eqb k gmb) (eqb n 0) (leb n largest_rate)
     (λ b. by-test (eqb k gmb) (λ g. absurd (omega (arith, ltb-true k gmb b, eqb-true k gmb g))) (λ f. f))
-    (λ z. le-leb n largestRate (omega (arith, eqb-true n 0 z)))
-    ∙ sym (ap (λ (t : Bool). (ltb k gmb && eqb n 0) || (eqb k gmb && (t && leb n largestRate))) (from_one n))
+    (λ z. le-leb n largest_rate (omega (arith, eqb-true n 0 z)))
+    ∙ sym (ap (λ (t : Bool). (ltb k gmb && eqb n 0) || (eqb k gmb && (t && leb n largest_rate))) (from_one n))
 
 returns : tie.Need-returns
-unfolding rightAction
+unfolding right_action
 returns c = told c.args.kind c.args.rate
 
 pub right-action-spec : {M : Type 1} → statement M

@@ -4,7 +4,7 @@ use native.Mathlib.Omega.{arith}
 use mathlib.Core.Path.{◌≡◌, refl}
 use lib.ListN.{length, drop}
 use borrow.Author.Rules.{rules}
-use Rattle.action.specs.Laws.{along, shown, associates, withThird}
+use Rattle.action.specs.Laws.{along, shown, associates, with_third}
 use Rattle.action.specs.declared.Action.TheVariants.{DontCare}
 use Rattle.action.proofs.Along.{hit, miss, none_left}
 use Rattle.action.proofs.Product.{third-tried}
@@ -12,13 +12,13 @@ use Rattle.action.proofs.with_third.Statement.{statement}
 use Rattle.action.proofs.with_third.Tie as tie
 
 abbrev invariant-loop : tie.invariant-loop
-invariant-loop cells a b ab k₀ k = along (λ c. associates cells (a, (b, c))) (drop k shown) ≡ withThird cells a b
+invariant-loop cells a b ab k₀ k = along (λ c. associates cells (a, (b, c))) (drop k shown) ≡ with_third cells a b
 
 abbrev decreases-loop : tie.decreases-loop
 decreases-loop cells a b ab k₀ k = length shown - k
 
 loop-holds : tie.Need-loop-init invariant-loop decreases-loop
-unfolding withThird
+unfolding with_third
 loop-holds c = refl
 
 returns : tie.Need-returns invariant-loop decreases-loop

@@ -4,7 +4,7 @@ use borrow.Author.Rules.{rules}
 use native.Mathlib.Omega.{arith}
 use Prim.Native.Nat.{◌-◌, ◌≤◌}
 use lib.ListN.{length, drop}
-use Rattle.common.specs.Tables.{commonRowsWords}
+use Rattle.common.specs.Tables.{common_rows_words}
 use Rattle.common.proofs.Turns.{common-rows-next, common-rows-end}
 use Rattle.common.proofs.Going.{Going, start, step, stop, finish}
 use Rattle.common.proofs.common_rows.Statement.{statement}
@@ -12,7 +12,7 @@ use Rattle.common.proofs.common_rows.Tie as tie
 
 abbrev invariant-loop : tie.invariant-loop
 invariant-loop operator left right out₀ at done₀ i₀ out done i =
-    (i ≤ length left) × Going at (commonRowsWords operator.cells left right) out₀ done (commonRowsWords operator.cells (drop i left) right) out
+    (i ≤ length left) × Going at (common_rows_words operator.cells left right) out₀ done (common_rows_words operator.cells (drop i left) right) out
 
 abbrev decreases-loop : tie.decreases-loop
 decreases-loop operator left right out₀ at done₀ i₀ out done i = length left - i

@@ -5,7 +5,7 @@ use native.Mathlib.Omega.{arith}
 use Prim.Native.Nat.{◌-◌, ◌≤◌}
 use lib.ListN.{length, drop}
 use Rattle.row.specs.Row.{row_of}
-use Rattle.common.specs.Tables.{commonWithWords}
+use Rattle.common.specs.Tables.{common_with_words}
 use Rattle.common.proofs.Turns.{common-with-next, common-with-end}
 use Rattle.common.proofs.Going.{Going, start, step, stop, finish}
 use Rattle.common.proofs.common_with.Statement.{statement}
@@ -13,8 +13,8 @@ use Rattle.common.proofs.common_with.Tie as tie
 
 abbrev invariant-loop : tie.invariant-loop
 invariant-loop operator row table out₀ at m a done₀ i₀ out done i =
-    (i ≤ length table) × Going at (commonWithWords operator.cells (row_of row) table) out₀ done
-    (commonWithWords operator.cells (record { match = m; action = a }) (drop i table)) out
+    (i ≤ length table) × Going at (common_with_words operator.cells (row_of row) table) out₀ done
+    (common_with_words operator.cells (record { match = m; action = a }) (drop i table)) out
 
 abbrev decreases-loop : tie.decreases-loop
 decreases-loop operator row table out₀ at m a done₀ i₀ out done i = length table - i

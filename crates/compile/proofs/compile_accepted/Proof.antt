@@ -3,7 +3,7 @@
 use borrow.Author.Rules.{rules}
 use native.Mathlib.Omega.{arith}
 use Prim.Native.Nat.{◌*◌}
-use Rattle.row.specs.Row.{rowLength}
+use Rattle.row.specs.Row.{row_length}
 use mathlib.Core.Path.{refl, sym}
 use lib.Seq.{length-take-le}
 use Rattle.nodes.proofs.Walk.{start-reached}
@@ -36,7 +36,7 @@ subtree-requires c κs =
       r.0,
       r.1,
       omega arith,
-      takes-alike (rowLength * c.before.before.before.before.room_of.result) start.args.scratch.now start.args.table.now
+      takes-alike (row_length * c.before.before.before.before.room_of.result) start.args.scratch.now start.args.table.now
           (omega (arith, c.before.before.before.if1.false)) (omega (arith, c.before.before.before.before.room_of.ensures)),
     )
 

@@ -5,13 +5,13 @@ use native.Mathlib.Omega.{arith}
 use Prim.Native.Nat.{◌-◌, ◌≤◌}
 use mathlib.Core.Path.{◌≡◌, refl}
 use lib.ListN.{length, drop}
-use Rattle.compile.specs.Compile.{fineWords}
+use Rattle.compile.specs.Compile.{fine_words}
 use Rattle.compile.proofs.Settling.{rates-more, rates-wrong, rates-end}
 use Rattle.compile.proofs.rates_right.Statement.{statement}
 use Rattle.compile.proofs.rates_right.Tie as tie
 
 abbrev invariant-loop : tie.invariant-loop
-invariant-loop rows i₀ i = (i ≤ length rows) × (fineWords (drop i rows) ≡ fineWords rows)
+invariant-loop rows i₀ i = (i ≤ length rows) × (fine_words (drop i rows) ≡ fine_words rows)
 
 abbrev decreases-loop : tie.decreases-loop
 decreases-loop rows i₀ i = length rows - i

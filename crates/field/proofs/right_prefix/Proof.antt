@@ -2,16 +2,16 @@
 -- Assumes nothing.
 use native.Mathlib.Omega.{arith}
 use lib.Count.{trailing_le}
-use Rattle.field.specs.Prefix.{addressBits}
+use Rattle.field.specs.Prefix.{address_bits}
 use Rattle.field.proofs.Prefixes.{right-test}
 use Rattle.field.proofs.right_prefix.Statement.{statement}
 use Rattle.field.proofs.right_prefix.Tie as tie
 
 sub-result : tie.Need-overflow-sub-result
-sub-result c = let few = trailing_le addressBits c.args.p in omega arith
+sub-result c = let few = trailing_le address_bits c.args.p in omega arith
 
 returns : tie.Need-returns
-returns c = right-test addressBits c.args.p c.args.n c.ranges.p.fits
+returns c = right-test address_bits c.args.p c.args.n c.ranges.p.fits
 
 pub right-prefix-spec : {M : Type 1} → statement M
 right-prefix-spec = tie.close (tie.spec sub-result returns)

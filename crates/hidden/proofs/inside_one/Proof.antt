@@ -5,15 +5,15 @@ use native.Mathlib.Omega.{arith}
 use Prim.Native.Nat.{◌-◌, ◌≤◌}
 use mathlib.Core.Path.{◌≡◌, refl}
 use lib.ListN.{length, drop}
-use Rattle.theory.specs.Hidden.{insideOne}
+use Rattle.theory.specs.Hidden.{inside_one}
 use Rattle.flow.specs.Match.{inside}
-use Rattle.row.specs.Row.{rowsIn}
+use Rattle.row.specs.Row.{rows_in}
 use Rattle.hidden.proofs.Turns.{inside-here, inside-later, inside-none}
 use Rattle.hidden.proofs.inside_one.Statement.{statement}
 use Rattle.hidden.proofs.inside_one.Tie as tie
 
 abbrev invariant-loop : tie.invariant-loop
-invariant-loop m rows from₀ from = (from ≤ length rows) × (insideOne inside m (rowsIn (drop from rows)) ≡ insideOne inside m (rowsIn rows))
+invariant-loop m rows from₀ from = (from ≤ length rows) × (inside_one inside m (rows_in (drop from rows)) ≡ inside_one inside m (rows_in rows))
 
 abbrev decreases-loop : tie.decreases-loop
 decreases-loop m rows from₀ from = length rows - from

@@ -7,8 +7,8 @@ use mathlib.Core.List.{List}
 use Rattle.action.specs.declared.Action.{Action}
 use Rattle.flow.specs.Match.{match_of}
 use Rattle.flow.specs.declared.Match.{Match}
-use Rattle.row.specs.Row.{row_of, rowAction}
-use Rattle.line.specs.Text.{number, matchText, actionText, line}
+use Rattle.row.specs.Row.{row_of, row_action}
+use Rattle.line.specs.Text.{number, match_text, action_text, line}
 use Rattle.line.specs.Puts.{Puts}
 use Rattle.line.proofs.Putting.{◌then◌}
 use borrow.Author.Rules.{rules}
@@ -16,11 +16,11 @@ use Rattle.line.proofs.put_line.Statement.{statement}
 use Rattle.line.proofs.put_line.Tie as tie
 
 -- a row's line
-line-put : (ws : List ℕ) (p : ℕ) {l l₁ l₂ l₃ : List ℕ} {a b c d : ℕ} (m : Match) (x : Action) → m ≡ match_of ws → x ≡ rowAction ws
-    → Puts (number p (code " ")) l a l₁ b → Puts (matchText m) l₁ b l₂ c → Puts (actionText x) l₂ c l₃ d → Puts (line p (row_of ws)) l a l₃ d
+line-put : (ws : List ℕ) (p : ℕ) {l l₁ l₂ l₃ : List ℕ} {a b c d : ℕ} (m : Match) (x : Action) → m ≡ match_of ws → x ≡ row_action ws
+    → Puts (number p (code " ")) l a l₁ b → Puts (match_text m) l₁ b l₂ c → Puts (action_text x) l₂ c l₃ d → Puts (line p (row_of ws)) l a l₃ d
 unfolding line
 line-put ws k {l₁ =
-    l₁} {l₂} {l₃} {b = b} {c} {d} m x e f p q r = p then subst (λ y. Puts (matchText y) l₁ b l₂ c) e q then subst (λ y. Puts (actionText y) l₂ c l₃ d) f r
+    l₁} {l₂} {l₃} {b = b} {c} {d} m x e f p q r = p then subst (λ y. Puts (match_text y) l₁ b l₂ c) e q then subst (λ y. Puts (action_text y) l₂ c l₃ d) f r
 
 returns : tie.Need-returns
 returns c =

@@ -2,16 +2,16 @@
 -- Assumes nothing.
 use borrow.Author.Rules.{rules}
 use borrow.Author.Tests.{lt-ltb, le-ltb}
-use Rattle.nodes.specs.Nodes.{firstAtom}
+use Rattle.nodes.specs.Nodes.{first_atom}
 use Rattle.nodes.proofs.first_atom.Statement.{statement}
 use Rattle.nodes.proofs.first_atom.Tie as tie
 
 returns : tie.Need-returns
-unfolding firstAtom
+unfolding first_atom
 returns c = rw (lt-ltb _ _ c.if1.true)
 
 returns-2 : tie.Need-returns-2
-unfolding firstAtom
+unfolding first_atom
 returns-2 c = rw (c.behind.ensures, le-ltb _ _ c.before.if1.false)
 
 pub first-atom-spec : {M : Type 1} → statement M

@@ -1,12 +1,12 @@
 -- `nodes::node_at` meets its contract: the body is the definition, with the callees' results rewritten.
 -- Assumes nothing.
 use borrow.Author.Rules.{rules}
-use Rattle.nodes.specs.Nodes.{nodeAt}
+use Rattle.nodes.specs.Nodes.{node_at}
 use Rattle.nodes.proofs.node_at.Statement.{statement}
 use Rattle.nodes.proofs.node_at.Tie as tie
 
 returns : tie.Need-returns
-unfolding nodeAt
+unfolding node_at
 returns c =
     let node-place = c.before.before.before.before.before.node-place in
     rw (

@@ -3,7 +3,7 @@
 use borrow.Author.Rules.{rules}
 use native.Mathlib.Omega.{arith}
 use Rattle.section.specs.Sections.{behind}
-use Rattle.policy.specs.Steps.{fromNodes, with_nodes, fromAtoms, withAtoms}
+use Rattle.policy.specs.Steps.{from_nodes, with_nodes, from_atoms, with_atoms}
 use Rattle.section.specs.declared.Section.TheVariants.{Atoms}
 use Rattle.policy.proofs.Chain.{stop, go, carry, carry-place}
 use Rattle.section.proofs.Records.{section-bounds}
@@ -11,7 +11,7 @@ use Rattle.policy.proofs.read_atoms.Statement.{statement}
 use Rattle.policy.proofs.read_atoms.Tie as tie
 
 returns : tie.Need-returns
-unfolding withAtoms fromAtoms with_nodes fromNodes
+unfolding with_atoms from_atoms with_nodes from_nodes
 returns c = stop _ _ _ _ c.before.before.before.section-fault.ensures _ c.before.found.given.1
 
 behind-requires : tie.Need-behind-requires
@@ -32,14 +32,14 @@ read-nodes-requires c κs =
     omega (arith, b, c.behind.ensures)
 
 returns-2 : tie.Need-returns-2
-unfolding withAtoms fromAtoms with_nodes fromNodes
+unfolding with_atoms from_atoms with_nodes from_nodes
 returns-2 c =
     let told = c.before.before.before.before in
     let g = told.before.before.before.before.args in
-    carry (λ n. fromAtoms g.edition g.file.now g.h g.a g.at n (behind g.at (Atoms g.edition) n)) _ _ _ _
+    carry (λ n. from_atoms g.edition g.file.now g.h g.a g.at n (behind g.at (Atoms g.edition) n)) _ _ _ _
     c.before.before.wide.ensures
     c.before.before.before.word.ensures
-    (carry-place (λ q. fromAtoms g.edition g.file.now g.h g.a g.at c.before.before.wide.result q) _ _ _ c.before.behind.ensures
+    (carry-place (λ q. from_atoms g.edition g.file.now g.h g.a g.at c.before.before.wide.result q) _ _ _ c.before.behind.ensures
     (go _ _ _ _ told.before.before.section-fault.ensures told.enum_told.given.1 _ c.read-nodes.ensures))
 
 pub read-atoms-spec : {M : Type 1} → statement M

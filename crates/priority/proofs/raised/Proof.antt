@@ -7,12 +7,12 @@ use Rattle.table.specs.Table.{past}
 use Rattle.priority.proofs.Back.{raised-low, raised-over, raised-not}
 use Rattle.priority.proofs.raised.Statement.{statement}
 use Rattle.priority.proofs.raised.Tie as tie
-use Rattle.row.specs.Row.{rowsIn}
+use Rattle.row.specs.Row.{rows_in}
 
 returns : tie.Need-returns
 returns c =
     let g = c.before.before.args in
-    raised-low g.best g.level (overlap (get_or (rowsIn g.table.now) g.j past).match g.m) c.if1.true
+    raised-low g.best g.level (overlap (get_or (rows_in g.table.now) g.j past).match g.m) c.if1.true
 
 row-match-requires : tie.Need-row-match-requires
 row-match-requires c κs = search rules

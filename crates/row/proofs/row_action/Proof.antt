@@ -1,7 +1,7 @@
 -- `row::row_action` meets its contract: the body is the definition, with the callees' results rewritten.
 -- Assumes nothing.
 use borrow.Author.Rules.{rules}
-use Rattle.row.specs.Row.{rowAction}
+use Rattle.row.specs.Row.{row_action}
 use Rattle.row.proofs.row_action.Statement.{statement}
 use Rattle.row.proofs.row_action.Tie as tie
 
@@ -15,7 +15,7 @@ action-of-requires : tie.Need-action-of-requires
 action-of-requires c κs = search rules
 
 returns : tie.Need-returns
-unfolding rowAction
+unfolding row_action
 returns c = rw (c.action-of.ensures, c.before.word2.ensures, c.before.before.word.ensures)
 
 pub row-action-spec : {M : Type 1} → statement M

@@ -5,7 +5,7 @@ use native.Mathlib.Omega.{arith}
 use Prim.Native.Nat.{◌%◌, ◌≤◌}
 use mathlib.Core.Path.{◌≡◌, refl}
 use lib.ListN.{length, drop}
-use Rattle.row.specs.Row.{rowLength}
+use Rattle.row.specs.Row.{row_length}
 use Rattle.rows.specs.Places.{Grows}
 use Rattle.rows.specs.Tables.{own_words}
 use Rattle.common.specs.declared.Made.TheVariants.{Words}
@@ -15,7 +15,7 @@ use Rattle.rows.proofs.own_rows.Tie as tie
 
 abbrev invariant-loop : tie.invariant-loop
 invariant-loop operator atoms table₀ scratch₀ start i₀ first₀ table scratch i first =
-    (i ≤ length atoms) × (i % rowLength ≡ 0) × (start ≤ first) × (first ≤ length scratch) × (length table ≡ length table₀) × (length scratch ≡ length table₀)
+    (i ≤ length atoms) × (i % row_length ≡ 0) × (start ≤ first) × (first ≤ length scratch) × (length table ≡ length table₀) × (length scratch ≡ length table₀)
     × Grows start (own_words operator.cells (drop i atoms)) table₀ table scratch (Words first)
 
 abbrev decreases-loop : tie.decreases-loop

@@ -7,13 +7,13 @@ use Rattle.sheet.proofs.Listed.{table-within, table-listed, table-refused}
 use borrow.Author.Rules.{rules}
 use mathlib.Core.List.{List}
 use lib.ListN.{replicate}
-use Rattle.sheet.specs.Sheet.{listingRoom}
+use Rattle.sheet.specs.Sheet.{listing_room}
 use Rattle.sheet.proofs.list_table.Statement.{statement}
 use Rattle.sheet.proofs.list_table.Tie as tie
 
 -- both buffers before the numbering
 abbrev none : List ℕ
-none = replicate listingRoom 0
+none = replicate listing_room 0
 
 array-share-prefix-priorities : tie.Need-array-share-prefix-priorities
 array-share-prefix-priorities c =

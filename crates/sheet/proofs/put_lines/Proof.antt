@@ -5,14 +5,14 @@ use native.Mathlib.Omega.{arith}
 use Prim.Native.Nat.{◌*◌, ◌-◌, ◌≤◌}
 use mathlib.Core.Path.{◌≡◌}
 use lib.ListN.{length}
-use Rattle.row.specs.Row.{rowLength}
+use Rattle.row.specs.Row.{row_length}
 use Rattle.sheet.proofs.Turns.{LinesAhead, lines_start, lines-turn, lines_end}
 use Rattle.sheet.proofs.put_lines.Statement.{statement}
 use Rattle.sheet.proofs.put_lines.Tie as tie
 
 abbrev invariant-loop : tie.invariant-loop
 invariant-loop out₀ at priorities table to₀ from₀ i₀ out to from i =
-    (i ≤ length priorities) × (from ≡ rowLength * i) × LinesAhead priorities table i from out to out₀ at
+    (i ≤ length priorities) × (from ≡ row_length * i) × LinesAhead priorities table i from out to out₀ at
 
 abbrev decreases-loop : tie.decreases-loop
 decreases-loop out₀ at priorities table to₀ from₀ i₀ out to from i = length priorities - i

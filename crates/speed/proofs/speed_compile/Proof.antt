@@ -2,7 +2,7 @@
 -- Assumes nothing.
 use borrow.Author.Rules.{rules}
 use mathlib.Core.Path.{ap, ◌∙◌}
-use Rattle.compile.specs.Compile.{compileCount}
+use Rattle.compile.specs.Compile.{compile_count}
 use Rattle.speed.proofs.speed_compile.Statement.{statement}
 use Rattle.speed.proofs.speed_compile.Tie as tie
 
@@ -22,7 +22,7 @@ returns : tie.Need-returns
 returns c =
     let compile = c.before.before.before.before.before.compile in
     let done = compile.ensures in
-    (c.row_count.ensures ∙ ap compileCount done.answer, done.table, done.scratch)
+    (c.row_count.ensures ∙ ap compile_count done.answer, done.table, done.scratch)
 
 pub speed-compile-spec : {M : Type 1} → statement M
 speed-compile-spec =

@@ -2,7 +2,7 @@
 -- Assumes nothing.
 use borrow.Author.Rules.{rules}
 use mathlib.Core.Path.{ap, ◌∙◌}
-use Rattle.priority.specs.Numbering.{answerCount}
+use Rattle.priority.specs.Numbering.{answer_count}
 use Rattle.speed.proofs.speed_number.Statement.{statement}
 use Rattle.speed.proofs.speed_number.Tie as tie
 
@@ -22,7 +22,7 @@ returns : tie.Need-returns
 returns c =
     let number = c.before.before.before.before.before.number in
     let done = number.ensures in
-    (c.priority-count.ensures ∙ ap answerCount done.0, done.1, done.2)
+    (c.priority-count.ensures ∙ ap answer_count done.0, done.1, done.2)
 
 pub speed-number-spec : {M : Type 1} → statement M
 speed-number-spec =

@@ -2,8 +2,8 @@
 -- Assumes nothing.
 use borrow.Author.Rules.{rules}
 use mathlib.Core.Path.{ap, ◌∙◌}
-use Rattle.speed.specs.Answers.{withAction}
-use Rattle.table.specs.Scan.{scanTried, scanAction}
+use Rattle.speed.specs.Answers.{with_action}
+use Rattle.table.specs.Scan.{scan_tried, scan_action}
 use Rattle.speed.proofs.speed_scan.Statement.{statement}
 use Rattle.speed.proofs.speed_scan.Tie as tie
 
@@ -11,9 +11,9 @@ returns : tie.Need-returns
 returns c =
     let scan = c.before.before.before.before.before.before.scan in
     let answer = scan.ensures in
-    let action = c.before.before.before.before.scan-given.ensures ∙ ap scanAction answer in (
-      c.scan-tried.ensures ∙ ap scanTried answer,
-      c.before.before.before.put-action.ensures ∙ ap (withAction _) action,
+    let action = c.before.before.before.before.scan-given.ensures ∙ ap scan_action answer in (
+      c.scan-tried.ensures ∙ ap scan_tried answer,
+      c.before.before.before.put-action.ensures ∙ ap (with_action _) action,
     )
 
 pub speed-scan-spec : {M : Type 1} → statement M

@@ -5,14 +5,14 @@ use native.Mathlib.Omega.{arith}
 use Prim.Native.Nat.{◌+◌, ◌*◌, ◌-◌, ◌≤◌}
 use mathlib.Core.Path.{◌≡◌}
 use lib.ListN.{length}
-use Rattle.row.specs.Row.{rowLength}
-use Rattle.table.specs.Table.{checkFrom, checkRows}
+use Rattle.row.specs.Row.{row_length}
+use Rattle.table.specs.Table.{check_from, check_rows}
 use Rattle.table.proofs.Turns.{left, check-start, wrong-found, wrong-later, wrong-none}
 use Rattle.table.proofs.check_rows.Statement.{statement}
 use Rattle.table.proofs.check_rows.Tie as tie
 
 abbrev invariant-loop : tie.invariant-loop
-invariant-loop table rows from₀ i₀ from i = ((from + rowLength * (rows - i) ≤ length table) × (i ≤ rows)) × (checkFrom i (left table rows i from) ≡ checkRows table)
+invariant-loop table rows from₀ i₀ from i = ((from + row_length * (rows - i) ≤ length table) × (i ≤ rows)) × (check_from i (left table rows i from) ≡ check_rows table)
 
 abbrev decreases-loop : tie.decreases-loop
 decreases-loop table rows from₀ i₀ from i = rows - i

@@ -6,7 +6,7 @@ use Prim.Native.Nat.{◌+◌, ◌*◌, ◌-◌, ◌≤◌}
 use mathlib.Core.Path.{◌≡◌}
 use mathlib.Core.List.{map}
 use lib.ListN.{length}
-use Rattle.row.specs.Row.{rowLength, row_of, rowsIn}
+use Rattle.row.specs.Row.{row_length, row_of, rows_in}
 use Rattle.table.specs.Scan.{found}
 use Rattle.table.proofs.Turns.{left, scan-start, match-found, match-later, match_none}
 use Rattle.table.proofs.first_match.Statement.{statement}
@@ -14,7 +14,7 @@ use Rattle.table.proofs.first_match.Tie as tie
 
 abbrev invariant-loop : tie.invariant-loop
 invariant-loop table p rows at₀ tried₀ at tried =
-    ((at + rowLength * (rows - tried) ≤ length table) × (tried ≤ rows)) × (found tried (map row_of (left table rows tried at)) p ≡ found 0 (rowsIn table) p)
+    ((at + row_length * (rows - tried) ≤ length table) × (tried ≤ rows)) × (found tried (map row_of (left table rows tried at)) p ≡ found 0 (rows_in table) p)
 
 abbrev decreases-loop : tie.decreases-loop
 decreases-loop table p rows at₀ tried₀ at tried = rows - tried

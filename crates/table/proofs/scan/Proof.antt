@@ -2,16 +2,16 @@
 -- Assumes nothing.
 use borrow.Author.Rules.{rules}
 use borrow.Author.Tests.{not-true, not-false}
-use Rattle.table.specs.Scan.{scanOf}
+use Rattle.table.specs.Scan.{scan_of}
 use Rattle.table.proofs.scan.Statement.{statement}
 use Rattle.table.proofs.scan.Tie as tie
 
 returns : tie.Need-returns
-unfolding scanOf
+unfolding scan_of
 returns c = rw (← c.before.right-packet-words.ensures, not-true c.before.right-packet-words.result c.if1.true)
 
 returns-2 : tie.Need-returns-2
-unfolding scanOf
+unfolding scan_of
 returns-2 c =
     let right-packet-words = c.before.before.before.before.before.before.right-packet-words in
     let if1 = c.before.before.before.before.before.if1 in
@@ -24,7 +24,7 @@ returns-2 c =
     ) c.first-match.ensures
 
 returns-3 : tie.Need-returns-3
-unfolding scanOf
+unfolding scan_of
 returns-3 c =
     let right-packet-words = c.before.before.before.before.before.right-packet-words in
     rw (

@@ -5,15 +5,15 @@ use native.Mathlib.Omega.{arith}
 use Prim.Native.Nat.{◌%◌, ◌≤◌}
 use mathlib.Core.Path.{◌≡◌}
 use lib.ListN.{length, drop}
-use Rattle.nodes.specs.Nodes.{cellsAt}
-use Rattle.row.specs.Row.{rowLength}
-use Rattle.tree.specs.Steps.{ownAction}
+use Rattle.nodes.specs.Nodes.{cells_at}
+use Rattle.row.specs.Row.{row_length}
+use Rattle.tree.specs.Steps.{own_action}
 use Rattle.tree.proofs.Own.{own-start, own-step, own-end}
 use Rattle.tree.proofs.own_action.Statement.{statement}
 use Rattle.tree.proofs.own_action.Tie as tie
 
 abbrev invariant-loop : tie.invariant-loop
-invariant-loop file inner atoms packet i₀ given₀ i given = (i ≤ length atoms) × (i % rowLength ≡ 0) × (given ≡ ownAction (cellsAt file inner) (drop i atoms) packet)
+invariant-loop file inner atoms packet i₀ given₀ i given = (i ≤ length atoms) × (i % row_length ≡ 0) × (given ≡ own_action (cells_at file inner) (drop i atoms) packet)
 
 abbrev decreases-loop : tie.decreases-loop
 decreases-loop file inner atoms packet i₀ given₀ i given = i

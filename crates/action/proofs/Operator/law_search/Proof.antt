@@ -1,7 +1,7 @@
 -- `law_search` is the search along pairs, then along triples: a failure of the first is the answer, else the second's answer is.
 use mathlib.Core.Path.{◌∙◌}
 use borrow.Author.Rules.{rules}
-use Rattle.action.specs.Laws.{firstTriple, lawSearch}
+use Rattle.action.specs.Laws.{first_triple, law_search}
 use Rattle.action.proofs.Along.{else-hit, else-miss}
 use Rattle.action.proofs.Operator.law_search.Statement.{statement}
 use Rattle.action.proofs.Operator.law_search.Tie as tie
@@ -13,11 +13,11 @@ enum_told : tie.Need-enum-told
 enum_told c = search rules
 
 returns : tie.Need-returns
-unfolding lawSearch
+unfolding law_search
 returns c =
     let start = c.before.before.before.before.before.before in
     let o = start.args.t1.cells in
-    else-hit _ _ (firstTriple o) (rw c.before.before.first-pair.ensures) _ _ _ _ c.enum_told.given.1
+    else-hit _ _ (first_triple o) (rw c.before.before.first-pair.ensures) _ _ _ _ c.enum_told.given.1
 
 enum-told-2 : tie.Need-enum-told-2
 enum-told-2 c = search rules
@@ -26,7 +26,7 @@ first-triple-requires : tie.Need-first-triple-requires
 first-triple-requires c κs = search rules
 
 returns-2 : tie.Need-returns-2
-unfolding lawSearch
+unfolding law_search
 returns-2 c =
     let first-pair = c.before.before.before.before.before.before.first-pair in
     c.first-triple.ensures

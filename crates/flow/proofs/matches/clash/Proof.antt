@@ -6,22 +6,22 @@ use mathlib.Core.Bool.{Bool, true, false, cond, not, ◌&&◌, ◌||◌, and-tru
 use lib.Bits.{bit_and, and_zero_r}
 use lib.Dec.{eqb}
 use borrow.Author.Rules.{rules}
-use Rattle.flow.specs.Match.{protocolFlag, portFlags, flagged, hasPorts, clash}
+use Rattle.flow.specs.Match.{protocol_flag, port_flags, flagged, has_ports, clash}
 use Rattle.flow.proofs.matches.clash.Statement.{statement}
 use Rattle.flow.proofs.matches.clash.Tie as tie
 
 -- by whether the protocol is free, and whether it has ports
-barred : (f q : ℕ) → not (eqb (bit_and f (cond (eqb (bit_and f protocolFlag) 0 || hasPorts q) 0 portFlags)) 0) ≡ clash f q
+barred : (f q : ℕ) → not (eqb (bit_and f (cond (eqb (bit_and f protocol_flag) 0 || has_ports q) 0 port_flags)) 0) ≡ clash f q
 unfolding clash
-barred f q = go (eqb (bit_and f protocolFlag) 0) (hasPorts q)
+barred f q = go (eqb (bit_and f protocol_flag) 0) (has_ports q)
   where
     none : not (eqb (bit_and f 0) 0) ≡ false
     none = ap (λ (x : ℕ). not (eqb x 0)) (and_zero_r f)
 
-    go : (e h : Bool) → not (eqb (bit_and f (cond (e || h) 0 portFlags)) 0) ≡ (flagged portFlags f && not e && not h)
-    go true h = none ∙ sym (ap (λ (t : Bool). t && not h) (and-false (flagged portFlags f)))
-    go false true = none ∙ sym (and-false (flagged portFlags f && true))
-    go false false = sym (and-true (flagged portFlags f && true) ∙ and-true (flagged portFlags f))
+    go : (e h : Bool) → not (eqb (bit_and f (cond (e || h) 0 port_flags)) 0) ≡ (flagged port_flags f && not e && not h)
+    go true h = none ∙ sym (ap (λ (t : Bool). t && not h) (and-false (flagged port_flags f)))
+    go false true = none ∙ sym (and-false (flagged port_flags f && true))
+    go false false = sym (and-true (flagged port_flags f && true) ∙ and-true (flagged port_flags f))
 
 returns : tie.Need-returns
 returns c = rw (c.common-value.ensures, c.before.has-ports.ensures) (barred _ _)

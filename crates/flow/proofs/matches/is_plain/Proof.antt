@@ -8,10 +8,10 @@ use lib.Bits.{bit_and, bit_or, or_lt, or_add_and, and_le_l, and_le_r}
 use lib.Dec.{eqb, ltb}
 use borrow.Author.Rules.{rules}
 use borrow.Author.Tests.{ltb-true, lt-ltb}
-use Rattle.field.specs.Prefix.{addressBits, rightPrefix}
-use Rattle.field.specs.Value.{rightValue}
-use Rattle.flow.specs.Packet.{portLimit, protocolLimit}
-use Rattle.flow.specs.Match.{inportFlag, protocolFlag, sourceportFlag, destinationportFlag, knownFlags, constrains, is_plain}
+use Rattle.field.specs.Prefix.{address_bits, right_prefix}
+use Rattle.field.specs.Value.{right_value}
+use Rattle.flow.specs.Packet.{port_limit, protocol_limit}
+use Rattle.flow.specs.Match.{inport_flag, protocol_flag, sourceport_flag, destinationport_flag, known_flags, constrains, is_plain}
 use Rattle.flow.specs.declared.Match.{Match}
 use Rattle.flow.proofs.matches.is_plain.Statement.{statement}
 use Rattle.flow.proofs.matches.is_plain.Tie as tie
@@ -31,39 +31,39 @@ below k a b c h =
 -- the tests as they are made
 abbrev made : Match → Bool
 made m =
-    eqb (bit_and m.flags knownFlags) m.flags
-    && ltb (bit_or (bit_or m.inport m.sourceport) m.destinationport) portLimit
-    && (constrains inportFlag m || eqb m.inport 0)
-    && rightValue (constrains protocolFlag m) protocolLimit m.protocol
-    && (constrains sourceportFlag m || eqb m.sourceport 0)
-    && (constrains destinationportFlag m || eqb m.destinationport 0)
-    && rightPrefix addressBits m.source m.sourcelength
-    && rightPrefix addressBits m.destination m.destinationlength
+    eqb (bit_and m.flags known_flags) m.flags
+    && ltb (bit_or (bit_or m.inport m.sourceport) m.destinationport) port_limit
+    && (constrains inport_flag m || eqb m.inport 0)
+    && right_value (constrains protocol_flag m) protocol_limit m.protocol
+    && (constrains sourceport_flag m || eqb m.sourceport 0)
+    && (constrains destinationport_flag m || eqb m.destinationport 0)
+    && right_prefix address_bits m.source m.sourcelength
+    && right_prefix address_bits m.destination m.destinationlength
 
 -- are those that are defined
 told : (m : Match) → made m ≡ is_plain m
-unfolding is_plain rightValue
+unfolding is_plain right_value
 told m = same_test (made m) (is_plain m) each together
   where
     each : made m ≡ true → is_plain m ≡ true
     each e =
         let h = simp and-eq-true_iff at e in
-        let b = below 16 m.inport m.sourceport m.destinationport (ltb-true _ portLimit h.0.0.0.0.0.0.1) in
+        let b = below 16 m.inport m.sourceport m.destinationport (ltb-true _ port_limit h.0.0.0.0.0.0.1) in
         and_both (and_both (and_both (and_both (and_both (and_both h.0.0.0.0.0.0.0
-        (and_both (lt-ltb _ portLimit b.0) h.0.0.0.0.0.1))
+        (and_both (lt-ltb _ port_limit b.0) h.0.0.0.0.0.1))
         (and_both h.0.0.0.0.1.0 h.0.0.0.0.1.1))
-        (and_both (lt-ltb _ portLimit b.1) h.0.0.0.1))
-        (and_both (lt-ltb _ portLimit b.2) h.0.0.1))
+        (and_both (lt-ltb _ port_limit b.1) h.0.0.0.1))
+        (and_both (lt-ltb _ port_limit b.2) h.0.0.1))
         h.0.1)
         h.1
 
     together : is_plain m ≡ true → made m ≡ true
     together e =
         let h = simp and-eq-true_iff at e in
-        let ports = or_lt 16 m.inport m.sourceport (ltb-true _ portLimit h.0.0.0.0.0.1.0) (ltb-true _ portLimit h.0.0.0.1.0) in
-        let all = or_lt 16 (bit_or m.inport m.sourceport) m.destinationport ports (ltb-true _ portLimit h.0.0.1.0) in
+        let ports = or_lt 16 m.inport m.sourceport (ltb-true _ port_limit h.0.0.0.0.0.1.0) (ltb-true _ port_limit h.0.0.0.1.0) in
+        let all = or_lt 16 (bit_or m.inport m.sourceport) m.destinationport ports (ltb-true _ port_limit h.0.0.1.0) in
         and_both (and_both (and_both (and_both (and_both (and_both (and_both h.0.0.0.0.0.0
-        (lt-ltb _ portLimit all))
+        (lt-ltb _ port_limit all))
         h.0.0.0.0.0.1.1)
         (and_both h.0.0.0.0.1.0 h.0.0.0.0.1.1))
         h.0.0.0.1.1)

@@ -3,12 +3,12 @@
 use Prim.Native.Nat.{◌^◌}
 use native.Mathlib.Omega.{arith}
 use borrow.Author.Tests.{lt-ltb}
-use Rattle.flow.specs.Packet.{rightPacket}
+use Rattle.flow.specs.Packet.{right_packet}
 use Rattle.flow.proofs.packets.right_packet.Statement.{statement}
 use Rattle.flow.proofs.packets.right_packet.Tie as tie
 
 returns : tie.Need-returns
-unfolding rightPacket
+unfolding right_packet
 returns c =
     let p = c.before.before.before.before.args.p in
     rw (lt-ltb p.source (2 ^ 32) (omega arith), lt-ltb p.destination (2 ^ 32) (omega arith))

@@ -1,31 +1,31 @@
 -- `line::put_action` meets its contract, case by case.
 -- Assumes nothing.
-use Rattle.line.specs.Text.{actionText}
+use Rattle.line.specs.Text.{action_text}
 use Rattle.line.proofs.Putting.{◌then◌}
 use borrow.Author.Rules.{rules}
 use Rattle.line.proofs.put.put_action.Statement.{statement}
 use Rattle.line.proofs.put.put_action.Tie as tie
 
 returns : tie.Need-returns
-unfolding actionText
+unfolding action_text
 returns c =
     let enum_told = c.before.before.before.before.before.enum_told in
     rw enum_told.given.1 c.before.before.put.ensures
 
 returns-2 : tie.Need-returns-2
-unfolding actionText
+unfolding action_text
 returns-2 c =
     let enum-told2 = c.before.before.before.before.before.enum-told2 in
     rw enum-told2.given.1 c.before.before.put2.ensures
 
 returns-3 : tie.Need-returns-3
-unfolding actionText
+unfolding action_text
 returns-3 c =
     let enum-told3 = c.before.before.before.before.before.enum-told3 in
     rw enum-told3.given.1 c.before.before.put3.ensures
 
 returns-4 : tie.Need-returns-4
-unfolding actionText
+unfolding action_text
 returns-4 c =
     let a = c.before.before.before.before.before.before.before.before.before.before.a in
     let put4 = c.before.before.before.before.before.before.put4 in

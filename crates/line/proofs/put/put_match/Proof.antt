@@ -1,13 +1,13 @@
 -- `line::put_match` meets its contract: each part behind the one before.
 -- Assumes nothing.
-use Rattle.line.specs.Text.{matchText}
+use Rattle.line.specs.Text.{match_text}
 use Rattle.line.proofs.Putting.{◌then◌}
 use borrow.Author.Rules.{rules}
 use Rattle.line.proofs.put.put_match.Statement.{statement}
 use Rattle.line.proofs.put.put_match.Tie as tie
 
 returns : tie.Need-returns
-unfolding matchText
+unfolding match_text
 returns c =
     let destinationport = c.before.before in
     let sourceport = destinationport.before.before.before.before.before in

@@ -2,17 +2,17 @@
 -- Assumes nothing.
 use borrow.Author.Rules.{rules}
 use borrow.Author.Tests.{not-true, not-false}
-use Rattle.section.specs.Sections.{atomFault}
+use Rattle.section.specs.Sections.{atom_fault}
 use Rattle.section.proofs.atoms.atom_fault.Statement.{statement}
 use Rattle.section.proofs.atoms.atom_fault.Tie as tie
 
 returns : tie.Need-returns
-unfolding atomFault
+unfolding atom_fault
 returns c =
     rw (c.unless.ensures, ← c.before.before.right-match-in.ensures, not-true c.before.before.right-match-in.result c.before.if1.true)
 
 returns-2 : tie.Need-returns-2
-unfolding atomFault
+unfolding atom_fault
 returns-2 c =
     rw (
       c.unless2.ensures,

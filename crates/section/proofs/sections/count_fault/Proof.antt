@@ -1,12 +1,12 @@
 -- `section::sections::count_fault` meets its contract: the body is the definition, with the callees' results rewritten.
 -- Assumes nothing.
 use borrow.Author.Rules.{rules}
-use Rattle.section.specs.Sections.{countFault}
+use Rattle.section.specs.Sections.{count_fault}
 use Rattle.section.proofs.sections.count_fault.Statement.{statement}
 use Rattle.section.proofs.sections.count_fault.Tie as tie
 
 returns : tie.Need-returns
-unfolding countFault
+unfolding count_fault
 returns c =
     let there = c.before.before.before.before in
     rw (

@@ -1,12 +1,12 @@
 -- `section::sections::node_fault` meets its contract: the body is the definition, with the callees' results rewritten.
 -- Assumes nothing.
 use borrow.Author.Rules.{rules}
-use Rattle.section.specs.Sections.{nodeFault}
+use Rattle.section.specs.Sections.{node_fault}
 use Rattle.section.proofs.sections.node_fault.Statement.{statement}
 use Rattle.section.proofs.sections.node_fault.Tie as tie
 
 returns : tie.Need-returns
-unfolding nodeFault
+unfolding node_fault
 returns c =
     rw (
       c.unless.ensures,

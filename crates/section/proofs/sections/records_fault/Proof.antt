@@ -7,7 +7,7 @@ use mathlib.Core.Path.{◌≡◌, refl}
 use lib.ListN.{length, drop, length-take, length-drop}
 use Rattle.words.specs.Records.{records}
 use Rattle.words.proofs.Records.{records-next, records-none}
-use Rattle.section.specs.Sections.{each, recordLength, recordFault}
+use Rattle.section.specs.Sections.{each, record_length, record_fault}
 use Rattle.section.proofs.Each.{hit, miss, done}
 use Rattle.section.proofs.Records.{fits}
 use Rattle.section.proofs.sections.records_fault.Statement.{statement}
@@ -16,8 +16,8 @@ use Rattle.section.proofs.sections.records_fault.Tie as tie
 abbrev invariant-loop : tie.invariant-loop
 invariant-loop file at count section step from₀ left₀ from left =
     (from + step * left ≤ length file)
-    × (each (recordFault section) from step (records left step (drop from file))
-    ≡ each (recordFault section) at (recordLength section) (records count (recordLength section) (drop at file)))
+    × (each (record_fault section) from step (records left step (drop from file))
+    ≡ each (record_fault section) at (record_length section) (records count (record_length section) (drop at file)))
 
 abbrev decreases-loop : tie.decreases-loop
 decreases-loop file at count section step from₀ left₀ from left = left
@@ -50,7 +50,7 @@ returns c =
     let turn = c.before.before.before.before in
     let l = turn.before.loop in
     let g = turn.before.before.before.before.args in
-    hit (recordFault g.section) l.from _ l.invariant.1 (records-next _ l.from l.left g.file.now turn.loop-test.true)
+    hit (record_fault g.section) l.from _ l.invariant.1 (records-next _ l.from l.left g.file.now turn.loop-test.true)
     c.before.before.record-fault.ensures
     c.enum_told.given.1
 
@@ -60,7 +60,7 @@ loop-again c =
     let l = turn.before.loop in
     let g = turn.before.before.before.before.args in (
       (fits _ l.from l.left _ turn.loop-test.true l.invariant.0).others,
-      miss (recordFault g.section) l.from _ l.invariant.1 (records-next _ l.from l.left g.file.now turn.loop-test.true)
+      miss (record_fault g.section) l.from _ l.invariant.1 (records-next _ l.from l.left g.file.now turn.loop-test.true)
           c.before.before.record-fault.ensures
           c.enum-told2.given.1,
     )
@@ -68,7 +68,7 @@ loop-again c =
 returns-2 : tie.Need-returns-2 invariant-loop decreases-loop
 returns-2 c =
     let l = c.before.loop in
-    done (recordFault c.before.before.before.before.args.section) l.from _ l.invariant.1 (records-none _ l.left _ c.loop-test.false)
+    done (record_fault c.before.before.before.before.args.section) l.from _ l.invariant.1 (records-none _ l.left _ c.loop-test.false)
 
 pub records-fault-spec : {M : Type 1} → statement M
 records-fault-spec =

@@ -6,7 +6,7 @@ use Prim.Native.Nat.{◌+◌, ◌*◌, ◌≤◌}
 use mathlib.Core.Path.{◌≡◌, refl}
 use lib.ListN.{length, drop}
 use Rattle.words.specs.Records.{records}
-use Rattle.section.specs.Numbers.{nodeLength}
+use Rattle.section.specs.Numbers.{node_length}
 use Rattle.whole.specs.Whole.{named}
 use Rattle.whole.proofs.Nodes.{named_here, named-later, not_named}
 use Rattle.whole.proofs.laws.is_named.Statement.{statement}
@@ -14,8 +14,8 @@ use Rattle.whole.proofs.laws.is_named.Tie as tie
 
 abbrev invariant-loop : tie.invariant-loop
 invariant-loop file at count operator from₀ left₀ from left =
-    (from + nodeLength * left ≤ length file)
-    × (named operator (records left nodeLength (drop from file)) ≡ named operator (records count nodeLength (drop at file)))
+    (from + node_length * left ≤ length file)
+    × (named operator (records left node_length (drop from file)) ≡ named operator (records count node_length (drop at file)))
 
 abbrev decreases-loop : tie.decreases-loop
 decreases-loop file at count operator from₀ left₀ from left = left

@@ -6,16 +6,16 @@ use Prim.Native.Nat.{◌+◌, ◌*◌, ◌≤◌}
 use mathlib.Core.Path.{◌≡◌}
 use lib.ListN.{length, drop}
 use Rattle.words.specs.Records.{records}
-use Rattle.section.specs.Numbers.{nodeLength, mostNodes}
-use Rattle.whole.specs.Whole.{ownAtoms}
+use Rattle.section.specs.Numbers.{node_length, most_nodes}
+use Rattle.whole.specs.Whole.{own_atoms}
 use Rattle.whole.proofs.Nodes.{more-atoms, all-atoms}
 use Rattle.whole.proofs.shape.own_atoms.Statement.{statement}
 use Rattle.whole.proofs.shape.own_atoms.Tie as tie
 
 abbrev invariant-loop : tie.invariant-loop
 invariant-loop file at count sum₀ from₀ left₀ sum from left =
-    ((from + nodeLength * left ≤ length file) × (count ≤ mostNodes) × (left ≤ count) × (sum + 4294967296 * left ≤ 4294967296 * count))
-    × (sum + ownAtoms (records left nodeLength (drop from file)) ≡ ownAtoms (records count nodeLength (drop at file)))
+    ((from + node_length * left ≤ length file) × (count ≤ most_nodes) × (left ≤ count) × (sum + 4294967296 * left ≤ 4294967296 * count))
+    × (sum + own_atoms (records left node_length (drop from file)) ≡ own_atoms (records count node_length (drop at file)))
 
 abbrev decreases-loop : tie.decreases-loop
 decreases-loop file at count sum₀ from₀ left₀ sum from left = left

@@ -5,13 +5,13 @@ use native.Mathlib.Omega.{arith}
 use Prim.Native.Nat.{suc, ◌≤◌}
 use mathlib.Core.Path.{◌≡◌, refl, sym, ◌∙◌}
 use Rattle.section.specs.Numbers.{deepest}
-use Rattle.whole.specs.Whole.{waitingNodes, stacked}
+use Rattle.whole.specs.Whole.{waiting_nodes, stacked}
 use Rattle.whole.proofs.Stack.{settle-on, settle-here, settle-none, positive}
 use Rattle.whole.proofs.shape.settled.Statement.{statement}
 use Rattle.whole.proofs.shape.settled.Tie as tie
 
 abbrev invariant-loop : tie.invariant-loop
-invariant-loop height waiting d₀ d = (d ≤ height) × (height ≤ suc deepest) × (waitingNodes (stacked waiting d) ≡ waitingNodes (stacked waiting height))
+invariant-loop height waiting d₀ d = (d ≤ height) × (height ≤ suc deepest) × (waiting_nodes (stacked waiting d) ≡ waiting_nodes (stacked waiting height))
 
 abbrev decreases-loop : tie.decreases-loop
 decreases-loop height waiting d₀ d = d

@@ -7,24 +7,24 @@ use mathlib.Core.Path.{◌≡◌, refl, ◌∙◌}
 use lib.ListN.{length, drop, length-set}
 use mathlib.Core.List.{map}
 use Rattle.words.specs.Records.{records}
-use Rattle.section.specs.Numbers.{nodeLength, deepest}
-use Rattle.section.specs.Sections.{childrenOf}
-use Rattle.whole.specs.Whole.{shape, shapeFault, stacked}
+use Rattle.section.specs.Numbers.{node_length, deepest}
+use Rattle.section.specs.Sections.{children_of}
+use Rattle.whole.specs.Whole.{shape, shape_fault, stacked}
 use Rattle.whole.proofs.Turns.{ended, too-deep, on, finished}
 use Rattle.whole.proofs.shape.shape_fault.Statement.{statement}
 use Rattle.whole.proofs.shape.shape_fault.Tie as tie
 
 abbrev invariant-loop : tie.invariant-loop
 invariant-loop file at count waiting₀ height₀ from₀ left₀ i₀ waiting height from left i =
-    ((from + nodeLength * left ≤ length file) × (i + left ≤ count) × (count * nodeLength ≤ length file)
+    ((from + node_length * left ≤ length file) × (i + left ≤ count) × (count * node_length ≤ length file)
     × (length waiting ≡ suc deepest) × (height ≤ suc deepest))
-    × (shape (map childrenOf (records left nodeLength (drop from file))) (stacked waiting height) i ≡ shapeFault (records count nodeLength (drop at file)))
+    × (shape (map children_of (records left node_length (drop from file))) (stacked waiting height) i ≡ shape_fault (records count node_length (drop at file)))
 
 abbrev decreases-loop : tie.decreases-loop
 decreases-loop file at count waiting₀ height₀ from₀ left₀ i₀ waiting height from left i = left
 
 loop-holds : tie.Need-loop-init invariant-loop decreases-loop
-unfolding shapeFault
+unfolding shape_fault
 loop-holds c = (omega arith, refl)
 
 returns : tie.Need-returns invariant-loop decreases-loop

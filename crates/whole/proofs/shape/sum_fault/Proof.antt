@@ -1,7 +1,7 @@
 -- `whole::shape::sum_fault` meets its contract: the body is the definition, with the callees' results rewritten.
 -- Assumes nothing.
 use borrow.Author.Rules.{rules}
-use Rattle.whole.specs.Whole.{sumFault}
+use Rattle.whole.specs.Whole.{sum_fault}
 use Rattle.whole.proofs.shape.sum_fault.Statement.{statement}
 use Rattle.whole.proofs.shape.sum_fault.Tie as tie
 
@@ -12,7 +12,7 @@ unless-requires : tie.Need-unless-requires
 unless-requires c κs = search rules
 
 returns : tie.Need-returns
-unfolding sumFault
+unfolding sum_fault
 returns c = rw (c.unless.ensures, c.before.own-atoms.ensures)
 
 pub sum-fault-spec : {M : Type 1} → statement M
