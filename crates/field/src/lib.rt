@@ -1,4 +1,6 @@
 // One field of a match: a prefix of an address, or a value that may be constrained.
+#![tactic(auto)]
+
 ghost use Rattle.std.specs.Prelude.{◌≡◌, cond, ◌-◌};
 ghost use Rattle.field.specs.Prefix.{address_bits, in_prefix, right_prefix, prefixes_meet, covers};
 ghost use Rattle.field.specs.Prefix.{longer_address, longer_length};
