@@ -8,7 +8,7 @@ use lib.Seq.{take_at}
 use Rattle.logic.proofs.Tests.{by-test}
 use Rattle.words.specs.Words.{zeros}
 use Rattle.theory.specs.Rows.{scan}
-use Rattle.theory.proofs.Hidden.{hidden-less, hidden-every, scan-hidden}
+use Rattle.theory.proofs.HiddenLaws.{hidden-less, hidden-every, scan-hidden}
 use Rattle.flow.specs.Packet.{packet_of, right_packet_words}
 use Rattle.flow.specs.Match.{meets, inside}
 use Rattle.flow.proofs.Inside.{inside-meets}

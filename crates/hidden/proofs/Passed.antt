@@ -6,7 +6,7 @@ use mathlib.Core.List.{List, ◌++◌}
 use lib.ListN.{length, take}
 use Rattle.words.specs.Words.{laid, zeros, cleared}
 use Rattle.words.proofs.Laid.{length-laid, take-laid}
-use Rattle.theory.proofs.Hidden.{hidden-less}
+use Rattle.theory.proofs.HiddenLaws.{hidden-less}
 use Rattle.flow.specs.Match.{inside}
 use Rattle.action.specs.declared.Action.{Action}
 use Rattle.row.specs.Row.{row_length, rows_in}

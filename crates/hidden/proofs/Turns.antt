@@ -12,7 +12,7 @@ use Rattle.words.proofs.Laid.{laid_none, length-laid, laid_then, take-laid, drop
 use Rattle.words.proofs.Records.{rows_at, rows_end, flat_append}
 use Rattle.theory.specs.Rows.{Row}
 use Rattle.theory.specs.Hidden.{inside_one, staying}
-use Rattle.theory.proofs.Hidden.{hidden-step}
+use Rattle.theory.proofs.HiddenLaws.{hidden-step}
 use Rattle.flow.specs.Match.{match_of, inside}
 use Rattle.flow.specs.declared.Match.{Match}
 use Rattle.flow.proofs.Inside.{inside-trans}

@@ -1,1 +1,2 @@
 // No code: laws of tests that the proofs of every crate cite.
+#![tactic(auto)]

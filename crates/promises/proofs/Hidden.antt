@@ -18,7 +18,7 @@ use Rattle.words.specs.Bytes.{words_in}
 use Rattle.theory.specs.Number.{has}
 use Rattle.theory.specs.Hidden.{staying, inside_earlier, places_where, InsideSome}
 use Rattle.theory.proofs.Where.{has-where, where-rises}
-use Rattle.theory.proofs.Hidden.{hidden-exactly, none_hidden, hidden-again, one-exactly}
+use Rattle.theory.proofs.HiddenLaws.{hidden-exactly, none_hidden, hidden-again, one-exactly}
 use Rattle.flow.specs.Match.{inside}
 use Rattle.flow.proofs.Inside.{inside-exactly}
 use Rattle.action.specs.declared.Action.{Action}

@@ -9,4 +9,4 @@ pub mod Chain
 pub mod Fewest
 pub mod Switch
 pub mod Where
-pub mod Hidden
+pub mod HiddenLaws
