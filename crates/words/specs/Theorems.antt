@@ -12,6 +12,6 @@ abbrev pub EveryByte : List ℕ → Type 0
 EveryByte [] = Unit {0}
 EveryByte (b ∷ bytes) = (b < 256) × EveryByte bytes
 
--- whole words of bytes are the bytes of those words, so no two inputs are one file (bytes-read)
+-- whole words of bytes are the bytes of those words, so no two inputs are one file (bytes_read)
 abbrev pub BytesRead : Type 0
 BytesRead = (bytes : List ℕ) → EveryByte bytes → length bytes % word_bytes ≡ 0 → flat bytes_of (words_in bytes) ≡ bytes

@@ -1,5 +1,7 @@
 // Moves over lent buffers of 32-bit words, and words against bytes. Each is total: a place outside the buffer reads 0
 // and stores nothing.
+#![tactic(auto)]
+
 ghost use Rattle.std.specs.Prelude.{◌≡◌, ◌+◌, ◌*◌, ◌/◌, ◌≤◌, ◌<◌, max, length, get_or};
 ghost use Rattle.words.specs.Words.{laid, copied, cleared};
 ghost use Rattle.words.specs.Records.{flat};
@@ -39,11 +41,9 @@ pub fn copy(out: &mut [u32], at: usize, words: &[u32])
 pub fn clear_from(out: &mut [u32], at: usize)
     ensures { out.new ≡ cleared at out.old }
 {
-    let mut i = at;
     // The words from at up to i are 0, and the others are as they were.
-    while i < out.len() {
+    for i in at..out.len() {
         out[i] = 0;
-        i += 1;
     }
 }
 
@@ -72,11 +72,9 @@ fn lay(out: &mut [u32], at: usize, words: &[u32])
     requires { at + length words.now ≤ length out.old }
     ensures { out.new ≡ laid at words.now out.old }
 {
-    let mut i = 0;
     // The first i words are stored.
-    while i < words.len() {
+    for i in 0..words.len() {
         out[at + i] = words[i];
-        i += 1;
     }
 }
 
@@ -87,13 +85,11 @@ fn lay_words(out: &mut [u32], bytes: &[u8])
 {
     let count = bytes.len() / WORD_BYTES;
     let mut from = 0;
-    let mut i = 0;
     // The first i words are stored; from is where the next one's bytes start.
-    while i < count {
+    for i in 0..count {
         let end = from + WORD_BYTES;
         out[i] = word_of(&bytes[from..end]);
         from = end;
-        i += 1;
     }
 }
 
@@ -117,12 +113,10 @@ fn lay_bytes(out: &mut [u8], words: &[u32])
     ensures { out.new ≡ laid 0 (flat bytes_of words.now) out.old }
 {
     let mut at = 0;
-    let mut i = 0;
     // The bytes of the first i words are stored; at is where those of the next one go.
-    while i < words.len() {
+    for i in 0..words.len() {
         lay_word(out, at, words[i]);
         at += WORD_BYTES;
-        i += 1;
     }
 }
 
