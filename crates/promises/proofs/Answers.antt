@@ -1,9 +1,8 @@
 -- For each public function but those of the inner crates `common`, `rows` and `build`: its contract, as the checker reads it, asks nothing, and no second
 -- answer fits it. Where buffers are lent, their words are part of what is seen.
-use Prim.Native.Nat.{ℕ}
-use mathlib.Core.Path.{◌≡◌, sym, ◌∙◌, ap}
-use mathlib.Core.List.{List}
-use Rattle.promises.specs.Answers.{OneAnswer, answer_with, answer_and}
+use mathlib.Core.Path.{ap}
+use Rattle.logic.specs.Answers.{OneAnswer, answer_with, answer_and}
+use Rattle.logic.proofs.Answers.{fixed, both, all}
 use Rattle.field.proofs.in_prefix.Reads as in_prefix
 use Rattle.field.proofs.right_prefix.Reads as right_prefix
 use Rattle.field.proofs.prefixes_meet.Reads as prefixes_meet
@@ -82,26 +81,6 @@ use Rattle.sheet.proofs.list_table.Reads as list_table
 use Rattle.text.proofs.list.Reads as list
 use Rattle.text.proofs.list_whole.Reads as list_whole
 use Rattle.wire.proofs.low.Reads as low
-use Rattle.speed.proofs.speed_read.Reads as speed_read
-use Rattle.speed.proofs.speed_tree.Reads as speed_tree
-use Rattle.speed.proofs.speed_compile.Reads as speed_compile
-use Rattle.speed.proofs.speed_scan.Reads as speed_scan
-use Rattle.speed.proofs.speed_number.Reads as speed_number
-use Rattle.speed.proofs.speed_hidden.Reads as speed_hidden
-
--- where the contract says that what is seen is d, of the arguments alone
-fixed :
-    {K : Type 0} {A R S : K → Type 0} {X : Type 0} {Post : (κ : K) → A κ → R κ → S κ → Type 0} {seen : (κ : K) → R κ → S κ → X} {d : (κ : K) → A κ → X}
-    → ((κ : K) (a : A κ) (r : R κ) (s : S κ) → Post κ a r s → seen κ r s ≡ d κ a)
-    → OneAnswer (λ (κ : K) (a : A κ). Unit {0}) Post seen
-fixed f = record { asks_nothing = λ κ a. tt; no_second = λ κ a r₁ r₂ s₁ s₂ p q. f κ a r₁ s₁ p ∙ sym (f κ a r₂ s₂ q) }
-
--- equal answers with equal buffers
-both : {X : Type 0} {r r' : X} {b b' : List ℕ} → r ≡ r' → b ≡ b' → answer_with r b ≡ answer_with r' b'
-both p q = rw (p, q)
-
-all : {X : Type 0} {r r' : X} {b b' c c' : List ℕ} → r ≡ r' → b ≡ b' → c ≡ c' → answer_and r b c ≡ answer_and r' b' c'
-all p q e = rw (p, q, e)
 
 -- field
 in_prefix-one : OneAnswer in_prefix.Pre in_prefix.Post (λ κ r s. r)
@@ -354,22 +333,3 @@ list_whole-one = fixed (λ κ a r s p. both p.puts.end p.puts.bytes)
 -- wire
 low-one : OneAnswer low.Pre low.Post (λ κ r s. r)
 low-one = fixed (λ κ a r s p. p)
-
--- speed
-speed_read-one : OneAnswer speed_read.Pre speed_read.Post (λ κ r s. r)
-speed_read-one = fixed (λ κ a r s p. p)
-
-speed_tree-one : OneAnswer speed_tree.Pre speed_tree.Post (λ κ r s. answer_with r s.1.1.0.now)
-speed_tree-one = fixed (λ κ a r s p. both p.0 p.1)
-
-speed_compile-one : OneAnswer speed_compile.Pre speed_compile.Post (λ κ r s. answer_and r s.1.0.now s.1.1.0.now)
-speed_compile-one = fixed (λ κ a r s p. all p.0 p.1 p.2)
-
-speed_scan-one : OneAnswer speed_scan.Pre speed_scan.Post (λ κ r s. answer_with r s.1.1.0.now)
-speed_scan-one = fixed (λ κ a r s p. both p.0 p.1)
-
-speed_number-one : OneAnswer speed_number.Pre speed_number.Post (λ κ r s. answer_and r s.1.0.now s.1.1.0.now)
-speed_number-one = fixed (λ κ a r s p. all p.0 p.1 p.2)
-
-speed_hidden-one : OneAnswer speed_hidden.Pre speed_hidden.Post (λ κ r s. answer_with r s.0.now)
-speed_hidden-one = fixed (λ κ a r s p. both p.0 p.1)

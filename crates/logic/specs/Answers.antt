@@ -1,4 +1,4 @@
--- What it means that every input has one answer.
+-- What it means of a contract that every input has one answer.
 --
 --   OneAnswer               a contract asks nothing, and no second answer fits it
 --   answer_with, answer_and   a result with the words of one lent buffer, and of two
