@@ -1,7 +1,7 @@
 -- Flags of two matches joined by or: one of some flags is set where it is set in either, so the laws of one value carry over. Assumes nothing.
 use mathlib.Core.Path.{◌≡◌, refl, sym, ap, ap₂, ◌∙◌}
 use mathlib.Core.Bool.{Bool, true, false, not, ◌&&◌, ◌||◌}
-use Prim.Native.Nat.{ℕ, zero, suc, ◌+◌, ◌*◌, ◌/◌, ◌%◌, ◌≤◌, min, max}
+use Prim.Native.Nat.{ℕ, zero, suc, ◌+◌, ◌*◌, ◌/◌}
 use native.Mathlib.Omega.{arith}
 use lib.Arith.{bin_ind}
 use lib.Bits.{bit_and, bit_or, and_step, and_shr, and_comm, and_le_r, or_step, or_shr, or_add_and}

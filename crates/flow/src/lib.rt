@@ -1,5 +1,7 @@
 // A packet and a match: which packets meet a match, when two matches overlap, when one lies inside another, and the
 // match that both together are.
+#![tactic(auto)]
+
 pub use crate::matches::{
     common, constrains, contradicts, is_empty, is_plain, lies_inside, meets, overlap, read_match,
     right_match, words_of_match, write_match,
@@ -53,7 +55,7 @@ const TCP: u32 = 6;
 
 const UDP: u32 = 17;
 
-#[derive(Drop)]
+#[derive(Clone, Copy)]
 pub struct Packet {
     pub inport: u32,
     pub source: u32,
@@ -63,7 +65,7 @@ pub struct Packet {
     pub destinationport: u32,
 }
 
-#[derive(Drop)]
+#[derive(Clone, Copy)]
 pub struct Match {
     pub inport: u32,
     pub source: u32,

@@ -1,15 +1,12 @@
--- `flow::matches::unmet` meets its contract: without a port and flag 16 a match is not empty.
--- Assumes nothing.
+-- Without a port and flag 16 a match is not empty.
 use Prim.Native.Nat.{ℕ, ◌+◌}
 use mathlib.Core.Path.{◌≡◌, refl, sym, ap, ◌∙◌}
 use mathlib.Core.Bool.{Bool, true, false, not, ◌&&◌, ◌||◌, false≢true}
 use lib.Bits.{bit_and}
 use lib.Dec.{eqb}
-use borrow.Author.Rules.{rules}
 use Rattle.flow.specs.Match.{protocol_flag, port_flags, empty_flag, flagged, has_ports, clash, unmet}
 use Rattle.flow.proofs.Flags.{flag-either}
-use Rattle.flow.proofs.matches.unmet.Statement.{statement}
-use Rattle.flow.proofs.matches.unmet.Tie as tie
+use Rattle.flow.proofs.matches.unmet.Goals as goal
 
 -- none of these flags
 without : (f q : ℕ) → bit_and f (port_flags + empty_flag) ≡ 0 → false ≡ unmet f q
@@ -22,12 +19,9 @@ without f q e =
     go false true h = h
     go false false h = refl
 
-returns : tie.Need-returns
-returns c = without _ _ c.if1.true
+pub returns-then-flags-eq0 : goal.returns-then-flags-eq0
+returns-then-flags-eq0 c = without _ _ c.if-flags-eq0.true
 
-returns-2 : tie.Need-returns-2
+pub returns : goal.returns
 unfolding unmet
-returns-2 c = rw c.clash.ensures
-
-pub unmet-spec : {M : Type 1} → statement M
-unmet-spec = tie.close (tie.spec returns (search rules) returns-2)
+returns c = rw c.clash.ensures

@@ -1,21 +1,18 @@
--- `flow::matches::is_plain` meets its contract: in-port and ports are each below their limit where their bits together are.
--- Assumes nothing.
+-- In-port and ports are each below their limit where their bits together are.
 use Prim.Native.Nat.{ℕ, ◌^◌, ◌<◌}
 use native.Mathlib.Omega.{arith}
 use mathlib.Core.Path.{◌≡◌}
 use mathlib.Core.Bool.{Bool, true, ◌&&◌, ◌||◌, and-eq-true_iff}
 use lib.Bits.{bit_and, bit_or, or_lt, or_add_and, and_le_l, and_le_r}
 use lib.Dec.{eqb, ltb}
-use borrow.Author.Rules.{rules}
 use borrow.Author.Tests.{ltb-true, lt-ltb}
 use Rattle.field.specs.Prefix.{address_bits, right_prefix}
 use Rattle.field.specs.Value.{right_value}
 use Rattle.flow.specs.Packet.{port_limit, protocol_limit}
 use Rattle.flow.specs.Match.{inport_flag, protocol_flag, sourceport_flag, destinationport_flag, known_flags, constrains, is_plain}
 use Rattle.flow.specs.declared.Match.{Match}
-use Rattle.flow.proofs.matches.is_plain.Statement.{statement}
-use Rattle.flow.proofs.matches.is_plain.Tie as tie
 use Rattle.logic.proofs.Tests.{and_both, same_test}
+use Rattle.flow.proofs.matches.is_plain.Goals as goal
 
 -- three numbers are below a power of two exactly where their bits together are
 below : (k a b c : ℕ) → bit_or (bit_or a b) c < 2 ^ k → (a < 2 ^ k) × (b < 2 ^ k) × (c < 2 ^ k)
@@ -71,23 +68,15 @@ told m = same_test (made m) (is_plain m) each together
         h.0.1)
         h.1
 
-returns : tie.Need-returns
+pub returns : goal.returns
 returns c =
-    let destinationport = c.before.before.before in
-    let sourceport = destinationport.before.before in
-    let protocol = sourceport.before in
-    let inport = protocol.before.before.before in
     rw (
-      c.right-prefix2.ensures,
-      c.before.right-prefix.ensures,
-      destinationport.constrains4.ensures,
-      sourceport.constrains3.ensures,
-      protocol.right-value.ensures,
-      protocol.before.constrains2.ensures,
-      inport.constrains.ensures,
+      c.right_prefix-2.ensures,
+      c.right_prefix.ensures,
+      c.constrains-4.ensures,
+      c.constrains-3.ensures,
+      c.right_value.ensures,
+      c.constrains-2.ensures,
+      c.constrains.ensures,
     )
     (told _)
-
-pub is-plain-spec : {M : Type 1} → statement M
-is-plain-spec =
-    tie.close (tie.spec (search rules) (search rules) (search rules) (search rules) (search rules) (search rules) (search rules) returns)

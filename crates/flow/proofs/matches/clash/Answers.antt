@@ -1,14 +1,11 @@
--- `flow::matches::clash` meets its contract: no flag is barred where the protocol is free or has ports, and the ports' flags are where it has none.
--- Assumes nothing.
+-- No flag is barred where the protocol is free or has ports, and the ports' flags are where it has none.
 use Prim.Native.Nat.{ℕ}
 use mathlib.Core.Path.{◌≡◌, sym, ap, ◌∙◌}
 use mathlib.Core.Bool.{Bool, true, false, cond, not, ◌&&◌, ◌||◌, and-true, and-false}
 use lib.Bits.{bit_and, and_zero_r}
 use lib.Dec.{eqb}
-use borrow.Author.Rules.{rules}
 use Rattle.flow.specs.Match.{protocol_flag, port_flags, flagged, has_ports, clash}
-use Rattle.flow.proofs.matches.clash.Statement.{statement}
-use Rattle.flow.proofs.matches.clash.Tie as tie
+use Rattle.flow.proofs.matches.clash.Goals as goal
 
 -- by whether the protocol is free, and whether it has ports
 barred : (f q : ℕ) → not (eqb (bit_and f (cond (eqb (bit_and f protocol_flag) 0 || has_ports q) 0 port_flags)) 0) ≡ clash f q
@@ -23,8 +20,5 @@ barred f q = go (eqb (bit_and f protocol_flag) 0) (has_ports q)
     go false true = none ∙ sym (and-false (flagged port_flags f && true))
     go false false = sym (and-true (flagged port_flags f && true) ∙ and-true (flagged port_flags f))
 
-returns : tie.Need-returns
-returns c = rw (c.common-value.ensures, c.before.has-ports.ensures) (barred _ _)
-
-pub clash-spec : {M : Type 1} → statement M
-clash-spec = tie.close (tie.spec (search rules) (search rules) returns)
+pub returns : goal.returns
+returns c = rw (c.common_value-barred.ensures, c.has_ports.ensures) (barred _ _)

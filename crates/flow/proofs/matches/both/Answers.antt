@@ -1,0 +1,21 @@
+-- The body is the definition, with the callees' results rewritten.
+use Rattle.flow.specs.Match.{both}
+use Rattle.flow.proofs.matches.both.Goals as goal
+
+pub returns : goal.returns
+unfolding both
+returns c =
+    rw (
+      c.longer_length-2.ensures,
+      c.longer_length.ensures,
+      c.common_value-4.ensures,
+      c.constrains-4.ensures,
+      c.common_value-3.ensures,
+      c.constrains-3.ensures,
+      c.common_value-2.ensures,
+      c.constrains-2.ensures,
+      c.longer_address-2.ensures,
+      c.longer_address.ensures,
+      c.common_value.ensures,
+      c.constrains.ensures,
+    )
