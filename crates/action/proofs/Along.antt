@@ -4,12 +4,11 @@ use native.Mathlib.Numerals.{add-one}
 use native.Mathlib.Omega.{arith}
 use mathlib.Core.Path.{◌≡◌, refl, sym, ap, ap₂, ◌∙◌}
 use mathlib.Core.Logic.{⊎_elim}
-use mathlib.Core.Bool.{Bool, true, false, not, cond, ◌&&◌}
+use mathlib.Core.Bool.{Bool, true, false, cond, ◌&&◌}
 use mathlib.Core.List.Memᴰ
 use mathlib.Core.List.{List, [], ◌∷◌, ◌++◌, map, foldr}
 use lib.ListN.{get_or, length, drop, drop_of_length-le}
 use lib.Seq.{drop-cons}
-use borrow.Author.Tests.{not-true, not-false}
 use Rattle.logic.proofs.Tests.{and_left, and_right}
 use Rattle.action.specs.Laws.{◌else◌, ◌among◌, along, product}
 use Rattle.action.specs.declared.Action.{Action}
@@ -36,12 +35,12 @@ module _ {X : Type 0} (t : X → Lawful) (xs : List X) (d : X) (k : ℕ) (h : k 
   next = sym inv ∙ rw (drop-cons xs k d h, found.is)
 
   -- a failure is the answer
-  pub hit : not kept ≡ true → Broken l a b c ≡ w
-  hit f = sym (rw (not-true kept f) at next)
+  pub hit : kept ≡ false → Broken l a b c ≡ w
+  hit f = sym (rw f at next)
 
   -- and else the search goes on
-  pub miss : not kept ≡ false → along t (drop (k + 1) xs) ≡ w
-  miss f = rw add-one (sym (rw (not-false kept f) at next))
+  pub miss : kept ≡ true → along t (drop (k + 1) xs) ≡ w
+  miss f = rw add-one (sym (rw f at next))
 
 -- a turn at an entry that is itself a search
 pub turn : {X : Type 0} (t : X → Lawful) (xs : List X) (d : X) (k : ℕ) {w x : Lawful} → k < length xs → along t (drop k xs) ≡ w → x ≡ t (get_or xs k d)

@@ -1,4 +1,6 @@
 // Actions, operators, how an operator joins two actions, and the search for a broken law.
+#![tactic(auto)]
+
 ghost use Rattle.std.specs.Prelude.{◌≡◌, ◌≤◌, max, min, get_or};
 ghost use Rattle.action.specs.Action.{kind_of, rate_of, action_of, right_action};
 ghost use Rattle.action.specs.Operator.{kinds, cells_of, coded, join, sibling, parent};
@@ -40,7 +42,7 @@ const SHOWN: usize = 5;
 // How many pairs they make.
 const PAIRS: usize = SHOWN * SHOWN;
 
-#[derive(Drop)]
+#[derive(Clone, Copy)]
 pub enum Action {
     DontCare,
     Allow,
@@ -54,13 +56,13 @@ impl Action {
 }
 
 // The codes of the cells: the left action's kind slowest, the right's fastest.
-#[derive(Drop)]
+#[derive(Clone, Copy)]
 pub struct Operator {
     pub cells: [u32; CELLS],
 }
 
 // Unnamed is no law, as in every answer that is no failure of one.
-#[derive(Drop)]
+#[derive(Clone, Copy)]
 pub enum Law {
     Unnamed,
     Commutativity,
@@ -68,7 +70,7 @@ pub enum Law {
 }
 
 // Whether an operator keeps the laws, or the first failure: the law, and the actions that show it.
-#[derive(Drop)]
+#[derive(Clone, Copy)]
 pub enum Lawful {
     Yes,
     Broken(Law, Action, Action, Action),
@@ -155,6 +157,7 @@ pub fn rate(a: Action) -> u32
 }
 
 // The action of a kind and a rate. A kind that is not known gives don't care.
+#[tactic(auto, unfolding(crate::specs::Action::action_of))]
 pub fn action_of(kind: u32, rate: u32) -> Action
     ensures { result ≡ action_of kind rate }
 {
@@ -171,11 +174,9 @@ pub fn operator_of(words: &[u32]) -> Operator
     ensures { result.cells ≡ cells_of words.now }
 {
     let mut cells = [0u32; CELLS];
-    let mut i = 0;
     // The first i cells are the first i words.
-    while i < CELLS {
+    for i in 0..CELLS {
         cells[i] = word(words, i);
-        i += 1;
     }
     Operator { cells }
 }
@@ -188,6 +189,7 @@ pub fn right_action(kind: u32, rate: u32) -> bool
 }
 
 // Whether a cell may have a code.
+#[tactic(auto, unfolding(crate::specs::Operator::right_cell))]
 pub fn right_cell(cell: usize, code: u32) -> bool
     ensures { result ≡ right_cell cell code }
 {
@@ -205,6 +207,7 @@ fn largest_code(cell: usize) -> u32
 }
 
 // What a cell's code gives.
+#[tactic(auto, unfolding(crate::specs::Operator::coded))]
 fn coded(code: u32, left: Action, right: Action) -> Action
     ensures { result ≡ coded code left right }
 {
@@ -231,15 +234,13 @@ fn smaller(m: u32, n: u32) -> u32
 fn first_pair(cells: &[u32]) -> Lawful
     ensures { result ≡ first_pair cells.now }
 {
-    let mut k = 0;
     // The first k pairs commute.
-    while k < PAIRS {
+    for k in 0..PAIRS {
         let a = showing(k / SHOWN);
         let b = showing(k % SHOWN);
         if !same(join(cells, a, b), join(cells, b, a)) {
             return Lawful::Broken(Law::Commutativity, a, b, Action::DONT_CARE);
         }
-        k += 1;
     }
     Lawful::Yes
 }
@@ -248,14 +249,12 @@ fn first_pair(cells: &[u32]) -> Lawful
 fn first_triple(cells: &[u32]) -> Lawful
     ensures { result ≡ first_triple cells.now }
 {
-    let mut k = 0;
     // The first k pairs associate with every showing action.
-    while k < PAIRS {
+    for k in 0..PAIRS {
         let found = with_third(cells, showing(k / SHOWN), showing(k % SHOWN));
         if let Lawful::Broken(_, _, _, _) = found {
             return found;
         }
-        k += 1;
     }
     Lawful::Yes
 }
@@ -265,20 +264,19 @@ fn with_third(cells: &[u32], a: Action, b: Action) -> Lawful
     ensures { result ≡ with_third cells.now a b }
 {
     let ab = join(cells, a, b);
-    let mut k = 0;
     // The two associate with the first k showing actions.
-    while k < SHOWN {
+    for k in 0..SHOWN {
         let c = showing(k);
         if !same(join(cells, ab, c), join(cells, a, join(cells, b, c))) {
             return Lawful::Broken(Law::Associativity, a, b, c);
         }
-        k += 1;
     }
     Lawful::Yes
 }
 
 // The showing actions, in list order. A match keeps them out of memory, where an array would be laid down anew for each
 // use.
+#[tactic(auto, unfolding(crate::specs::Laws::shown))]
 fn showing(i: usize) -> Action
     ensures { result ≡ get_or shown i Action.DontCare }
 {

@@ -1,16 +1,12 @@
--- `action::right_action` meets its contract: the cases of a kind below GMB's or GMB's, and of a rate of 0 or more, tell the same.
--- Assumes nothing.
-use Prim.Native.Nat.{ℕ}
-use native.Mathlib.Omega.{arith}
-use mathlib.Core.Path.{◌≡◌, refl, sym, ap, ◌∙◌}
-use mathlib.Core.Bool.{Bool, beq, true, false, not, ◌&&◌, ◌||◌, and-true, and-false, or-true, false≢true}
+-- The cases of a kind below GMB's or GMB's, and of a rate of 0 or more, tell the same.
+use Rattle.std.proofs.Common.{ℕ, ◌≡◌, sym, ap, ◌∙◌, Bool, true, false, not, ◌&&◌, ◌||◌, eqb, leb, ltb, arith}
+use mathlib.Core.Path.{refl}
+use mathlib.Core.Bool.{beq, and-true, and-false, or-true, false≢true}
 use mathlib.Core.Logic.{⊎_elim}
-use lib.Dec.{eqb, leb, ltb}
 use borrow.Author.Tests.{eqb-true, eqb-false, leb-true, le-leb, ltb-true, lt-ltb}
 use Rattle.logic.proofs.Tests.{by-test, same_test, or_split}
 use Rattle.action.specs.Action.{gmb, largest_rate, right_rate, right_action}
-use Rattle.action.proofs.right_action.Statement.{statement}
-use Rattle.action.proofs.right_action.Tie as tie
+use Rattle.action.proofs.right_action.Goals as goal
 
 -- at most m is below it or it
 up_to : (k m : ℕ) → leb k m ≡ (ltb k m || eqb k m)
@@ -45,9 +41,6 @@ told k n =
     (λ z. le-leb n largest_rate (omega (arith, eqb-true n 0 z)))
     ∙ sym (ap (λ (t : Bool). (ltb k gmb && eqb n 0) || (eqb k gmb && (t && leb n largest_rate))) (from_one n))
 
-returns : tie.Need-returns
+pub returns : goal.returns
 unfolding right_action
 returns c = told c.args.kind c.args.rate
-
-pub right-action-spec : {M : Type 1} → statement M
-right-action-spec = tie.close (tie.spec returns)
