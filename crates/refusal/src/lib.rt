@@ -1,11 +1,13 @@
 // A refusal, as every function that takes a policy file gives it.
+#![tactic(auto)]
+
 ghost use Rattle.std.specs.Prelude.{◌≡◌};
 ghost use Rattle.refusal.specs.Plain.{plain};
 
 use action::{Action, Law};
 
 // Its number and place, and for a broken law the law and the actions that show it.
-#[derive(Drop)]
+#[derive(Clone, Copy)]
 pub struct Refusal {
     pub number: u32,
     pub place: usize,
