@@ -1,4 +1,6 @@
 // An atom or a row: the words of a match, then an action's kind and rate.
+#![tactic(auto)]
+
 ghost use Rattle.std.specs.Prelude.{◌≡◌};
 ghost use Rattle.row.specs.Row.{row_action, row_words, right_row_match, right_row_action, right_row};
 
@@ -19,6 +21,7 @@ const KIND: usize = MATCH_WORDS;
 const RATE: usize = MATCH_WORDS + 1;
 
 // The action of a row.
+#[tactic(auto, unfolding(crate::specs::Row::row_action))]
 pub fn row_action(row: &[u32]) -> Action
     ensures { result ≡ row_action row.now }
 {
@@ -58,6 +61,7 @@ pub fn right_row(row: &[u32]) -> bool
 }
 
 // Whether the match of an atom or a row is right.
+#[tactic(auto, unfolding(crate::specs::Row::right_row_match))]
 pub fn right_row_match(row: &[u32]) -> bool
     ensures { result ≡ right_row_match row.now }
 {
@@ -65,6 +69,7 @@ pub fn right_row_match(row: &[u32]) -> bool
 }
 
 // Whether the action of an atom or a row is right.
+#[tactic(auto, unfolding(crate::specs::Row::right_row_action))]
 pub fn right_row_action(row: &[u32]) -> bool
     ensures { result ≡ right_row_action row.now }
 {
