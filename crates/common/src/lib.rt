@@ -1,6 +1,8 @@
 // The common rows of two tables, stored one behind the other in a lent buffer. Only the joining calls these functions:
 // they ask for a place inside the buffer, and where there is no room they do not say what words are left, since the
 // compile then clears the buffer.
+#![tactic(auto)]
+
 ghost use Rattle.std.specs.Prelude.{◌≤◌, length};
 ghost use Rattle.row.specs.Row.{row_of};
 ghost use Rattle.common.specs.Lays.{Lays};
@@ -12,7 +14,7 @@ use row::{ROW_WORDS, row_action, words_of_row};
 use words::copy;
 
 // The place past what was made, or that there was no room for it.
-#[derive(Drop)]
+#[derive(Clone, Copy)]
 pub enum Made {
     Words(usize),
     Full,

@@ -1,0 +1,16 @@
+-- The common match of two that do not overlap is empty, and makes no row.
+use Rattle.std.proofs.Common.{arith}
+use Rattle.common.proofs.Turns.{common-dropped, common-kept}
+use Rattle.common.proofs.Going.{lays-none, lays-same}
+use Rattle.common.proofs.add_common.Goals as goal
+
+pub returns-then-not-overlap : goal.returns-then-not-overlap
+returns-then-not-overlap c =
+    lays-none (common-dropped _ _ _ c.read_match-other.ensures c.overlap.ensures c.if-not-overlap.true) (omega arith)
+
+pub returns : goal.returns
+returns c =
+    lays-same
+    (common-kept _ _ _ c.read_match-other.ensures c.overlap.ensures c.if-not-overlap.false
+    c.common.ensures c.row_action.ensures c.join.ensures c.words_of_row-words.ensures)
+    c.append.ensures

@@ -1,0 +1,21 @@
+-- One turn of the loop is one row of the left table.
+use Rattle.std.proofs.Common.{arith}
+use Rattle.common.proofs.Turns.{common-rows-next, common-rows-end}
+use Rattle.common.proofs.Going.{start, step, stop, finish}
+use Rattle.common.proofs.common_rows.Goals as goal
+
+pub loop-i-init : goal.loop-i-init
+loop-i-init c = (omega arith, start _ _ _ (omega arith))
+
+pub returns-in_default : goal.returns-in_default
+returns-in_default c =
+    stop _ c.loop-i.invariant.1 (common-rows-next _ _ _ _ c.loop-i-test.true) c.common_with-made.ensures c.in_default.is
+
+pub loop-i-preserved : goal.loop-i-preserved
+loop-i-preserved c = (
+  omega arith,
+  step _ c.loop-i.invariant.1 (common-rows-next _ _ _ _ c.loop-i-test.true) c.common_with-made.ensures c.in-Words.is c.common_with-made.auto.out,
+)
+
+pub returns : goal.returns
+returns c = finish c.loop-i.invariant.1 (common-rows-end _ _ _ _ c.loop-i-test.false)
