@@ -1,5 +1,7 @@
 // The lines of a listing, put into a buffer of bytes: a row's, the first, and a refusal's. Each function answers where
 // its text ends; what lies past the buffer's end is not stored.
+#![tactic(auto)]
+
 ghost use Rattle.row.specs.Row.{row_of};
 ghost use Rattle.line.specs.Text.{line, head, refusal};
 ghost use Rattle.line.specs.Puts.{Puts};
