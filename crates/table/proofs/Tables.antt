@@ -24,7 +24,6 @@ use Rattle.row.proofs.Rows.{row_back, row-long, words_count, words_back}
 use Rattle.table.specs.Table.{wrong_table, wrong_row, row_count, past, right_length, check_from, check_rows, check_of, row_at, RightTable}
 use Rattle.table.specs.Theorems.{CheckExactly, CheckFirst, TableRows, TableWords, RowsRead, RowsWritten}
 use Rattle.table.specs.declared.Checked.TheVariants.{Rows, Wrong}
-use Rattle.logic.specs.Lists.{All}
 use Rattle.logic.proofs.Lists.{all-at, all_map}
 
 -- record i of records that stand k words apart

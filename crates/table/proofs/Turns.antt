@@ -3,10 +3,9 @@ use Prim.Native.Nat.{ℕ, suc, ◌+◌, ◌-◌, ◌≤◌, ◌<◌}
 use native.Mathlib.Omega.{arith}
 use native.Mathlib.Numerals.{add-one}
 use mathlib.Core.Path.{◌≡◌, sym, ap, ◌∙◌}
-use mathlib.Core.Bool.{Bool, true, false, not}
+use mathlib.Core.Bool.{Bool, true, false}
 use mathlib.Core.List.{List, [], ◌∷◌, map}
 use lib.ListN.{take, drop}
-use borrow.Author.Tests.{not-true, not-false}
 use Rattle.words.specs.Records.{records, rows_of}
 use Rattle.words.proofs.Records.{records-next, records-none}
 use Rattle.theory.specs.Rows.{Row, tried}
@@ -50,11 +49,11 @@ check-start f = ap (check_from 0) (left-all f (row_count f))
 
 module _ (f : List ℕ) (n i from : ℕ) (w : Checked) (inv : check_from i (left f n i from) ≡ w) where
   module _ (h : i < n) (b : Bool) (e : b ≡ right_row (first f from)) where
-    pub wrong-found : not b ≡ true → Wrong wrong_row i ≡ w
-    wrong-found t = sym (rw (left-more f n i from h, ← e, not-true b t)) ∙ inv
+    pub wrong-found : b ≡ false → Wrong wrong_row i ≡ w
+    wrong-found t = sym (rw (left-more f n i from h, ← e, t)) ∙ inv
 
-    pub wrong-later : not b ≡ false → check_from (i + 1) (left f n (i + 1) (from + row_length)) ≡ w
-    wrong-later t = sym (rw (left-more f n i from h, ← e, not-false b t, add-one i)) ∙ inv
+    pub wrong-later : b ≡ true → check_from (i + 1) (left f n (i + 1) (from + row_length)) ≡ w
+    wrong-later t = sym (rw (left-more f n i from h, ← e, t, add-one i)) ∙ inv
 
   pub wrong-none : n ≤ i → Rows i ≡ w
   wrong-none h = rw (left-none f n i from h) at inv

@@ -1,4 +1,6 @@
 // Tables: rows that stand one behind the other, which tables are right, and the scan.
+#![tactic(auto)]
+
 ghost use Rattle.std.specs.Prelude.{◌≡◌, get_or};
 ghost use Rattle.table.specs.Table.{past, right_length, check_rows, check_of};
 ghost use Rattle.table.specs.Scan.{found, scan_of};
@@ -14,20 +16,21 @@ pub const WRONG_TABLE: u32 = 15;
 pub const WRONG_ROW: u32 = 16;
 
 // The row count of a right table, or what is wrong with it.
-#[derive(Drop)]
+#[derive(Clone, Copy)]
 pub enum Checked {
     Rows(usize),
     Wrong { number: u32, place: usize },
 }
 
 // The action that a scan gives and how many rows it tried, or the refusal.
-#[derive(Drop)]
+#[derive(Clone, Copy)]
 pub enum Scanned {
     Found { action: Action, tried: usize },
     Refused { number: u32, place: usize },
 }
 
 // Scans a table for a packet, both as words.
+#[tactic(auto, unfolding(crate::specs::Scan::scan_of))]
 pub fn scan(table: &[u32], packet: &[u32]) -> Scanned
     ensures { result ≡ scan_of table.now packet.now }
 {
@@ -44,6 +47,7 @@ pub fn scan(table: &[u32], packet: &[u32]) -> Scanned
 }
 
 // Tests a table: its length, then each row.
+#[tactic(auto, unfolding(crate::specs::Table::check_of))]
 pub fn check(table: &[u32]) -> Checked
     ensures { result ≡ check_of table.now }
 {
@@ -95,6 +99,7 @@ pub fn match_at(table: &[u32], i: usize) -> Match
 }
 
 // Whether the words of a table are rows, and not too many.
+#[tactic(auto, unfolding(crate::specs::Table::right_length))]
 fn right_length(table: &[u32]) -> bool
     ensures { result ≡ right_length table.now }
 {
