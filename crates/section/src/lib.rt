@@ -1,6 +1,8 @@
 // The sections of a policy file, by edition: where each stands, its count, that all of it is there, and its records in
 // order. These are for the crates that read a file: a section is looked at where the file reaches, and a place is asked
 // for only where it is a number of 64 bits.
+#![tactic(auto)]
+
 pub use crate::operators::operator_in;
 pub use crate::places::{behind, header_words, operator_words};
 pub use crate::sections::{header_fault, section_fault, unless, wide};
@@ -69,14 +71,14 @@ pub const WRONG_SUM: u32 = 9;
 pub const LAW_BROKEN: u32 = 10;
 
 // What a stage of the reading finds.
-#[derive(Drop)]
+#[derive(Clone, Copy)]
 pub enum Test {
     Passed,
     Failed(Refusal),
 }
 
 // The editions of the file format.
-#[derive(Drop)]
+#[derive(Clone, Copy)]
 pub enum Edition {
     First,
 }
@@ -85,7 +87,7 @@ pub enum Edition {
 pub const LATEST: Edition = Edition::First;
 
 // A section of the file. Nodes are held against the number of operators.
-#[derive(Drop)]
+#[derive(Clone, Copy)]
 pub enum Section {
     Operators(Edition),
     Atoms(Edition),

@@ -99,14 +99,11 @@ fn cells_fault(operator: &[u32], at: usize, edition: Edition) -> Test
     requires { at + length operator.now < 2 ^ 64 }
     ensures { result ≡ cells_fault edition at operator.now }
 {
-    let mut j = 0;
-    // The first j cells are right.
-    while j < operator.len() {
+    for j in 0..operator.len() {
         let found = unless(right_cell_in(j, operator[j], edition), WRONG_CELL, at + j);
         if let Test::Failed(_) = found {
             return found;
         }
-        j += 1;
     }
     Test::Passed
 }
