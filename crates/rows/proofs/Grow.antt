@@ -6,7 +6,7 @@
 --   put-none, put_full, put_all  words put before a table: none, too many, and all
 --   join-full, join-put          two tables one behind the other, joined: no room for the common rows, and the common rows put before them
 --   joins                        two tables that were laid one behind the other, replaced by their join
-use Prim.Native.Nat.{ℕ, ◌+◌, ◌-◌, ◌≤◌, ◌<◌}
+use Prim.Native.Nat.{ℕ, ◌+◌, ◌-◌, ◌≤◌}
 use native.Mathlib.Omega.{arith}
 use mathlib.Core.Path.{◌≡◌, refl, sym, ap, ap₂, ◌∙◌}
 use mathlib.Core.List.{List, [], ◌++◌}

@@ -1,6 +1,8 @@
 // Tables joined in their place, within two lent buffers that are as long as there is room. Only the walk of the compile
 // calls these functions: they ask for places inside the buffers, and where there is no room they do not say what words
 // are left, since the compile then clears both.
+#![tactic(auto)]
+
 ghost use Rattle.std.specs.Prelude.{◌≡◌, ◌++◌, ◌≤◌, length, drop};
 ghost use Rattle.row.specs.Row.{row_of};
 ghost use Rattle.common.specs.Lays.{Lays};

@@ -1,0 +1,12 @@
+-- The test says whether there is room.
+use Rattle.std.proofs.Common.{arith}
+use Rattle.rows.proofs.Own.{put-up-full, put-up-words}
+use Rattle.rows.proofs.put_up_to.Goals as goal
+
+pub returns-then-place-start : goal.returns-then-place-start
+returns-then-place-start c =
+    let g = c.args in put-up-full _ g.place g.words.now g.out.now (omega arith) (omega arith) (omega arith)
+
+pub returns : goal.returns
+returns c =
+    let g = c.args in put-up-words _ g.place g.words.now g.out.now c.copy.ensures (omega arith) (omega arith) (omega arith)
