@@ -1,13 +1,13 @@
--- A match that lies inside another, field by field. Where it does not, a packet in range shows it: the own packet of the one with one value changed; its
+-- A match that lies inside another. Where it does not, a packet in range shows it: the own packet of the one with one value changed; its
 -- protocol is changed to the other that has ports. Assumes nothing.
 use mathlib.Core.Path.{◌≡◌, refl, sym, ap, ◌∙◌}
-use mathlib.Core.Bool.{Bool, true, false, not, ◌||◌, and-eq-true_iff, or-true}
+use mathlib.Core.Bool.{Bool, true, false, not, ◌||◌, or-true}
 use mathlib.Core.Logic.{⊎_elim}
 use Prim.Native.Nat.{ℕ, ◌^◌, ◌<◌}
 use native.Mathlib.Omega.{arith}
 use borrow.Author.Tests.{lt-ltb, not-true}
-use Rattle.field.specs.Prefix.{address_bits, in_prefix, covers}
-use Rattle.field.specs.Value.{meets_value, value_inside}
+use Rattle.field.specs.Prefix.{address_bits, in_prefix}
+use Rattle.field.specs.Value.{meets_value}
 use Rattle.field.proofs.Prefixes.{in-own, covers-exactly, covers-in, covers-trans}
 use Rattle.field.proofs.Values.{meets-own-value, meets-free, value-meets, value-trans, value_on, value-told, value-inside-exactly}
 use Rattle.flow.specs.Packet.{port_limit, protocol_limit, right_packet}
@@ -18,40 +18,9 @@ use Rattle.flow.specs.declared.Match.{Match}
 use Rattle.flow.specs.declared.Packet.{Packet}
 use Rattle.flow.proofs.Flags.{flag-either}
 use Rattle.flow.proofs.Laws.{ranges, unflagged, own_protocol, own-protocol-met, own-protocol-ports, own-protocol-below}
+use Rattle.flow.proofs.Parts.{Parts, parts, whole}
 use Rattle.flow.proofs.Tests.{Tests, tests, tested, met-lives}
 use Rattle.logic.proofs.Tests.{by-test, and_both, or_split}
-
--- how a match that is not empty lies inside another, by name
-record Parts (a b : Match) : Type 0 where
-  live : not (is_empty b) ≡ true
-  inport : value_inside (constrains inport_flag a) a.inport (constrains inport_flag b) b.inport ≡ true
-  protocol : value_inside (constrains protocol_flag a) a.protocol (constrains protocol_flag b) b.protocol ≡ true
-  sourceport : value_inside (constrains sourceport_flag a) a.sourceport (constrains sourceport_flag b) b.sourceport ≡ true
-  destinationport : value_inside (constrains destinationport_flag a) a.destinationport (constrains destinationport_flag b) b.destinationport ≡ true
-  source : covers address_bits b.source b.sourcelength a.source a.sourcelength ≡ true
-  destination : covers address_bits b.destination b.destinationlength a.destination a.destinationlength ≡ true
-
-parts : (a b : Match) → is_empty a ≡ false → inside a b ≡ true → Parts a b
-unfolding inside
-parts a b l e =
-    let f = rw l at e in
-    let h = simp and-eq-true_iff at f in record {
-      live = h.0.0.0.0.0.0;
-      inport = h.0.0.0.0.0.1;
-      protocol = h.0.0.0.0.1;
-      sourceport = h.0.0.0.1;
-      destinationport = h.0.0.1;
-      source = h.0.1;
-      destination = h.1;
-    }
-
-whole : (a b : Match) → Parts a b → inside a b ≡ true
-unfolding inside
-whole a b t =
-    ap (λ (x : Bool). is_empty a || x)
-    (and_both (and_both (and_both (and_both (and_both (and_both t.live t.inport) t.protocol) t.sourceport) t.destinationport) t.source)
-    t.destination)
-    ∙ or-true (is_empty a)
 
 -- an empty match lies inside every match
 empty-inside : (a b : Match) → is_empty a ≡ true → inside a b ≡ true

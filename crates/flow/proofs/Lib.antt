@@ -1,5 +1,6 @@
 pub mod Flags
 pub mod Inside
 pub mod Laws
+pub mod Parts
 pub mod Tests
 pub mod Words

@@ -45,8 +45,5 @@ returns c =
       c.if-not-prefix_covers-2.false,
       ← c.prefix_covers.ensures,
       c.if-not-prefix_covers.false,
-      and-true,
-      and-true,
-      and-true,
-      and-true,
     )
+    (simp and-true)

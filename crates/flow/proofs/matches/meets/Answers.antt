@@ -30,6 +30,5 @@ returns c =
       c.if-not-in_prefix-2.false,
       ← c.in_prefix.ensures,
       c.if-not-in_prefix.false,
-      and-true,
-      and-true,
     )
+    (simp and-true)
