@@ -28,19 +28,15 @@ pub fn laws_fault(
         (operator_rows edition (records operators (operator_length_in edition) (drop (h + 1) file.now))) }
 {
     let step = operator_words(edition);
-    let mut i = 0;
     let mut from = h + 1;
-    let mut left = operators;
-    // The first i operators keep the laws or are not named; the others, left of them, stand from from on.
-    while 0 < left {
+    // The first i operators keep the laws or are not named; the others stand from from on.
+    for i in 0..operators {
         let end = from + step;
         let found = operator_fault(&file[from..end], i, edition, file, at, count);
         if let Test::Failed(_) = found {
             return found;
         }
-        i += 1;
         from = end;
-        left -= 1;
     }
     Test::Passed
 }
@@ -69,16 +65,12 @@ fn is_named(file: &[u32], at: usize, count: usize, operator: usize) -> bool
     requires { at + node_length * count ≤ length file.now }
     ensures { result ≡ named operator (records count node_length (drop at file.now)) }
 {
-    let mut from = at;
-    let mut left = count;
-    // No node before from names the operator; the others, left of them, stand from from on.
-    while 0 < left {
-        let end = from + NODE_WORDS;
-        if names(&file[from..end], operator) {
+    // None of the first i nodes names the operator.
+    for i in 0..count {
+        let from = at + NODE_WORDS * i;
+        if names(&file[from..from + NODE_WORDS], operator) {
             return true;
         }
-        from += NODE_WORDS;
-        left -= 1;
     }
     false
 }

@@ -18,12 +18,9 @@ pub fn shape_fault(file: &[u32], at: usize, count: usize) -> Test
     let mut waiting = [0u32; DEEPEST + 1];
     waiting[0] = 1;
     let mut height = 1;
-    let mut from = at;
-    let mut left = count;
-    let mut i = 0;
     // The first i nodes have a place; the first height words of waiting are the children still to come of each node
-    // that is open behind them; the other nodes, left of them, stand from from on.
-    while 0 < left {
+    // that is open behind them.
+    for i in 0..count {
         let d = settled(waiting, height);
         if d == 0 {
             return unless(false, NO_TREE, i);
@@ -32,21 +29,19 @@ pub fn shape_fault(file: &[u32], at: usize, count: usize) -> Test
             return unless(false, NO_TREE, i);
         }
         waiting[d - 1] -= 1;
-        waiting[d] = file[from + CHILDREN];
+        waiting[d] = file[at + NODE_WORDS * i + CHILDREN];
         height = d + 1;
-        from += NODE_WORDS;
-        left -= 1;
-        i += 1;
     }
     let d = settled(waiting, height);
-    unless(d == 0, NO_TREE, i)
+    unless(d == 0, NO_TREE, count)
 }
 
 // Goes up past the nodes that have all their children.
 fn settled(waiting: [u32; DEEPEST + 1], height: usize) -> usize
     requires { height ≤ deepest + 1 }
-    ensures { (stacked waiting result ≡ waiting_nodes (stacked waiting height)) × (result ≤ height)
-        × (0 < result → 0 < get_or waiting (result - 1) 0) }
+    ensures same { stacked waiting result ≡ waiting_nodes (stacked waiting height) }
+    ensures low { result ≤ height }
+    ensures waits { 0 < result → 0 < get_or waiting (result - 1) 0 }
 {
     let mut d = height;
     // The nodes from d on have all their children.
@@ -75,13 +70,9 @@ fn own_atoms(file: &[u32], at: usize, count: usize) -> usize
     ensures { result ≡ own_atoms (records count node_length (drop at file.now)) }
 {
     let mut sum = 0;
-    let mut from = at;
-    let mut left = count;
-    // sum is what the nodes before from take; the others, left of them, stand from from on.
-    while 0 < left {
-        sum += wide(file[from + OWN]);
-        from += NODE_WORDS;
-        left -= 1;
+    // sum is what the first i nodes take.
+    for i in 0..count {
+        sum += wide(file[at + NODE_WORDS * i + OWN]);
     }
     sum
 }
