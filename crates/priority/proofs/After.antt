@@ -13,7 +13,7 @@ use Rattle.logic.proofs.Tests.{by-test}
 use Rattle.words.specs.Words.{laid}
 use Rattle.words.proofs.Laid.{length-laid, take-laid, drop-laid, get_or-laid}
 use Rattle.theory.specs.Rows.{matches_at}
-use Rattle.theory.specs.Number.{rows_overlap, FirstPlace, level_count, priorities, chain, Chained, Right, distinct, seek}
+use Rattle.theory.specs.Number.{rows_overlap, FirstPlace, level_count, Chained, Right, distinct, seek}
 use Rattle.theory.proofs.Seek.{seek-first}
 use Rattle.theory.proofs.Levels.{priorities-right, priorities-range}
 use Rattle.theory.proofs.Fewest.{fewest-priorities, priorities-count}

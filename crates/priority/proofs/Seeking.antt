@@ -2,7 +2,7 @@
 use Prim.Native.Nat.{ℕ, zero, suc, ◌+◌, ◌-◌, ◌≤◌, ◌<◌}
 use native.Mathlib.Omega.{arith}
 use native.Mathlib.Numerals.{add-one}
-use mathlib.Core.Path.{◌≡◌, sym}
+use mathlib.Core.Path.{◌≡◌, sym, ◌∙◌}
 use mathlib.Core.Bool.{Bool, true, false, cond, ◌&&◌}
 use mathlib.Core.List.{List}
 use lib.Dec.{eqb}
@@ -30,8 +30,8 @@ module _ (test : ℕ → Bool) (n i w : ℕ) (inv : seek test (n - i) i ≡ w) w
   pub seek-miss : i < n → test i ≡ false → seek test (n - (i + 1)) (i + 1) ≡ w
   seek-miss h t = rw (seek-more test n i h, t) at inv
 
-  pub seek-end : n ≤ i → i ≡ w
-  seek-end h = let q : n - i ≡ 0 = omega arith in rw q at inv
+  pub seek-end : i ≡ n → n ≡ w
+  seek-end h = let q : n - i ≡ 0 = omega arith in sym h ∙ rw q at inv
 
 -- the search goes no further than the places it has
 pub seek-within : (test : ℕ → Bool) (n at : ℕ) → seek test n at ≤ at + n

@@ -1,4 +1,6 @@
 // The numbering of a table's rows: levels, priorities, and the chain that forces their number.
+#![tactic(auto)]
+
 ghost use Rattle.std.specs.Prelude.{◌≡◌, cond, ◌&&◌, map, ℕ, suc, ◌-◌, ◌≤◌, ◌<◌, ◌^◌, max, length, get_or, set};
 ghost use Rattle.words.specs.Words.{laid};
 ghost use Rattle.theory.specs.Number.{above, level_count, first_of_level, step_back, chain_under};
@@ -17,15 +19,15 @@ use words::larger;
 pub const SHORT_BUFFER: u32 = 17;
 
 // A row's place: place 0 is scanned first.
-#[derive(Drop)]
+#[derive(Clone, Copy)]
 struct Place(usize);
 
 // A row's priority: the highest is obeyed first.
-#[derive(Drop)]
+#[derive(Clone, Copy)]
 struct Priority(u32);
 
 // How many priorities there are, or the refusal.
-#[derive(Drop)]
+#[derive(Clone, Copy)]
 pub enum Numbered {
     Priorities(u32),
     Refused { number: u32, place: usize },
@@ -79,13 +81,11 @@ fn put_levels(table: &[u32], levels: &mut [u32]) -> u32
         × (levels.new ≡ levels_of table.now) }
 {
     let mut count = 0;
-    let mut i = 0;
     // The first i words are the levels of the first i rows, and count is how many levels these have.
-    while i < levels.len() {
+    for i in 0..levels.len() {
         let l = level(table, levels, i, count);
         levels[i] = l;
         count = larger(count, l + 1);
-        i += 1;
     }
     count
 }
@@ -148,15 +148,13 @@ fn put_chain(table: &[u32], levels: &[u32], count: u32, chain: &mut [u32])
 fn first_of_level(levels: &[u32], l: u32) -> Place
     ensures { result.0 ≡ first_of_level levels.now l }
 {
-    let mut at = 0;
     // None of the first at rows has the level.
-    while at < levels.len() {
+    for at in 0..levels.len() {
         if levels[at] == l {
             return Place(at);
         }
-        at += 1;
     }
-    Place(at)
+    Place(levels.len())
 }
 
 // The first row before a place that overlaps the row there and has a level; the place itself if there is none.
@@ -166,15 +164,13 @@ fn step_back(table: &[u32], levels: &[u32], at: Place, l: u32) -> Place
 {
     let end = at.0;
     let m = row_match(table, end);
-    let mut i = 0;
     // None of the first i rows overlaps the row and has the level.
-    while i < end {
+    for i in 0..end {
         if overlaps_at(table, m, i, levels[i] == l) {
             return Place(i);
         }
-        i += 1;
     }
-    Place(i)
+    Place(end)
 }
 
 // Whether row j overlaps a match, asked only where another test passes.
@@ -193,12 +189,10 @@ fn put_priorities(priorities: &mut [u32], count: u32)
     requires { (j : ℕ) → j < length priorities.old → get_or priorities.old j 0 ≤ count }
     ensures { priorities.new ≡ map (λ l. count - l) priorities.old }
 {
-    let mut i = 0;
     // The first i words are priorities, and the others are still levels.
-    while i < priorities.len() {
+    for i in 0..priorities.len() {
         let l = priorities[i];
         put_priority(priorities, Place(i), Priority(count - l));
-        i += 1;
     }
 }
 

@@ -1,0 +1,16 @@
+-- A turn of the loop is a row.
+use Rattle.std.proofs.Common.{arith}
+use Rattle.priority.proofs.Levelling.{levelling-start, levelling-below, levelling-turn, levelling-end}
+use Rattle.priority.proofs.put_levels.Goals as goal
+
+pub loop-i-init : goal.loop-i-init
+loop-i-init c = levelling-start c.args.table.now c.args.levels.now
+
+pub level-l-requires : goal.level-l-requires
+level-l-requires c = (omega arith, omega arith, omega arith, levelling-below c.loop-i.invariant)
+
+pub loop-i-preserved : goal.loop-i-preserved
+loop-i-preserved c = levelling-turn c.loop-i.invariant (omega arith) _ c.level-l.ensures.0 _ c.larger-count.ensures
+
+pub returns : goal.returns
+returns c = levelling-end c.loop-i.invariant c.requires.0 (omega arith)
