@@ -1,24 +1,30 @@
-// 32-bit words over standard input and standard output, the lowest byte of each first. What is read and what is written
-// is in no contract; where a function answers how many words or bytes it took, they stand at the start of the lent
-// buffer.
-ghost use Rattle.std.specs.Prelude.{◌≡◌, min, ◌%◌, ◌^◌};
-ghost use Rattle.io.specs.Counts.{IsPrefixLen};
+// 32-bit words over a reader and a writer, the lowest byte of each first. Where the bytes that a reader has left are
+// known, they begin with those of what is taken whole, and lose them; where those that a writer holds are, the bytes of
+// what is given come behind them. Where a function answers how many words or bytes it took, they stand at the start of
+// the lent buffer.
+#![tactic(auto)]
 
-use libc::{STDIN_FILENO, STDOUT_FILENO};
+ghost use Rattle.std.specs.Prelude.{◌≡◌, ◌≤◌, ◌*◌, ◌%◌, ◌^◌, ℕ, List, true, ◌++◌, length, take, replicate};
+ghost use Rattle.std.specs.Io.KnownBytes.{Appends, Consumes};
+ghost use Rattle.words.specs.Records.{flat};
+ghost use Rattle.words.specs.Bytes.{word_bytes, bytes_of};
+ghost use Rattle.wire.specs.Sent.{slice_bytes, padding, counted};
+
+use std::io::{Read, Write};
 use words::WORD_BYTES;
 
 // How many words are read or written at once.
 const BLOCK: usize = 1024;
 
 // How much was read: all that was asked for or not, and so many words or bytes.
-#[derive(Drop)]
+#[derive(Clone, Copy)]
 pub struct Taken {
     pub whole: bool,
     pub count: usize,
 }
 
 // How much of two slices was read: all of both or not, and so many words of each.
-#[derive(Drop)]
+#[derive(Clone, Copy)]
 pub struct Two {
     pub whole: bool,
     pub first: usize,
@@ -26,7 +32,7 @@ pub struct Two {
 }
 
 // The same of three.
-#[derive(Drop)]
+#[derive(Clone, Copy)]
 pub struct Three {
     pub whole: bool,
     pub first: usize,
@@ -35,37 +41,45 @@ pub struct Three {
 }
 
 // Whether a word was read, and which.
-#[derive(Drop)]
+#[derive(Clone, Copy)]
 pub struct Word {
     pub whole: bool,
     pub word: u32,
 }
 
 // Reads one word.
-pub fn take_word() -> Word {
+pub fn take_word<R: Read>(input: &mut R) -> Word
+    ensures { result.whole ≡ true → Consumes (R.remaining input.old) (R.remaining input.new)
+        (bytes_of result.word) }
+{
     let mut buffer = [0u32; 1];
-    let whole = take(&mut buffer);
+    let whole = take(input, &mut buffer);
     let word = buffer[0];
     Word { whole, word }
 }
 
 // Reads a slice: its length, then its words.
-pub fn take_slice(out: &mut [u32]) -> Taken
-    ensures { IsPrefixLen result.count out.new }
+pub fn take_slice<R: Read>(input: &mut R, out: &mut [u32]) -> Taken
+    ensures within { result.count ≤ length out.new }
+    ensures bytes { result.whole ≡ true → Consumes (R.remaining input.old) (R.remaining input.new)
+        (slice_bytes (take result.count out.new)) }
 {
-    let length = take_word();
-    let got = take_first(out, wide(length.word));
+    let length = take_word(input);
+    let got = take_first(input, out, length.word as usize);
     let whole = length.whole & got.whole;
     let count = got.count;
     Taken { whole, count }
 }
 
 // Reads two slices.
-pub fn take_two(a: &mut [u32], b: &mut [u32]) -> Two
-    ensures { IsPrefixLen result.first a.new × IsPrefixLen result.second b.new }
+pub fn take_two<R: Read>(input: &mut R, a: &mut [u32], b: &mut [u32]) -> Two
+    ensures first { result.first ≤ length a.new }
+    ensures second { result.second ≤ length b.new }
+    ensures bytes { result.whole ≡ true → Consumes (R.remaining input.old) (R.remaining input.new)
+        (slice_bytes (take result.first a.new) ++ slice_bytes (take result.second b.new)) }
 {
-    let f = take_slice(a);
-    let s = take_slice(b);
+    let f = take_slice(input, a);
+    let s = take_slice(input, b);
     let whole = f.whole & s.whole;
     let first = f.count;
     let second = s.count;
@@ -77,12 +91,16 @@ pub fn take_two(a: &mut [u32], b: &mut [u32]) -> Two
 }
 
 // Reads three slices.
-pub fn take_three(a: &mut [u32], b: &mut [u32], c: &mut [u32]) -> Three
-    ensures prefix_len { IsPrefixLen result.first a.new × IsPrefixLen result.second b.new }
-    ensures prefix_len_2 { IsPrefixLen result.third c.new }
+pub fn take_three<R: Read>(input: &mut R, a: &mut [u32], b: &mut [u32], c: &mut [u32]) -> Three
+    ensures first { result.first ≤ length a.new }
+    ensures second { result.second ≤ length b.new }
+    ensures third { result.third ≤ length c.new }
+    ensures bytes { result.whole ≡ true → Consumes (R.remaining input.old) (R.remaining input.new)
+        ((slice_bytes (take result.first a.new) ++ slice_bytes (take result.second b.new))
+        ++ slice_bytes (take result.third c.new)) }
 {
-    let two = take_two(a, b);
-    let t = take_slice(c);
+    let two = take_two(input, a, b);
+    let t = take_slice(input, c);
     let whole = two.whole & t.whole;
     let first = two.first;
     let second = two.second;
@@ -95,26 +113,33 @@ pub fn take_three(a: &mut [u32], b: &mut [u32], c: &mut [u32]) -> Three
     }
 }
 
-// Reads bytes: how many there are, then words that hold them, which are lent a buffer of their own.
-pub fn take_bytes(words: &mut [u32], out: &mut [u8]) -> Taken
-    ensures { IsPrefixLen result.count out.new }
+// Reads bytes: how many there are, then words that hold them.
+pub fn take_bytes<R: Read>(input: &mut R, out: &mut [u8]) -> Taken
+    ensures within { result.count ≤ length out.new }
+    ensures bytes { result.whole ≡ true → (pad : List ℕ) × (length pad ≡ padding result.count)
+        × Consumes (R.remaining input.old) (R.remaining input.new)
+        (counted result.count (take result.count out.new) pad) }
 {
-    let length = take_word();
-    let n = wide(length.word);
-    let got = take_first(words, whole_words(n));
-    words::to_bytes(&words[..got.count], out);
-    let count = first(n, out);
-    let whole = length.whole & got.whole & (count == n);
+    let length = take_word(input);
+    let n = length.word as usize;
+    let count = n.min(out.len());
+    let is_there = input.read_exact(&mut out[..count]).is_ok();
+    let mut behind = [0u8; WORD_BYTES];
+    let is_padded = input.read_exact(&mut behind[..padding(count)]).is_ok();
+    let whole = length.whole & is_there & is_padded & (count == n);
     Taken { whole, count }
 }
 
 // Writes words. False where not all could be written.
-pub fn give(words: &[u32]) -> bool {
+pub fn give<W: Write>(output: &mut W, words: &[u32]) -> bool
+    ensures { result ≡ true → Appends (W.contents output.old) (W.contents output.new)
+        (flat bytes_of words.now) }
+{
     let mut at = 0;
     // The first at words are written.
     while at < words.len() {
-        let end = at + least(words.len() - at, BLOCK);
-        if !give_block(&words[at..end]) {
+        let end = at + BLOCK.min(words.len() - at);
+        if !give_block(output, &words[at..end]) {
             return false;
         }
         at = end;
@@ -124,9 +149,16 @@ pub fn give(words: &[u32]) -> bool {
 
 // Writes bytes: how many there are, then words that hold them, the last filled up with zeros. False where not all
 // could be written.
-pub fn give_bytes(bytes: &[u8]) -> bool {
+pub fn give_bytes<W: Write>(output: &mut W, bytes: &[u8]) -> bool
+    ensures { result ≡ true → Appends (W.contents output.old) (W.contents output.new)
+        (counted (length bytes.now % 2 ^ 32) bytes.now (replicate (padding (length bytes.now)) 0)) }
+{
     let n = bytes.len();
-    give(&[low(n)]) & io::write_all(STDOUT_FILENO, bytes) & give_padding(n)
+    let zeros = [0u8; WORD_BYTES];
+    let is_counted = give(output, &[low(n)]);
+    let is_there = output.write_all(bytes).is_ok();
+    let is_padded = output.write_all(&zeros[..padding(n)]).is_ok();
+    is_counted & is_there & is_padded
 }
 
 // The low 32 bits of a number.
@@ -137,22 +169,28 @@ pub fn low(n: usize) -> u32
 }
 
 // Reads so many words into the first of a buffer.
-fn take_first(out: &mut [u32], n: usize) -> Taken
-    ensures { IsPrefixLen result.count out.new }
+fn take_first<R: Read>(input: &mut R, out: &mut [u32], n: usize) -> Taken
+    ensures within { result.count ≤ length out.new }
+    ensures count { result.whole ≡ true → result.count ≡ n }
+    ensures bytes { result.whole ≡ true → Consumes (R.remaining input.old) (R.remaining input.new)
+        (flat bytes_of (take result.count out.new)) }
 {
-    let count = least(n, out.len());
-    let is_there = take(&mut out[..count]);
+    let count = n.min(out.len());
+    let is_there = take(input, &mut out[..count]);
     let whole = is_there & (count == n);
     Taken { whole, count }
 }
 
 // Reads words until a buffer is full. False where the input ends before.
-fn take(out: &mut [u32]) -> bool {
+fn take<R: Read>(input: &mut R, out: &mut [u32]) -> bool
+    ensures { result ≡ true → Consumes (R.remaining input.old) (R.remaining input.new)
+        (flat bytes_of out.new) }
+{
     let mut at = 0;
     // The first at words are read.
     while at < out.len() {
-        let end = at + least(out.len() - at, BLOCK);
-        if !take_block(&mut out[at..end]) {
+        let end = at + BLOCK.min(out.len() - at);
+        if !take_block(input, &mut out[at..end]) {
             return false;
         }
         at = end;
@@ -160,63 +198,42 @@ fn take(out: &mut [u32]) -> bool {
     true
 }
 
-fn take_block(out: &mut [u32]) -> bool {
+fn take_block<R: Read>(input: &mut R, out: &mut [u32]) -> bool
+    ensures { result ≡ true → Consumes (R.remaining input.old) (R.remaining input.new)
+        (flat bytes_of out.new) }
+{
     let mut bytes = [0u8; WORD_BYTES * BLOCK];
     if BLOCK < out.len() {
         return false;
     }
-    take_words(out, &mut bytes[..WORD_BYTES * out.len()])
+    let block = &mut bytes[..WORD_BYTES * out.len()];
+    let is_there = input.read_exact(block).is_ok();
+    read_words(block, out);
+    is_there
 }
 
-// Reads the bytes of some words, and the words.
-fn take_words(out: &mut [u32], bytes: &mut [u8]) -> bool {
-    let got = io::read_full(STDIN_FILENO, bytes);
+// The words that some bytes are, where they are as many as a buffer has.
+fn read_words(bytes: &[u8], out: &mut [u32])
+    ensures { length bytes.now ≡ word_bytes * length out.old → flat bytes_of out.new ≡ bytes.now }
+{
     words::from_bytes(bytes, out);
-    got == bytes.len()
 }
 
-fn give_block(words: &[u32]) -> bool {
+fn give_block<W: Write>(output: &mut W, words: &[u32]) -> bool
+    ensures { result ≡ true → Appends (W.contents output.old) (W.contents output.new)
+        (flat bytes_of words.now) }
+{
     let mut bytes = [0u8; WORD_BYTES * BLOCK];
     if BLOCK < words.len() {
         return false;
     }
     words::to_bytes(words, &mut bytes);
-    io::write_all(STDOUT_FILENO, &bytes[..WORD_BYTES * words.len()])
+    output.write_all(&bytes[..WORD_BYTES * words.len()]).is_ok()
 }
 
-// Zeros behind so many bytes, up to a whole word.
-fn give_padding(bytes: usize) -> bool {
-    let behind = bytes % WORD_BYTES;
-    if behind == 1 {
-        return io::write_all(STDOUT_FILENO, b"\0\0\0");
-    }
-    if behind == 2 {
-        return io::write_all(STDOUT_FILENO, b"\0\0");
-    }
-    if behind == 3 {
-        return io::write_all(STDOUT_FILENO, b"\0");
-    }
-    true
-}
-
-// How many words so many bytes take.
-fn whole_words(bytes: usize) -> usize {
-    bytes / WORD_BYTES + least(bytes % WORD_BYTES, 1)
-}
-
-// So many of a buffer's bytes, or all of them.
-fn first(n: usize, buf: &[u8]) -> usize
-    ensures { IsPrefixLen result buf.now }
+// How many bytes stand behind so many, up to a whole word.
+fn padding(bytes: usize) -> usize
+    ensures { result ≡ padding bytes }
 {
-    least(n, buf.len())
-}
-
-fn wide(w: u32) -> usize {
-    w as usize
-}
-
-fn least(m: usize, n: usize) -> usize
-    ensures { result ≡ min m n }
-{
-    if m < n { m } else { n }
+    (WORD_BYTES - bytes % WORD_BYTES) % WORD_BYTES
 }
