@@ -1,4 +1,6 @@
 // Reading a policy file: every list of words gets its layout or one refusal.
+#![tactic(auto)]
+
 ghost use Rattle.std.specs.Prelude.{◌≡◌, ◌≤◌, length};
 ghost use Rattle.section.specs.Numbers.{most_nodes};
 ghost use Rattle.section.specs.Sections.{behind};
@@ -15,14 +17,14 @@ use whole::{laws_fault, shape_fault, sum_fault};
 use words::word;
 
 // How many records each section of an accepted file has.
-#[derive(Drop)]
+#[derive(Clone, Copy)]
 pub struct Layout {
     pub operators: usize,
     pub atoms: usize,
     pub nodes: usize,
 }
 
-#[derive(Drop)]
+#[derive(Clone, Copy)]
 pub enum Reading {
     Accepted(Layout),
     Refused(Refusal),
