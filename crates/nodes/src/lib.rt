@@ -1,5 +1,7 @@
 // Where a node, its operators and its atoms stand in a policy file. Each function is total: outside the file all is 0,
 // and there are no atoms.
+#![tactic(auto)]
+
 ghost use Rattle.std.specs.Prelude.{◌≡◌, ◌≤◌};
 ghost use Rattle.action.specs.Operator.{join};
 ghost use Rattle.nodes.specs.Nodes.{node_place, node_at, from_operator, cells_at, atom_words_at, first_atom, root_spot};
@@ -13,14 +15,14 @@ use section::{
 use words::word;
 
 // A place in the list of nodes: how many nodes are left from it on, and the word where the next node's atoms start.
-#[derive(Drop)]
+#[derive(Clone, Copy)]
 pub struct Spot {
     pub left: usize,
     pub atom: usize,
 }
 
 // A node's five words.
-#[derive(Drop)]
+#[derive(Clone, Copy)]
 pub struct NodeWords {
     pub inner: u32,
     pub parent: u32,
@@ -100,7 +102,8 @@ fn first_atom(operators: usize) -> usize
 
 // The word where the node stands, or the end of the file.
 fn node_place(length: usize, left: usize) -> usize
-    ensures { (result ≡ node_place length left) × (result ≤ length) }
+    ensures place { result ≡ node_place length left }
+    ensures low { result ≤ length }
 {
     if length / NODE_WORDS < left {
         return length;
