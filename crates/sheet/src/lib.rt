@@ -1,4 +1,6 @@
 // A table as text: how many rows and priorities it has, and a line for each row with its priority.
+#![tactic(auto)]
+
 ghost use Rattle.std.specs.Prelude.{◌≡◌, length};
 ghost use Rattle.row.specs.Row.{rows_in};
 ghost use Rattle.table.specs.Table.{row_count};
@@ -36,13 +38,11 @@ fn put_lines(out: &mut [u8], at: usize, priorities: &[u32], table: &[u32]) -> us
 {
     let mut to = at;
     let mut from = 0;
-    let mut i = 0;
     // The lines of the first i rows are put, as far as they fit; to is where the next one goes, from where its row is.
-    while i < priorities.len() {
+    for i in 0..priorities.len() {
         let end = from + ROW_WORDS;
         to = put_line(out, to, priorities[i], &table[from..end]);
         from = end;
-        i += 1;
     }
     to
 }

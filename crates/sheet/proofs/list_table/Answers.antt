@@ -1,0 +1,29 @@
+-- The first line and the lines are the text of a table that is numbered; a refusal is its own text.
+use Rattle.std.proofs.Common.{ℕ, List, refl, sym, replicate, arith}
+use lib.Seq.{length-take-le}
+use Rattle.sheet.specs.Sheet.{listing_room}
+use Rattle.sheet.proofs.Listed.{table-within, table-listed, table-refused}
+use Rattle.sheet.proofs.list_table.Goals as goal
+
+-- both buffers before the numbering
+abbrev none : List ℕ
+none = replicate listing_room 0
+
+pub slice_bounds-priorities-end : goal.slice_bounds-priorities-end
+slice_bounds-priorities-end c = omega (arith, table-within c.args.table.now none none c.number.ensures c.in-Priorities.is)
+
+pub slice_bounds-put_lines-end : goal.slice_bounds-put_lines-end
+slice_bounds-put_lines-end c =
+    sym (length-take-le _ _ (omega (arith, table-within c.args.table.now none none c.number.ensures c.in-Priorities.is)))
+
+pub put_lines-requires : goal.put_lines-requires
+put_lines-requires c =
+    length-take-le _ _ (omega (arith, table-within c.args.table.now none none c.number.ensures c.in-Priorities.is))
+
+pub returns-in-Priorities : goal.returns-in-Priorities
+returns-in-Priorities c =
+    table-listed c.args.table.now none none c.number.ensures refl refl c.in-Priorities.is c.put_head-at.ensures c.put_lines.ensures
+
+pub returns-in-Refused : goal.returns-in-Refused
+returns-in-Refused c =
+    table-refused c.args.table.now none none c.number.ensures refl refl c.in-Refused.is c.put_refusal.ensures
