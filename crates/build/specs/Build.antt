@@ -2,7 +2,7 @@
 -- answers of its steps.
 --
 --   compile_tree, compile_trees  the table of a tree, and of some children
---   field_own, tree_words, children_words   the tables of a node's own atoms, of a subtree and of some children, in words
+--   own_at, tree_words, children_words   the tables of a node's own atoms, of a subtree and of some children, in words
 --   BuildsBy, Builds           a table was built at a place, and the next place is as told; or there was no room
 --   NodeBuilt, TreeBuilt, ChildrenBuilt, JoinBuilt   what each step leaves
 --   AtNode, AtPlace, OfNode, OfBuilt                 what each step asks
@@ -35,8 +35,8 @@ abbrev pub compile_trees : Forest PolicyNode → List ℕ → List (Row Match Ac
 compile_trees ts o = compiles common is_empty operator.join ts o
 
 -- the table of a node's own atoms, in words
-abbrev pub field_own : List ℕ → Spot → List ℕ
-field_own f s = own_words (cells_at f (node_at f s.left).inner) (atom_words_at f s.atom (node_at f s.left).own)
+abbrev pub own_at : List ℕ → Spot → List ℕ
+own_at f s = own_words (cells_at f (node_at f s.left).inner) (atom_words_at f s.atom (node_at f s.left).own)
 
 -- the table of the subtree at a place, in words
 unfoldable pub tree_words : List ℕ → Spot → List ℕ
@@ -57,7 +57,7 @@ pub record Builds (a : ℕ) (F old new : List ℕ) (told : Spot → Type 0) (r :
 
 -- a node's own rows
 abbrev pub NodeBuilt : List ℕ → Spot → ℕ → List ℕ → List ℕ → Built → Type 0
-NodeBuilt f s a old new r = Builds a (field_own f s) old new (λ next. next ≡ next_spot f s) r
+NodeBuilt f s a old new r = Builds a (own_at f s) old new (λ next. next ≡ next_spot f s) r
 
 -- a subtree's rows
 abbrev pub TreeBuilt : List ℕ → Spot → ℕ → List ℕ → List ℕ → Built → Type 0

@@ -1,6 +1,8 @@
 // The table of a policy's tree, built by the walk over its nodes: each table stands where it is built, and is joined
 // with the one before it. Only the compile calls the walk: it asks for a place that was reached in an accepted file,
 // and where there is no room it does not say what words are left, since the compile then clears both buffers.
+#![tactic(auto)]
+
 ghost use Rattle.nodes.specs.Nodes.{cells_at};
 ghost use Rattle.build.specs.Build.{AtNode, AtPlace, OfNode, OfBuilt};
 ghost use Rattle.build.specs.Build.{NodeBuilt, TreeBuilt, ChildrenBuilt, JoinBuilt};
@@ -11,13 +13,13 @@ use rows::{join, own_rows};
 use section::ATOM_WORDS;
 
 // A table that was built: the place past its end, and the place of the nodes behind its own.
-#[derive(Drop)]
+#[derive(Clone, Copy)]
 pub struct Part {
     pub end: usize,
     pub next: Spot,
 }
 
-#[derive(Drop)]
+#[derive(Clone, Copy)]
 pub enum Built {
     Done(Part),
     Full,

@@ -1,0 +1,9 @@
+-- What falls is the number of nodes left: `children` calls `subtree` at the same place.
+use Rattle.std.proofs.Common.{◌+◌}
+use Rattle.build.proofs.+children_subtree.Given as goal
+
+abbrev pub decreases-subtree : goal.decreases-subtree
+decreases-subtree l = l.at.left + l.at.left
+
+abbrev pub decreases-children : goal.decreases-children
+decreases-children l = l.at.left + l.at.left + 1
