@@ -2,11 +2,10 @@
 use Prim.Native.Nat.{ℕ, suc, ◌+◌, ◌*◌, ◌-◌, ◌≤◌, ◌<◌}
 use native.Mathlib.Omega.{arith}
 use mathlib.Core.Path.{◌≡◌, refl, sym, ap, ap₂, ◌∙◌}
-use mathlib.Core.Bool.{Bool, true, false, cond, not, ◌||◌}
+use mathlib.Core.Bool.{Bool, true, false, cond, ◌||◌}
 use mathlib.Core.List.{List, [], ◌∷◌, ◌++◌, append-nil}
 use lib.ListN.{length, get_or, take, drop, length-append}
 use lib.Seq.{drop-drop, take_all}
-use borrow.Author.Tests.{not-true, not-false}
 use Rattle.words.specs.Words.{laid, copied}
 use Rattle.words.proofs.Laid.{laid_none, length-laid, laid_then, take-laid, drop-laid, copied-fits, length-copied}
 use Rattle.words.proofs.Records.{rows_at, rows_end, flat_append}
@@ -120,9 +119,9 @@ module _ {ws table : List ℕ} {from to : ℕ} (k : Keeping ws table from to) wh
         asked = e ∙ ap (inside_one inside m) keeping-front ∙ ap (λ n. inside_one inside n (stayed ws k.done)) (q ∙ ap (λ r. r.match) next-words)
 
     -- it goes
-    pub keeping-goes : not b ≡ false → Keeping ws table (from + row_length) to
+    pub keeping-goes : b ≡ true → Keeping ws table (from + row_length) to
     keeping-goes t =
-        let same : stayed ws (suc k.done) ≡ stayed ws k.done = with-next ∙ rw (not-false b t) (append-nil (stayed ws k.done)) in
+        let same : stayed ws (suc k.done) ≡ stayed ws k.done = with-next ∙ rw t (append-nil (stayed ws k.done)) in
         record {
           done = suc k.done;
           at = omega (arith, k.at);
@@ -138,9 +137,9 @@ module _ {ws table : List ℕ} {from to : ℕ} (k : Keeping ws table from to) wh
       row_next : row ≡ row_words next
       row_next = w ∙ ap₂ (λ x y. row_words (record { match = x; action = y })) q p ∙ ap row_words next-words
 
-      pub keeping-stays : not b ≡ true → Keeping ws table' (from + row_length) (to + row_length)
+      pub keeping-stays : b ≡ false → Keeping ws table' (from + row_length) (to + row_length)
       keeping-stays t =
-          let more : stayed ws (suc k.done) ≡ stayed ws k.done ++ (next ∷ []) = with-next ∙ rw (not-true b t) in
+          let more : stayed ws (suc k.done) ≡ stayed ws k.done ++ (next ∷ []) = with-next ∙ rw t in
           let words : words_of (stayed ws (suc k.done)) ≡ words_of (stayed ws k.done) ++ row =
           ap words_of more
           ∙ flat_append row_words (stayed ws k.done) (next ∷ [])

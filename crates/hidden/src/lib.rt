@@ -1,4 +1,6 @@
 // The pass over a table that takes out each row whose match lies inside one earlier row's match: no packet reaches it.
+#![tactic(auto)]
+
 ghost use Rattle.std.specs.Prelude.{◌≡◌, length};
 ghost use Rattle.words.specs.Words.{laid};
 ghost use Rattle.theory.specs.Hidden.{inside_one};
@@ -12,7 +14,7 @@ use table::{Checked, check};
 use words::{clear_from, copy};
 
 // How many rows stay, or the refusal.
-#[derive(Drop)]
+#[derive(Clone, Copy)]
 pub enum Kept {
     Rows(usize),
     Refused { number: u32, place: usize },
