@@ -50,7 +50,8 @@ fn number_right(table: &[u32], rows: usize, priorities: &mut [u32], chain: &mut 
     ensures { Answered table.now priorities.old chain.old
         result priorities.new chain.new }
 {
-    if (rows <= priorities.len()) & (rows <= chain.len()) {
+    let fits = (rows <= priorities.len()) & (rows <= chain.len());
+    if fits {
         let count = put_numbers(table, &mut priorities[..rows], chain);
         return Numbered::Priorities(count);
     }
