@@ -132,8 +132,8 @@ module _ {ws table : List ℕ} {from to : ℕ} (k : Keeping ws table from to) wh
         }
 
     -- it stays, and is stored behind those that do
-    module _ (a : Action) (p : a ≡ row_action (first table from)) (row : List ℕ) (w : row ≡ row_words (record { match = m; action = a })) (table' : List ℕ)
-        (s : table' ≡ copied to row table) where
+    module _ (a : Action) (p : a ≡ row_action (first table from)) (row : List ℕ) (w : row ≡ row_words (record { match = m; action = a }))
+        (table' : List ℕ) (s : table' ≡ copied to row table) where
       row_next : row ≡ row_words next
       row_next = w ∙ ap₂ (λ x y. row_words (record { match = x; action = y })) q p ∙ ap row_words next-words
 
