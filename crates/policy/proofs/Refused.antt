@@ -20,7 +20,7 @@ use Rattle.refusal.specs.Plain.{plain}
 use Rattle.section.specs.Sections.{unless, ◌else◌, each, record_length, least, most, header_fault, count_fault, cell_fault, cells_fault, atom_fault}
 use Rattle.section.specs.Sections.{node_fault, record_fault, behind, section_fault, inner_of, parent_of, sibling_of, own_of, children_of}
 use Rattle.whole.specs.Whole.{waiting_nodes, one_less, shape, shape_fault, own_atoms, sum_fault, named, broken, operator_fault, laws_fault}
-use Rattle.policy.specs.Read.{atoms_at_in, nodes_at_in, end_in, operators_in, nodes_in, extra_fault, whole_stages, stages, layout, answer, read_as}
+use Rattle.policy.specs.Read.{atoms_at_in, nodes_at_in, end_in, operators_in, nodes_in, whole_stages, stages, layout, answer, read_as}
 use Rattle.section.specs.Atom.{right_atom_match, right_atom_action}
 use Rattle.section.specs.Cells.{right_cell_in, operator_rows}
 use Rattle.whole.specs.Meaning.{operator_at}
