@@ -1,4 +1,6 @@
 // The tree's action: what a policy file says of a packet.
+#![tactic(auto)]
+
 ghost use Rattle.std.specs.Prelude.{◌≡◌, ◌<◌, ◌%◌, length};
 ghost use Rattle.policy.specs.Read.{read_of};
 ghost use Rattle.policy.specs.declared.Reading.TheVariants.{Accepted};
@@ -16,14 +18,14 @@ use refusal::{Refusal, plain};
 use row::{ROW_WORDS, row_action};
 use section::ATOM_WORDS;
 
-#[derive(Drop)]
+#[derive(Clone, Copy)]
 pub enum Evaluated {
     Gives(Action),
     Refused(Refusal),
 }
 
 // What was found of a subtree or of some children, and the place of the nodes behind them.
-#[derive(Drop)]
+#[derive(Clone, Copy)]
 pub struct Gave {
     pub action: Action,
     pub next: Spot,

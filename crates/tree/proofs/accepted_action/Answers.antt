@@ -1,0 +1,16 @@
+-- The walk starts at the root, and gives eval of the tree.
+use Rattle.nodes.proofs.Walk.{start-reached}
+use Rattle.tree.proofs.Eval.{root-gave, accepted-gives, accepted-refuses}
+use Rattle.tree.proofs.accepted_action.Goals as goal
+
+pub subtree-gave-requires : goal.subtree-gave-requires
+subtree-gave-requires c = start-reached _ _ c.requires _ c.root.ensures
+
+pub returns-then-right_packet_words : goal.returns-then-right_packet_words
+returns-then-right_packet_words c =
+    accepted-gives _ _ _ _ c.right_packet_words.ensures c.if-right_packet_words.true
+    (root-gave _ _ c.requires _ c.root.ensures _ c.read_packet.ensures c.subtree-gave.ensures)
+
+pub returns-else-right_packet_words : goal.returns-else-right_packet_words
+returns-else-right_packet_words c =
+    rw c.plain.ensures (accepted-refuses _ _ _ _ c.right_packet_words.ensures c.if-right_packet_words.false)
