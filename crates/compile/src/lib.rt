@@ -1,5 +1,7 @@
 // The compile: the rows of a policy's tree, joined within the lent buffers, and refused for room exactly when they must
 // be.
+#![tactic(auto)]
+
 ghost use Rattle.std.specs.Prelude.{◌≡◌, length};
 ghost use Rattle.policy.specs.Read.{read_of};
 ghost use Rattle.refusal.specs.Plain.{plain};
@@ -22,7 +24,7 @@ pub const NO_SCRATCH: u32 = 13;
 pub const WRONG_RATE: u32 = 14;
 
 // The row count, or the refusal.
-#[derive(Drop)]
+#[derive(Clone, Copy)]
 pub enum Compiled {
     Rows(usize),
     Refused(Refusal),
