@@ -1,8 +1,9 @@
 // One node with k unconstrained atoms has 2^k - 1 rows: each atom doubles its table and adds a row. The largest table
 // has room for the rows of 12 atoms, and those of 13 are refused. Writes the row count of 12 atoms, and the number of
 // the refusal of 13.
+#![tactic(auto)]
+
 use compile::{Compiled, compile};
-use libc::STDOUT_FILENO;
 use row::{MOST_ROWS, ROW_WORDS};
 use section::{ATOM_WORDS, FIRST_OPERATOR, NODE_WORDS, OPERATOR_WORDS};
 use words::copy;
@@ -17,15 +18,15 @@ const FEW: usize = 12;
 
 const MANY: usize = 13;
 
-fn main() {
-    show(FEW);
-    io::write_all(STDOUT_FILENO, b" ");
-    show(MANY);
-    io::write_all(STDOUT_FILENO, b"\n");
+fn main(rt: HostRuntime) {
+    show(&rt, FEW);
+    let _ = print!(rt; " ");
+    show(&rt, MANY);
+    let _ = println!(rt; "");
 }
 
 // Writes the answer for the file with so many atoms: the row count, or the refusal's number.
-fn show(atoms: usize) {
+fn show(rt: &impl Print, atoms: usize) {
     let mut file = [0u32; BEFORE + ATOM_WORDS * MANY + BEHIND];
     let mut table = [0u32; ROW_WORDS * MOST_ROWS];
     let mut scratch = [0u32; ROW_WORDS * MOST_ROWS];
@@ -39,10 +40,11 @@ fn show(atoms: usize) {
     let answer = compile(&file[..behind + BEHIND], &mut table, &mut scratch);
     match answer {
         Compiled::Rows(n) => {
-            io::print_decimal(STDOUT_FILENO, n as u64);
+            let _ = print!(rt; "{n}");
         }
         Compiled::Refused(refusal) => {
-            io::print_decimal(STDOUT_FILENO, refusal.number as u64);
+            let number = refusal.number;
+            let _ = print!(rt; "{number}");
         }
     }
 }
