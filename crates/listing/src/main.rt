@@ -19,7 +19,8 @@ fn main(rt: HostRuntime) {
     list_input(&mut rt.stdin(), &mut rt.stdout());
 }
 
-// Writes the listing of an input, of any length. False where a read or a write failed: what was read before is listed.
+// Writes the listing of an input, of any length. False where a read or a write failed: then what was read before it is
+// listed.
 fn list_input<R: Read, W: Write>(input: &mut R, output: &mut W) -> bool
     ensures { result ≡ true → IfSome (R.remaining input.old)
         (λ all. Appends (W.contents output.old) (W.contents output.new) (listing_of all)) }
@@ -35,8 +36,10 @@ fn list_input<R: Read, W: Write>(input: &mut R, output: &mut W) -> bool
 // Reads until a buffer is full, the input ends or a read fails. What was read stands at the start of the buffer.
 fn read_full<R: Read>(input: &mut R, buf: &mut [u8]) -> Got
     ensures within { result.count ≤ length buf.new }
-    ensures bytes { Consumes (R.remaining input.old) (R.remaining input.new) (take result.count buf.new) }
-    ensures end { result.whole ≡ true → (result.count ≡ length buf.new) ⊎ IsAtEnd (R.remaining input.new) }
+    ensures bytes { Consumes (R.remaining input.old) (R.remaining input.new)
+        (take result.count buf.new) }
+    ensures end { result.whole ≡ true
+        → (result.count ≡ length buf.new) ⊎ IsAtEnd (R.remaining input.new) }
 {
     let mut count = 0;
     // The first count bytes are read.
