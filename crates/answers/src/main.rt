@@ -1,7 +1,11 @@
 // Answers calls: reads them from standard input, and writes each answer with every buffer that was lent for writing.
 // What a call and its answer look like stands in tests/README.md.
+#![tactic(auto)]
+
 use calls::{call_action, call_compile, call_number, call_read, call_scan};
 use passes::call_hidden;
+use std::io;
+use std::io::{BufReader, BufWriter, Read, Write};
 use text::LONGEST_LISTING;
 use wire::{give_bytes, take_bytes, take_word};
 
@@ -28,51 +32,64 @@ const MOST_BYTES: usize = 52000;
 // A buffer for a slice.
 type Words = [u32; MOST_WORDS];
 
-fn main() {
+fn main(rt: HostRuntime) -> io::Result<()> {
+    let mut input = BufReader::new(rt.alloc(), rt.stdin())?;
+    let mut output = BufWriter::new(rt.alloc(), rt.stdout())?;
     let mut a = blank_words();
     let mut b = blank_words();
     let mut c = blank_words();
-    answer_all(&mut a, &mut b, &mut c);
+    answer_all(&mut input, &mut output, &mut a, &mut b, &mut c);
+    Ok(())
 }
 
-// A proved loop has to end, and nothing says that the input does: the turns are counted down, from a number that no run
-// uses up.
-fn answer_all(a: &mut Words, b: &mut Words, c: &mut Words) {
-    let mut turns = u64::MAX;
-    // Each turn answers a call, and leaves one turn less.
-    while turns > 0 && answer(a, b, c) {
-        turns -= 1;
+// Answers call after call, and hands each answer on before the next call is read. No run uses up the turns.
+fn answer_all<R: Read, W: Write>(
+    input: &mut R,
+    output: &mut W,
+    a: &mut Words,
+    b: &mut Words,
+    c: &mut Words,
+) {
+    for _ in 0..u64::MAX {
+        if !answer(input, output, a, b, c) || output.flush().is_err() {
+            return;
+        }
     }
 }
 
 // Answers one call, whose slices are read into the buffers. False where the input has ended or is no call.
-fn answer(a: &mut Words, b: &mut Words, c: &mut Words) -> bool {
-    let call = take_word();
+fn answer<R: Read, W: Write>(
+    input: &mut R,
+    output: &mut W,
+    a: &mut Words,
+    b: &mut Words,
+    c: &mut Words,
+) -> bool {
+    let call = take_word(input);
     if !call.whole {
         return false;
     }
-    let number = call.word;
-    match number {
-        READ => call_read(a),
-        TREE_ACTION => call_action(a, b),
-        COMPILE => call_compile(a, b, c),
-        SCAN => call_scan(a, b),
-        NUMBER => call_number(a, b, c),
-        LIST => answer_list(a),
-        HIDDEN => call_hidden(a),
+    match call.word {
+        READ => call_read(input, output, a),
+        TREE_ACTION => call_action(input, output, a, b),
+        COMPILE => call_compile(input, output, a, b, c),
+        SCAN => call_scan(input, output, a, b),
+        NUMBER => call_number(input, output, a, b, c),
+        LIST => answer_list(input, output),
+        HIDDEN => call_hidden(input, output, a),
         _ => false,
     }
 }
 
-fn answer_list(words: &mut [u32]) -> bool {
-    let mut input = blank_input();
+fn answer_list<R: Read, W: Write>(input: &mut R, output: &mut W) -> bool {
+    let mut bytes = blank_input();
     let mut out = blank_text();
-    let b = take_bytes(words, &mut input);
+    let b = take_bytes(input, &mut bytes);
     if !b.whole {
         return false;
     }
-    let end = text::list(&input[..b.count], &mut out);
-    give_bytes(&out[..end])
+    let end = text::list(&bytes[..b.count], &mut out);
+    give_bytes(output, &out[..end])
 }
 
 // Arrays are made apart, so that no proof looks at their zeros.

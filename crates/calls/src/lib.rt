@@ -1,34 +1,49 @@
-// Calls whose slices stand on standard input: each takes them into lent buffers, as many words of each as were sent,
-// and replies. False where the input ends inside a slice, a slice is longer than its buffer, or a reply could not be
+// Calls whose slices stand on the input: each takes them into lent buffers, as many words of each as were sent, and
+// replies. False where the input ends inside a slice, a slice is longer than its buffer, or a reply could not be
 // written.
+#![tactic(auto)]
+
 use replies::{reply_action, reply_compile, reply_number, reply_read, reply_scan};
+use std::io::{Read, Write};
 use wire::{take_slice, take_three, take_two};
 
 // Takes a policy file, and reads it.
-pub fn call_read(file: &mut [u32]) -> bool {
-    let f = take_slice(file);
+pub fn call_read<R: Read, W: Write>(input: &mut R, output: &mut W, file: &mut [u32]) -> bool {
+    let f = take_slice(input, file);
     if !f.whole {
         return false;
     }
-    reply_read(&file[..f.count])
+    reply_read(output, &file[..f.count])
 }
 
 // Takes a policy file and a packet: the tree's action.
-pub fn call_action(file: &mut [u32], packet: &mut [u32]) -> bool {
-    let t = take_two(file, packet);
+pub fn call_action<R: Read, W: Write>(
+    input: &mut R,
+    output: &mut W,
+    file: &mut [u32],
+    packet: &mut [u32],
+) -> bool {
+    let t = take_two(input, file, packet);
     if !t.whole {
         return false;
     }
-    reply_action(&file[..t.first], &packet[..t.second])
+    reply_action(output, &file[..t.first], &packet[..t.second])
 }
 
 // Takes a policy file, a table and a scratch: the compile.
-pub fn call_compile(file: &mut [u32], table: &mut [u32], scratch: &mut [u32]) -> bool {
-    let t = take_three(file, table, scratch);
+pub fn call_compile<R: Read, W: Write>(
+    input: &mut R,
+    output: &mut W,
+    file: &mut [u32],
+    table: &mut [u32],
+    scratch: &mut [u32],
+) -> bool {
+    let t = take_three(input, file, table, scratch);
     if !t.whole {
         return false;
     }
     reply_compile(
+        output,
         &file[..t.first],
         &mut table[..t.second],
         &mut scratch[..t.third],
@@ -36,21 +51,33 @@ pub fn call_compile(file: &mut [u32], table: &mut [u32], scratch: &mut [u32]) ->
 }
 
 // Takes a table and a packet: the scan.
-pub fn call_scan(table: &mut [u32], packet: &mut [u32]) -> bool {
-    let t = take_two(table, packet);
+pub fn call_scan<R: Read, W: Write>(
+    input: &mut R,
+    output: &mut W,
+    table: &mut [u32],
+    packet: &mut [u32],
+) -> bool {
+    let t = take_two(input, table, packet);
     if !t.whole {
         return false;
     }
-    reply_scan(&table[..t.first], &packet[..t.second])
+    reply_scan(output, &table[..t.first], &packet[..t.second])
 }
 
 // Takes a table and buffers for its priorities and its chain: the numbering.
-pub fn call_number(table: &mut [u32], priorities: &mut [u32], chain: &mut [u32]) -> bool {
-    let t = take_three(table, priorities, chain);
+pub fn call_number<R: Read, W: Write>(
+    input: &mut R,
+    output: &mut W,
+    table: &mut [u32],
+    priorities: &mut [u32],
+    chain: &mut [u32],
+) -> bool {
+    let t = take_three(input, table, priorities, chain);
     if !t.whole {
         return false;
     }
     reply_number(
+        output,
         &table[..t.first],
         &mut priorities[..t.second],
         &mut chain[..t.third],

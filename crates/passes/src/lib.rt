@@ -1,34 +1,37 @@
-// Calls of passes over a table that stands on standard input: each takes it into a lent buffer, as many words as were
-// sent, calls its function, and writes the answer as words: number and place, then the value, then the table. A success
-// has zeros for its number, a refusal for its value. False where the input ends inside the table, it is longer than its
+// Calls of passes over a table that stands on the input: each takes it into a lent buffer, as many words as were sent,
+// calls its function, and writes the answer as words: number and place, then the value, then the table. A success has
+// zeros for its number, a refusal for its value. False where the input ends inside the table, it is longer than its
 // buffer, or an answer could not be written.
+#![tactic(auto)]
+
 ghost use Rattle.std.specs.Prelude.{◌≡◌};
 ghost use Rattle.hidden.specs.Hidden.{table_kept};
 
 use hidden::{Kept, drop_hidden};
+use std::io::{Read, Write};
 use wire::{give, low, take_slice};
 
 // Takes a table, and takes its hidden rows out.
-pub fn call_hidden(table: &mut [u32]) -> bool {
-    let t = take_slice(table);
+pub fn call_hidden<R: Read, W: Write>(input: &mut R, output: &mut W, table: &mut [u32]) -> bool {
+    let t = take_slice(input, table);
     if !t.whole {
         return false;
     }
-    reply_hidden(&mut table[..t.count])
+    reply_hidden(output, &mut table[..t.count])
 }
 
 // Takes the hidden rows out of a table, which is written too.
-pub fn reply_hidden(table: &mut [u32]) -> bool
+pub fn reply_hidden<W: Write>(output: &mut W, table: &mut [u32]) -> bool
     ensures { table.new ≡ table_kept table.old }
 {
     let kept = drop_hidden(table);
-    give_kept(kept) & give(table)
+    give_kept(output, kept) & give(output, table)
 }
 
 // How many rows stay.
-fn give_kept(kept: Kept) -> bool {
+fn give_kept<W: Write>(output: &mut W, kept: Kept) -> bool {
     match kept {
-        Kept::Rows(rows) => give(&[0, 0, low(rows)]),
-        Kept::Refused { number, place } => give(&[number, low(place), 0]),
+        Kept::Rows(rows) => give(output, &[0, 0, low(rows)]),
+        Kept::Refused { number, place } => give(output, &[number, low(place), 0]),
     }
 }

@@ -2,6 +2,8 @@
 // the law and three actions too, then the values, then every buffer that was lent for writing. A success has zeros for
 // its number, a refusal for its values. What they look like stands in tests/README.md. Each answers whether all could
 // be written.
+#![tactic(auto)]
+
 ghost use Rattle.std.specs.Prelude.{◌≡◌};
 ghost use Rattle.compile.specs.Compile.{table_after, scratch_after};
 ghost use Rattle.priority.specs.Numbering.{priorities_after, chain_after};
@@ -11,95 +13,110 @@ use compile::Compiled;
 use policy::Reading;
 use priority::Numbered;
 use refusal::Refusal;
+use std::io::Write;
 use table::Scanned;
 use tree::Evaluated;
 use wire::{give, low};
 
 // Reads a policy file.
-pub fn reply_read(file: &[u32]) -> bool {
-    give_reading(policy::read(file))
+pub fn reply_read<W: Write>(output: &mut W, file: &[u32]) -> bool {
+    give_reading(output, policy::read(file))
 }
 
 // The tree's action.
-pub fn reply_action(file: &[u32], packet: &[u32]) -> bool {
-    give_evaluated(tree::tree_action(file, packet))
+pub fn reply_action<W: Write>(output: &mut W, file: &[u32], packet: &[u32]) -> bool {
+    give_evaluated(output, tree::tree_action(file, packet))
 }
 
 // Compiles a policy file; the table and the scratch are written too.
-pub fn reply_compile(file: &[u32], table: &mut [u32], scratch: &mut [u32]) -> bool
+pub fn reply_compile<W: Write>(
+    output: &mut W,
+    file: &[u32],
+    table: &mut [u32],
+    scratch: &mut [u32],
+) -> bool
     ensures table_after { table.new ≡ table_after file.now table.old scratch.old }
     ensures scratch_after { scratch.new ≡ scratch_after file.now table.old
         scratch.old }
 {
     let compiled = compile::compile(file, table, scratch);
-    give_compiled(compiled) & give(table) & give(scratch)
+    give_compiled(output, compiled) & give(output, table) & give(output, scratch)
 }
 
 // Scans a table.
-pub fn reply_scan(table: &[u32], packet: &[u32]) -> bool {
-    give_scanned(table::scan(table, packet))
+pub fn reply_scan<W: Write>(output: &mut W, table: &[u32], packet: &[u32]) -> bool {
+    give_scanned(output, table::scan(table, packet))
 }
 
 // Numbers a table; the priorities and the chain are written too.
-pub fn reply_number(table: &[u32], priorities: &mut [u32], chain: &mut [u32]) -> bool
+pub fn reply_number<W: Write>(
+    output: &mut W,
+    table: &[u32],
+    priorities: &mut [u32],
+    chain: &mut [u32],
+) -> bool
     ensures priorities_after { priorities.new ≡ priorities_after table.now priorities.old
         chain.old }
     ensures chain_after { chain.new ≡ chain_after table.now priorities.old
         chain.old }
 {
     let numbered = priority::number(table, priorities, chain);
-    give_numbered(numbered) & give(priorities) & give(chain)
+    give_numbered(output, numbered) & give(output, priorities) & give(output, chain)
 }
 
 // What was read of a file: its three counts.
-fn give_reading(reading: Reading) -> bool {
+fn give_reading<W: Write>(output: &mut W, reading: Reading) -> bool {
     match reading {
         Reading::Accepted(layout) => {
             let operators = low(layout.operators);
             let atoms = low(layout.atoms);
             let nodes = low(layout.nodes);
-            give_success() & give(&[operators, atoms, nodes])
+            give_success(output) & give(output, &[operators, atoms, nodes])
         }
-        Reading::Refused(refusal) => give_refusal(refusal) & give(&[0, 0, 0]),
+        Reading::Refused(refusal) => give_refusal(output, refusal) & give(output, &[0, 0, 0]),
     }
 }
 
 // The tree's action.
-fn give_evaluated(evaluated: Evaluated) -> bool {
+fn give_evaluated<W: Write>(output: &mut W, evaluated: Evaluated) -> bool {
     match evaluated {
-        Evaluated::Gives(action) => give_success() & give_action(action),
-        Evaluated::Refused(refusal) => give_refusal(refusal) & give_action(Action::DONT_CARE),
+        Evaluated::Gives(action) => give_success(output) & give_action(output, action),
+        Evaluated::Refused(refusal) => give_refusal(output, refusal)
+            & give_action(output, Action::DONT_CARE),
     }
 }
 
 // What the scan found: the action, and how many rows were tried.
-fn give_scanned(scanned: Scanned) -> bool {
+fn give_scanned<W: Write>(output: &mut W, scanned: Scanned) -> bool {
     match scanned {
         Scanned::Found { action, tried } => {
-            give(&[0, 0, action::kind(action), action::rate(action), low(tried)])
+            give(
+                output,
+                &[0, 0, action::kind(action), action::rate(action), low(tried)],
+            )
         }
-        Scanned::Refused { number, place } => give(&[number, low(place), 0, 0, 0]),
+        Scanned::Refused { number, place } => give(output, &[number, low(place), 0, 0, 0]),
     }
 }
 
 // How many rows the compile made.
-fn give_compiled(compiled: Compiled) -> bool {
+fn give_compiled<W: Write>(output: &mut W, compiled: Compiled) -> bool {
     match compiled {
-        Compiled::Rows(rows) => give_success() & give(&[low(rows)]),
-        Compiled::Refused(refusal) => give_refusal(refusal) & give(&[0]),
+        Compiled::Rows(rows) => give_success(output) & give(output, &[low(rows)]),
+        Compiled::Refused(refusal) => give_refusal(output, refusal) & give(output, &[0]),
     }
 }
 
 // How many priorities the numbering used.
-fn give_numbered(numbered: Numbered) -> bool {
+fn give_numbered<W: Write>(output: &mut W, numbered: Numbered) -> bool {
     match numbered {
-        Numbered::Priorities(count) => give(&[0, 0, count]),
-        Numbered::Refused { number, place } => give(&[number, low(place), 0]),
+        Numbered::Priorities(count) => give(output, &[0, 0, count]),
+        Numbered::Refused { number, place } => give(output, &[number, low(place), 0]),
     }
 }
 
 // The nine words of a refusal.
-fn give_refusal(refusal: Refusal) -> bool {
+fn give_refusal<W: Write>(output: &mut W, refusal: Refusal) -> bool {
     let number = refusal.number;
     let place = low(refusal.place);
     let broken = refusal.law;
@@ -107,16 +124,19 @@ fn give_refusal(refusal: Refusal) -> bool {
     let first = refusal.first;
     let second = refusal.second;
     let third = refusal.third;
-    give(&[number, place, law]) & give_action(first) & give_action(second) & give_action(third)
+    give(output, &[number, place, law])
+        & give_action(output, first)
+        & give_action(output, second)
+        & give_action(output, third)
 }
 
 // The nine words of an answer that is no refusal.
-fn give_success() -> bool {
-    give(&[0, 0, 0, 0, 0, 0, 0, 0, 0])
+fn give_success<W: Write>(output: &mut W) -> bool {
+    give(output, &[0, 0, 0, 0, 0, 0, 0, 0, 0])
 }
 
-fn give_action(a: Action) -> bool {
-    give(&[action::kind(a), action::rate(a)])
+fn give_action<W: Write>(output: &mut W, a: Action) -> bool {
+    give(output, &[action::kind(a), action::rate(a)])
 }
 
 fn law_number(law: Law) -> u32 {
