@@ -1,13 +1,11 @@
 -- The finite search refuses exactly the operators that break a law, at any rates: what holds along the list carries over by a change of rates.
 use Prim.Native.Nat.{ℕ}
 use native.Mathlib.Omega.{arith}
-use mathlib.Core.Path.{◌≡◌, refl, sym, ap, ap₂, ◌∙◌}
+use mathlib.Core.Path.{◌≡◌, refl}
 use mathlib.Core.Bool.{Bool, true, false, cond}
 use mathlib.Core.List.{List}
-use lib.Dec.{eqb}
-use borrow.Author.Tests.{eqb-true, eq-eqb}
-use Rattle.logic.proofs.Tests.{by-test, and_left, and_right, and_both}
-use Rattle.action.specs.Action.{kind_of, rate_of, action_of, in_range}
+use Rattle.logic.proofs.Tests.{by-test}
+use Rattle.action.specs.Action.{rate_of, in_range}
 use Rattle.action.specs.Operator.{join}
 use Rattle.action.specs.Laws.{◌among◌, Commutative, Associative, same, shown, pairs, triples, commutes, associates, first_pair, first_triple, law_search}
 use Rattle.action.specs.Laws.{Shows}
@@ -20,18 +18,8 @@ use Rattle.action.specs.declared.Lawful.TheVariants.{Yes, Broken}
 use Rattle.action.proofs.Along.{else-left, else-right, along-yes, yes-along, else-broken, along-broken, all_among}
 use Rattle.action.proofs.Product.{among-product, product-among}
 use Rattle.action.proofs.Joined.{identity}
-use Rattle.action.proofs.Words.{action-of-words}
+use Rattle.action.proofs.Same.{same-eq, eq-same, unequal}
 use Rattle.action.proofs.Rates.{Shown, Spread, spread, shown_of, commutes-rerate, associates-rerate}
-
--- the test of equal actions
-same-eq : (a b : Action) → same a b ≡ true → a ≡ b
-same-eq a b t =
-    let k : kind_of a ≡ kind_of b = eqb-true _ _ (and_left (eqb (kind_of a) (kind_of b)) (eqb (rate_of a) (rate_of b)) t) in
-    let n : rate_of a ≡ rate_of b = eqb-true _ _ (and_right (eqb (kind_of a) (kind_of b)) (eqb (rate_of a) (rate_of b)) t) in
-    sym (action-of-words a) ∙ ap₂ action_of k n ∙ action-of-words b
-
-eq-same : (a b : Action) → a ≡ b → same a b ≡ true
-eq-same a b e = and_both (eq-eqb _ _ (ap kind_of e)) (eq-eqb _ _ (ap rate_of e))
 
 tested : (b : Bool) (l : Law) (x y z : Action) → cond b Yes (Broken l x y z) ≡ Yes → b ≡ true
 tested true l x y z e = refl
@@ -122,9 +110,6 @@ search-exact o right = (
 )
 
 -- what the search names breaks the law: by the entry that shows it
-unequal : (x y : Action) → same x y ≡ false → ¬ (x ≡ y)
-unequal x y t e = let z : ◌≡◌ {A = ℕ} 0 1 = cc (eq-same x y e) in omega arith
-
 broken : (P : Law → Action → Action → Action → Type 0) (x y : Action) (k : Law) (u v w : Action) {l : Law} {a b c : Action}
     → (¬ (x ≡ y) → P k u v w) → cond (same x y) Yes (Broken k u v w) ≡ Broken l a b c → P l a b c
 broken P x y k u v w {l} {a} {b} {c} f e =

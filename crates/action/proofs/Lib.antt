@@ -4,4 +4,5 @@ pub mod Along
 pub mod Product
 pub mod Words
 pub mod Rates
+pub mod Same
 pub mod Exact

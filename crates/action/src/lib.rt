@@ -5,9 +5,9 @@ ghost use Rattle.std.specs.Prelude.{◌≡◌, ◌≤◌, max, min, get_or};
 ghost use Rattle.action.specs.Action.{kind_of, rate_of, action_of, right_action};
 ghost use Rattle.action.specs.Operator.{kinds, cells_of, coded, join, sibling, parent};
 ghost use Rattle.action.specs.Operator.{rate_cells, largest_in, right_cell};
-ghost use Rattle.action.specs.Laws.{same, shown, first_pair, first_triple, with_third, law_search};
+ghost use Rattle.action.specs.Laws.{shown, first_pair, first_triple, with_third, law_search};
 
-use words::{larger, word};
+use words::word;
 
 // The largest rate, in kbit/s.
 pub const LARGEST_RATE: u32 = 100_000_000;
@@ -42,7 +42,7 @@ const SHOWN: usize = 5;
 // How many pairs they make.
 const PAIRS: usize = SHOWN * SHOWN;
 
-#[derive(Clone, Copy)]
+#[derive(Clone, Copy, PartialEq, Eq)]
 pub enum Action {
     DontCare,
     Allow,
@@ -218,16 +218,10 @@ fn coded(code: u32, left: Action, right: Action) -> Action
         2 => Action::Deny,
         3 => left,
         4 => right,
-        5 => Action::Gmb(larger(m, n)),
-        6 => Action::Gmb(smaller(m, n)),
+        5 => Action::Gmb(m.max(n)),
+        6 => Action::Gmb(m.min(n)),
         _ => Action::DONT_CARE,
     }
-}
-
-fn smaller(m: u32, n: u32) -> u32
-    ensures { result ≡ min m n }
-{
-    if m < n { m } else { n }
 }
 
 // The pairs in order, the first action slowest.
@@ -238,7 +232,7 @@ fn first_pair(cells: &[u32]) -> Lawful
     for k in 0..PAIRS {
         let a = showing(k / SHOWN);
         let b = showing(k % SHOWN);
-        if !same(join(cells, a, b), join(cells, b, a)) {
+        if join(cells, a, b) != join(cells, b, a) {
             return Lawful::Broken(Law::Commutativity, a, b, Action::DONT_CARE);
         }
     }
@@ -267,7 +261,7 @@ fn with_third(cells: &[u32], a: Action, b: Action) -> Lawful
     // The two associate with the first k showing actions.
     for k in 0..SHOWN {
         let c = showing(k);
-        if !same(join(cells, ab, c), join(cells, a, join(cells, b, c))) {
+        if join(cells, ab, c) != join(cells, a, join(cells, b, c)) {
             return Lawful::Broken(Law::Associativity, a, b, c);
         }
     }
@@ -288,10 +282,4 @@ fn showing(i: usize) -> Action
         4 => Action::Gmb(3),
         _ => Action::DONT_CARE,
     }
-}
-
-fn same(a: Action, b: Action) -> bool
-    ensures { result ≡ same a b }
-{
-    (kind(a) == kind(b)) & (rate(a) == rate(b))
 }

@@ -13,7 +13,6 @@ ghost use Rattle.priority.specs.Numbering.{NumbersFit, LevelsBefore, ChainFits};
 use flow::{Match, overlap, read_match};
 use row::ROW_WORDS;
 use table::{Checked, check};
-use words::larger;
 
 // The number of the refusal: a buffer is shorter than the row count.
 pub const SHORT_BUFFER: u32 = 17;
@@ -86,7 +85,7 @@ fn put_levels(table: &[u32], levels: &mut [u32]) -> u32
     for i in 0..levels.len() {
         let l = level(table, levels, i, count);
         levels[i] = l;
-        count = larger(count, l + 1);
+        count = count.max(l + 1);
     }
     count
 }

@@ -15,7 +15,6 @@ use Rattle.field.proofs.value_inside.Reads as value_inside
 use Rattle.field.proofs.common_value.Reads as common_value
 use Rattle.field.proofs.right_value.Reads as right_value
 use Rattle.words.proofs.word.Reads as word
-use Rattle.words.proofs.larger.Reads as larger
 use Rattle.words.proofs.copy.Reads as copy
 use Rattle.words.proofs.clear_from.Reads as clear_from
 use Rattle.words.proofs.from_bytes.Reads as from_bytes
@@ -119,9 +118,6 @@ right_value-one = fixed (λ κ a r s p. p)
 -- words
 word-one : OneAnswer word.Pre word.Post (λ κ r s. r)
 word-one = fixed (λ κ a r s p. p)
-
-larger-one : OneAnswer larger.Pre larger.Post (λ κ r s. r)
-larger-one = fixed (λ κ a r s p. p)
 
 copy-one : OneAnswer copy.Pre copy.Post (λ κ r s. s.0.now)
 copy-one = fixed (λ κ a r s p. p)

@@ -17,13 +17,6 @@ pub fn word(words: &[u32], at: usize) -> u32
     if at < words.len() { words[at] } else { 0 }
 }
 
-// The larger of two words.
-pub fn larger(m: u32, n: u32) -> u32
-    ensures { result ≡ max m n }
-{
-    if m < n { n } else { m }
-}
-
 // Stores some words from a place on, if all of them fit.
 pub fn copy(out: &mut [u32], at: usize, words: &[u32])
     ensures { out.new ≡ copied at words.now out.old }

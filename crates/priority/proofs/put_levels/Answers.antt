@@ -10,7 +10,7 @@ pub level-l-requires : goal.level-l-requires
 level-l-requires c = (omega arith, omega arith, omega arith, levelling-below c.loop-i.invariant)
 
 pub loop-i-preserved : goal.loop-i-preserved
-loop-i-preserved c = levelling-turn c.loop-i.invariant (omega arith) _ c.level-l.ensures.0 _ c.larger-count.ensures
+loop-i-preserved c = levelling-turn c.loop-i.invariant (omega arith) _ c.level-l.ensures.0 _ c.max-count.ensures
 
 pub returns : goal.returns
 returns c = levelling-end c.loop-i.invariant c.requires.0 (omega arith)
