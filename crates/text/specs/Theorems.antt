@@ -9,7 +9,7 @@
 --   WrittenWhole                  so a buffer of so many bytes holds the whole text
 --   KnownByFirst                  one byte more than the longest input has tells what is listed
 --   ExamplesListed                the text of each of some examples
-use Rattle.std.specs.Prelude.{ℕ, ◌*◌, ◌≤◌, ◌<◌, ◌≡◌, false, List, [], ◌∷◌, length, take}
+use Rattle.std.specs.Prelude.{ℕ, ◌≤◌, ◌<◌, ◌≡◌, false, List, [], ◌∷◌, length, take}
 use Prim.Native.String.{String}
 use Rattle.words.specs.Records.{flat}
 use Rattle.words.specs.Bytes.{bytes_of}

@@ -1,4 +1,6 @@
 // The listing: the bytes of a policy file in, the text of its rows and priorities out.
+#![tactic(auto)]
+
 ghost use Rattle.std.specs.Prelude.{◌≡◌, ◌≤◌, length, take};
 ghost use Rattle.line.specs.Puts.{Puts};
 ghost use Rattle.text.specs.Listing.{right_input, shown_text, file_text, listing_of, ListsWhole};
