@@ -1,6 +1,7 @@
-// The table of a policy's tree, built by the walk over its nodes: each table stands where it is built, and is joined
-// with the one before it. Only the compile calls the walk: it asks for a place that was reached in an accepted file,
-// and where there is no room it does not say what words are left, since the compile then clears both buffers.
+// The table of a policy's tree, built by the walk over its nodes: each table stands where it is
+// built, and is joined with the one before it. Only the compile calls the walk: it asks for a place
+// that was reached in an accepted file, and where there is no room it does not say what words are
+// left, since the compile then clears both buffers.
 #![tactic(auto)]
 
 ghost use Rattle.nodes.specs.Nodes.{cells_at};
@@ -25,8 +26,9 @@ pub enum Built {
     Full,
 }
 
-// The table of the subtree at a place: the node's own rows, joined with its children's. It and `children` call each
-// other: at each place the atoms start where those of the nodes before end, and fewer nodes are left.
+// The table of the subtree at a place: the node's own rows, joined with its children's. It and
+// `children` call each other: at each place the atoms start where those of the nodes before end,
+// and fewer nodes are left.
 #[cycle(children_subtree)]
 pub fn subtree(
     file: &[u32],

@@ -1,6 +1,6 @@
-// The common rows of two tables, stored one behind the other in a lent buffer. Only the joining calls these functions:
-// they ask for a place inside the buffer, and where there is no room they do not say what words are left, since the
-// compile then clears the buffer.
+// The common rows of two tables, stored one behind the other in a lent buffer. Only the joining
+// calls these functions: they ask for a place inside the buffer, and where there is no room they do
+// not say what words are left, since the compile then clears the buffer.
 #![tactic(auto)]
 
 ghost use Rattle.std.specs.Prelude.{◌≤◌, length};
@@ -20,7 +20,8 @@ pub enum Made {
     Full,
 }
 
-// The common rows of two tables: each row of the left in order, with each row of the right in order.
+// The common rows of two tables: each row of the left in order, with each row of the right in
+// order.
 pub fn common_rows(
     operator: Operator,
     left: &[u32],
@@ -34,7 +35,8 @@ pub fn common_rows(
 {
     let mut done = at;
     let mut i = 0;
-    // From at up to done stand the common rows of the rows in the first i words of the left and those of the right.
+    // From at up to done stand the common rows of the rows in the first i words of the left and
+    // those of the right.
     while i + ROW_WORDS <= left.len() {
         let made = common_with(operator, &left[i..i + ROW_WORDS], right, out, done);
         let Made::Words(end) = made else {
@@ -62,7 +64,8 @@ pub fn common_with(
     let a = row_action(row);
     let mut done = at;
     let mut i = 0;
-    // From at up to done stand the common rows of the row and the rows in the first i words of the table.
+    // From at up to done stand the common rows of the row and the rows in the first i words of the
+    // table.
     while i + ROW_WORDS <= table.len() {
         let made = add_common(operator, m, a, &table[i..i + ROW_WORDS], out, done);
         let Made::Words(end) = made else {

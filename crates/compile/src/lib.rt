@@ -1,5 +1,5 @@
-// The compile: the rows of a policy's tree, joined within the lent buffers, and refused for room exactly when they must
-// be.
+// The compile: the rows of a policy's tree, joined within the lent buffers, and refused for room
+// exactly when they must be.
 #![tactic(auto)]
 
 ghost use Rattle.std.specs.Prelude.{◌≡◌, length};

@@ -1,6 +1,6 @@
-// Tables joined in their place, within two lent buffers that are as long as there is room. Only the walk of the compile
-// calls these functions: they ask for places inside the buffers, and where there is no room they do not say what words
-// are left, since the compile then clears both.
+// Tables joined in their place, within two lent buffers that are as long as there is room. Only the
+// walk of the compile calls these functions: they ask for places inside the buffers, and where
+// there is no room they do not say what words are left, since the compile then clears both.
 #![tactic(auto)]
 
 ghost use Rattle.std.specs.Prelude.{◌≡◌, ◌++◌, ◌≤◌, length, drop};
@@ -16,7 +16,8 @@ use flow::{is_empty, read_match};
 use row::{ROW_WORDS, row_action, words_of_row};
 use words::copy;
 
-// Joins the tables at start..middle and middle..end: their common rows are made in scratch, and put before them.
+// Joins the tables at start..middle and middle..end: their common rows are made in scratch, and put
+// before them.
 pub fn join(
     operator: Operator,
     table: &mut [u32],
@@ -44,8 +45,8 @@ pub fn join(
     put_before(table, scratch, start, made, end)
 }
 
-// The table of a node's own atoms, folded from the last. It grows down from the end of scratch, so that nothing is
-// moved when rows are put before it.
+// The table of a node's own atoms, folded from the last. It grows down from the end of scratch, so
+// that nothing is moved when rows are put before it.
 pub fn own_rows(
     operator: Operator,
     atoms: &[u32],
@@ -59,7 +60,8 @@ pub fn own_rows(
 {
     let mut i = atoms.len();
     let mut first = scratch.len();
-    // Scratch from first on is the table of the atoms from word i on; the words before i are whole atoms.
+    // Scratch from first on is the table of the atoms from word i on; the words before i are whole
+    // atoms.
     while ROW_WORDS <= i {
         let from = i - ROW_WORDS;
         let made = join_atom(operator, &atoms[from..i], table, scratch, start, first);
@@ -89,8 +91,9 @@ fn put_before(table: &mut [u32], scratch: &mut [u32], start: usize, made: usize,
     Made::Words(e)
 }
 
-// Joins an atom with the table that stands at the end of scratch, from its first word on. Its rows are made in the
-// table from the start on, and put before that one. An atom with the empty match has no row.
+// Joins an atom with the table that stands at the end of scratch, from its first word on. Its rows
+// are made in the table from the start on, and put before that one. An atom with the empty match
+// has no row.
 fn join_atom(
     operator: Operator,
     atom: &[u32],
@@ -116,7 +119,8 @@ fn join_atom(
     put_up_to(scratch, start, first, &table[start..end])
 }
 
-// Puts some words before a place, if there is room for them from the start on. Answers where they start.
+// Puts some words before a place, if there is room for them from the start on. Answers where they
+// start.
 fn put_up_to(out: &mut [u32], start: usize, place: usize, words: &[u32]) -> Made
     requires { (start ≤ place) × (place ≤ length out.old) }
     ensures { PutUpTo start (words.now ++ drop place out.old) out.new result }

@@ -15,4 +15,5 @@ returns-then-rates_right c =
 
 pub returns-else-rates_right : goal.returns-else-rates_right
 returns-else-rates_right c =
-    settles-wrong c.clear_from.ensures c.in-Done.is c.rates_right.ensures c.if-rates_right.false c.clear_from-else-rates_right.ensures c.refused-else-rates_right.ensures
+    settles-wrong c.clear_from.ensures c.in-Done.is c.rates_right.ensures c.if-rates_right.false
+    c.clear_from-else-rates_right.ensures c.refused-else-rates_right.ensures
