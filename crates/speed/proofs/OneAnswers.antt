@@ -15,13 +15,13 @@ speed_tree-one : OneAnswer speed_tree.Pre speed_tree.Post (λ κ r s. answer_wit
 speed_tree-one = fixed (λ κ a r s p. both p.0 p.1)
 
 speed_compile-one : OneAnswer speed_compile.Pre speed_compile.Post (λ κ r s. answer_and r s.1.0.now s.1.1.0.now)
-speed_compile-one = fixed (λ κ a r s p. all p.0 p.1 p.2)
+speed_compile-one = fixed (λ κ a r s p. all p.0 p.1.0 p.1.1)
 
 speed_scan-one : OneAnswer speed_scan.Pre speed_scan.Post (λ κ r s. answer_with r s.1.1.0.now)
 speed_scan-one = fixed (λ κ a r s p. both p.0 p.1)
 
 speed_number-one : OneAnswer speed_number.Pre speed_number.Post (λ κ r s. answer_and r s.1.0.now s.1.1.0.now)
-speed_number-one = fixed (λ κ a r s p. all p.0 p.1 p.2)
+speed_number-one = fixed (λ κ a r s p. all p.0 p.1.0 p.1.1)
 
 speed_hidden-one : OneAnswer speed_hidden.Pre speed_hidden.Post (λ κ r s. answer_with r s.0.now)
 speed_hidden-one = fixed (λ κ a r s p. both p.0 p.1)

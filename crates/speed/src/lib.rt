@@ -1,4 +1,6 @@
 // The library's functions under C names, for the benchmark, which links them into a Rust program.
+#![tactic(auto)]
+
 ghost use Rattle.std.specs.Prelude.{◌≡◌, length};
 ghost use Rattle.policy.specs.Read.{read_of};
 ghost use Rattle.tree.specs.Action.{tree_action_of};
@@ -28,9 +30,9 @@ pub extern "C" fn speed_read(file: &[u32]) -> u32
 // The action's two words; the answer is the number of the refusal, 0 where there is none.
 #[unsafe(no_mangle)]
 pub extern "C" fn speed_tree(file: &[u32], packet: &[u32], given: &mut [u32]) -> u32
-    ensures { (result ≡ tree_number (tree_action_of file.now packet.now))
-        × (given.new ≡ with_action given.old
-        (tree_action (tree_action_of file.now packet.now))) }
+    ensures value { result ≡ tree_number (tree_action_of file.now packet.now) }
+    ensures given_after { given.new
+        ≡ with_action given.old (tree_action (tree_action_of file.now packet.now)) }
 {
     let answer = tree_action(file, packet);
     put_action(given, tree_given(answer));
@@ -40,9 +42,9 @@ pub extern "C" fn speed_tree(file: &[u32], packet: &[u32], given: &mut [u32]) ->
 // The compile; the answer is the row count, 0 where it is refused.
 #[unsafe(no_mangle)]
 pub extern "C" fn speed_compile(file: &[u32], table: &mut [u32], scratch: &mut [u32]) -> usize
-    ensures { (result ≡ compile_count (answer_of file.now table.old scratch.old))
-        × (table.new ≡ table_after file.now table.old scratch.old)
-        × (scratch.new ≡ scratch_after file.now table.old scratch.old) }
+    ensures value { result ≡ compile_count (answer_of file.now table.old scratch.old) }
+    ensures table_after { table.new ≡ table_after file.now table.old scratch.old }
+    ensures scratch_after { scratch.new ≡ scratch_after file.now table.old scratch.old }
 {
     row_count(compile(file, table, scratch))
 }
@@ -50,9 +52,9 @@ pub extern "C" fn speed_compile(file: &[u32], table: &mut [u32], scratch: &mut [
 // The action's two words; the answer is how many rows were tried, 0 where the scan is refused.
 #[unsafe(no_mangle)]
 pub extern "C" fn speed_scan(table: &[u32], packet: &[u32], given: &mut [u32]) -> usize
-    ensures { (result ≡ scan_tried (scan_of table.now packet.now))
-        × (given.new ≡ with_action given.old
-        (scan_action (scan_of table.now packet.now))) }
+    ensures value { result ≡ scan_tried (scan_of table.now packet.now) }
+    ensures given_after { given.new
+        ≡ with_action given.old (scan_action (scan_of table.now packet.now)) }
 {
     let answer = scan(table, packet);
     put_action(given, scan_given(answer));
@@ -62,10 +64,11 @@ pub extern "C" fn speed_scan(table: &[u32], packet: &[u32], given: &mut [u32]) -
 // The numbering; the answer is how many priorities there are, 0 where it is refused.
 #[unsafe(no_mangle)]
 pub extern "C" fn speed_number(table: &[u32], priorities: &mut [u32], chain: &mut [u32]) -> u32
-    ensures { (result ≡ answer_count
-        (number_of table.now (length priorities.old) (length chain.old)))
-        × (priorities.new ≡ priorities_after table.now priorities.old chain.old)
-        × (chain.new ≡ chain_after table.now priorities.old chain.old) }
+    ensures value { result
+        ≡ answer_count (number_of table.now (length priorities.old) (length chain.old)) }
+    ensures priorities_after { priorities.new
+        ≡ priorities_after table.now priorities.old chain.old }
+    ensures chain_after { chain.new ≡ chain_after table.now priorities.old chain.old }
 {
     priority_count(number(table, priorities, chain))
 }
@@ -73,8 +76,8 @@ pub extern "C" fn speed_number(table: &[u32], priorities: &mut [u32], chain: &mu
 // The pass that takes hidden rows out; the answer is how many rows stay, 0 where it is refused.
 #[unsafe(no_mangle)]
 pub extern "C" fn speed_hidden(table: &mut [u32]) -> usize
-    ensures { (result ≡ kept_count (kept_of table.old))
-        × (table.new ≡ table_kept table.old) }
+    ensures value { result ≡ kept_count (kept_of table.old) }
+    ensures table_after { table.new ≡ table_kept table.old }
 {
     kept_count(drop_hidden(table))
 }
