@@ -3,10 +3,10 @@ use Prim.Native.Nat.{ℕ, ◌+◌, ◌≤◌}
 use native.Mathlib.Omega.{arith}
 use mathlib.Core.Path.{◌≡◌, refl, sym, ap, ◌∙◌}
 use mathlib.Core.List.{List, [], ◌∷◌, ◌++◌, map, append-nil, append_assoc}
-use lib.Dec.{eqb, leb}
+use lib.Dec.{eqb}
 use lib.ListN.{get_or, length, take, drop, length-map, take-append-drop, drop_of_length-le}
 use lib.Seq.{drop-drop}
-use borrow.Author.Tests.{leb-true, le-leb, eqb-true, eq-eqb}
+use borrow.Author.Tests.{eqb-true, eq-eqb}
 use Rattle.logic.specs.Lists.{All}
 use Rattle.words.proofs.Records.{length-records}
 use Rattle.theory.specs.Rows.{Row}
@@ -15,7 +15,7 @@ use Rattle.theory.specs.Tree.{bare, ◌▸◌}
 use Rattle.row.specs.Row.{row_of}
 use Rattle.flow.specs.declared.Match.{Match}
 use Rattle.action.specs.declared.Action.{Action}
-use Rattle.section.specs.Numbers.{latest, header_length_in, operator_length_in, atom_length, extra_words, wrong_sum}
+use Rattle.section.specs.Numbers.{latest, header_length_in, operator_length_in, atom_length, wrong_sum}
 use Rattle.section.specs.Sections.{header_fault, section_fault, children_of, own_of}
 use Rattle.whole.specs.Whole.{shape, shape_fault, own_atoms, sum_fault, laws_fault}
 use Rattle.policy.specs.Read.{extra_fault, atoms_at_in, nodes_at_in, end_in, operators_in, nodes_in, atoms_at, operator_records, atom_records, node_records}
@@ -37,6 +37,7 @@ use Rattle.whole.proofs.Trees.{shape-one-tree, one-tree-shape, one-tree-planted}
 use Rattle.section.proofs.Passed.{header-passed, passed-header, good-passed, passed-good}
 use Rattle.whole.proofs.Named.{operators-many, right-operators, laws-kept, kept_laws}
 use Rattle.logic.proofs.Lists.{all_split}
+use Rattle.policy.proofs.Extra.{passed-extra, extra-passed}
 
 -- the stages that are passed, each by its name
 pub record Stages (e : Edition) (f : List ℕ) (a b c : ℕ) : Type 0 where
@@ -134,7 +135,7 @@ module _ (e : Edition) (f : List ℕ) (a b c : ℕ) where
         atoms = passed-good f (atoms_at_in e a) (Atoms e) b (sym q) s.atoms;
         nodes = passed-good f (nodes_at_in e a b) (Nodes a) c (sym w) s.nodes;
       } in
-      let extra : length f ≤ end_in e a b c = leb-true _ _ (unless-true (leb (length f) (end_in e a b c)) extra_words (end_in e a b c) s.extra) in
+      let extra : length f ≤ end_in e a b c = extra-passed f (end_in e a b c) s.extra in
       good-otherwise g (omega (arith, g.nodes.present.whole))
       (shape-one-tree (file_nodes_in e f (layout a b c)) (children-shape ∙ s.tree))
       (eqb-true _ _ (unless-true (eqb (own_atoms (nodes_in e f a b c)) b) wrong_sum 0 s.sum))
@@ -147,7 +148,7 @@ module _ (e : Edition) (f : List ℕ) (a b c : ℕ) where
     operators = good-passed f (header_length_in e) (Operators e) a (record { present = o.operators; right = λ i l j m. o.cells i j l m });
     atoms = good-passed f (atoms_at_in e a) (Atoms e) b (record { present = o.atoms; right = λ i l. (o.matches i l, o.actions i l) });
     nodes = good-passed f (nodes_at_in e a b) (Nodes a) c (record { present = o.nodes; right = o.right-nodes });
-    extra = rw (le-leb (length f) (end_in e a b c) (omega (arith, o.ends)));
+    extra = passed-extra f (end_in e a b c) o.ends;
     tree = sym children-shape ∙ one-tree-shape (file_nodes_in e f (layout a b c)) o.one-tree;
     sum = rw (eq-eqb (own_atoms (nodes_in e f a b c)) b o.all-taken);
   }

@@ -1,4 +1,5 @@
 pub mod Chain
+pub mod Extra
 pub mod Accepted
 pub mod Refused
 pub mod Parts

@@ -128,7 +128,7 @@ module _ (e : Edition) (f : List ℕ) (a b c : ℕ) where
         (
           section-plain f (nodes_at_in e a b) (Nodes a),
           (
-            unless-plain (leb (length f) (end_in e a b c)) extra_words (end_in e a b c) (omega arith) (omega arith),
+            unless-plain _ extra_words (end_in e a b c) (omega arith) (omega arith),
             (
               shape-plain (map children_of (nodes_in e f a b c)) (1 ∷ []) 0,
               (unless-plain (eqb (own_atoms (nodes_in e f a b c)) b) wrong_sum 0 (omega arith) (omega arith), tt),
