@@ -126,7 +126,8 @@ module _ (e : Edition) (f : List ℕ) (a b c : ℕ) where
   }
 
   -- what the stages before the laws say
-  pub otherwise-of : a ≡ get_or f (header_length_in e) 0 → b ≡ get_or f (atoms_at_in e a) 0 → c ≡ get_or f (nodes_at_in e a b) 0 → Stages e f a b c → OtherwiseIn e f a b c
+  pub otherwise-of : a ≡ get_or f (header_length_in e) 0 → b ≡ get_or f (atoms_at_in e a) 0 → c ≡ get_or f (nodes_at_in e a b) 0 → Stages e f a b c
+      → OtherwiseIn e f a b c
   unfolding shape_fault sum_fault
   otherwise-of p q w s =
       let g : GoodSections e f a b c = record {

@@ -76,7 +76,10 @@ record-plain (Atoms e) at r =
     (unless-plain (right_atom_match e r) wrong_match at (omega arith) (omega arith))
     (unless-plain (right_atom_action e r) wrong_action at (omega arith) (omega arith))
 record-plain (Nodes n) at r =
-    unless-plain (ltb (inner_of r) n && ltb (parent_of r) n && ltb (sibling_of r) n && leb (own_of r) most_atoms && leb (children_of r) most_children) wrong_node at
+    unless-plain
+    (ltb (inner_of r) n && ltb (parent_of r) n && ltb (sibling_of r) n && leb (own_of r) most_atoms && leb (children_of r) most_children)
+    wrong_node
+    at
     (omega arith) (omega arith)
 
 header-plain : (e : Edition) (f : List ℕ) → Plain (header_fault e f)

@@ -37,8 +37,8 @@ pub fn read(file: &[u32]) -> Reading
     read_as(file, LATEST)
 }
 
-// Reads a policy file of an edition: its header, section by section, then words after the last node, the tree, the
-// own-atom counts and the laws.
+// Reads a policy file of an edition: its header, section by section, then words after the last
+// node, the tree, the own-atom counts and the laws.
 pub fn read_as(file: &[u32], edition: Edition) -> Reading
     ensures { result ≡ read_as edition file.now }
 {

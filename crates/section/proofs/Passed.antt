@@ -37,7 +37,8 @@ record-long (suc n) k ws (suc i) h l =
 -- the cells of an operator
 cells-fault : (ed : Edition) (at : ℕ) (cs : List ℕ) → cells_fault ed at cs ≡ Passed → (j : ℕ) → j < length cs → right_cell_in ed j (get_or cs j 0) ≡ true
 unfolding cells_fault
-cells-fault ed at cs e j h = unless-true (right_cell_in ed j (get_or cs j 0)) wrong_cell (at + j) (each-passed 0 (cell_fault ed at) 1 0 cs e j h j (omega arith))
+cells-fault ed at cs e j h =
+    unless-true (right_cell_in ed j (get_or cs j 0)) wrong_cell (at + j) (each-passed 0 (cell_fault ed at) 1 0 cs e j h j (omega arith))
 
 fault-cells : (ed : Edition) (at : ℕ) (cs : List ℕ) → ((j : ℕ) → j < length cs → right_cell_in ed j (get_or cs j 0) ≡ true) → cells_fault ed at cs ≡ Passed
 unfolding cells_fault

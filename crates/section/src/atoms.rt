@@ -19,7 +19,8 @@ pub(crate) fn atom_fault(atom: &[u32], at: usize, edition: Edition) -> Test
     unless(right_action_in(atom, edition), WRONG_ACTION, at)
 }
 
-// Whether the match of an atom is right. The part tested has a known length, so that reading its words needs no test.
+// Whether the match of an atom is right. The part tested has a known length, so that reading its
+// words needs no test.
 fn right_match_in(atom: &[u32], edition: Edition) -> bool
     requires { atom_length_in edition ≤ length atom.now }
     ensures { result ≡ right_atom_match edition atom.now }

@@ -1,6 +1,6 @@
-// The sections of a policy file, by edition: where each stands, its count, that all of it is there, and its records in
-// order. These are for the crates that read a file: a section is looked at where the file reaches, and a place is asked
-// for only where it is a number of 64 bits.
+// The sections of a policy file, by edition: where each stands, its count, that all of it is there,
+// and its records in order. These are for the crates that read a file: a section is looked at where
+// the file reaches, and a place is asked for only where it is a number of 64 bits.
 #![tactic(auto)]
 
 pub use crate::operators::operator_in;

@@ -1,4 +1,5 @@
-// The operators of each edition: which codes its cells may have, and the operator that its words are.
+// The operators of each edition: which codes its cells may have, and the operator that its words
+// are.
 ghost use Rattle.std.specs.Prelude.{◌≡◌};
 ghost use Rattle.section.specs.Cells.{right_cell_in, operator_row};
 ghost use Rattle.action.specs.Operator.{cells_of};

@@ -1,8 +1,9 @@
 // One section of a policy file: its count, that all of it is there, and its records in order.
 ghost use Rattle.std.specs.Prelude.{◌≡◌, ◌+◌, ◌*◌, ◌≤◌, ◌<◌, ◌^◌, length, drop};
 ghost use Rattle.words.specs.Records.{records};
-ghost use Rattle.section.specs.Sections.{record_length, least, most, unless, ◌else◌, each, header_fault};
-ghost use Rattle.section.specs.Sections.{count_fault, cells_fault, node_fault, record_fault, section_fault};
+ghost use Rattle.section.specs.Sections.{record_length, least, most, unless, ◌else◌, each};
+ghost use Rattle.section.specs.Sections.{header_fault, count_fault, cells_fault, node_fault};
+ghost use Rattle.section.specs.Sections.{record_fault, section_fault};
 
 use crate::operators::right_cell_in;
 use crate::places::{behind, record_words};

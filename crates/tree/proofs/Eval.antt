@@ -39,7 +39,8 @@ module _ (f : List ℕ) (l : Layout) (p : List ℕ) (t : Bool) (q : t ≡ right_
   accepted-refuses h = rw (← q, h)
 
 -- what reading answered picks the case
-pub read-accepted : (f p : List ℕ) {r : Reading} (l : Layout) {x : Evaluated} → r ≡ read_of f → r ≡ Accepted l → x ≡ accepted_action f l p → x ≡ tree_action_of f p
+pub read-accepted : (f p : List ℕ) {r : Reading} (l : Layout) {x : Evaluated} → r ≡ read_of f → r ≡ Accepted l → x ≡ accepted_action f l p
+    → x ≡ tree_action_of f p
 unfolding tree_action_of
 read-accepted f p l e g h = rw (← e, g) h
 

@@ -56,8 +56,9 @@ fn accepted_action(file: &[u32], layout: Layout, packet: &[u32]) -> Evaluated
     }
 }
 
-// The action of the subtree at a place: the node's own on the left, its children's on the right. It and `children` call
-// each other: at each place the atoms start where those of the nodes before end, and fewer nodes are left.
+// The action of the subtree at a place: the node's own on the left, its children's on the right. It
+// and `children` call each other: at each place the atoms start where those of the nodes before
+// end, and fewer nodes are left.
 #[cycle(children_subtree)]
 fn subtree(file: &[u32], at: Spot, packet: Packet) -> Gave
     requires { Reached file.now at × (0 < at.left) }
