@@ -1,4 +1,5 @@
-// The pass over a table that takes out each row whose match lies inside one earlier row's match: no packet reaches it.
+// The pass over a table that takes out each row whose match lies inside one earlier row's match:
+// no packet reaches it.
 #![tactic(auto)]
 
 ghost use Rattle.std.specs.Prelude.{◌≡◌, length};
@@ -20,7 +21,8 @@ pub enum Kept {
     Refused { number: u32, place: usize },
 }
 
-// Takes the hidden rows out of a table: the others move to its front, in order, and the words behind them become 0.
+// Takes the hidden rows out of a table: the others move to its front, in order, and the words behind
+// them become 0.
 pub fn drop_hidden(table: &mut [u32]) -> Kept
     ensures value { result ≡ kept_of table.old }
     ensures table_after { table.new ≡ table_kept table.old }
@@ -42,7 +44,8 @@ fn keep_rows(table: &mut [u32]) -> usize
 {
     let mut from = 0;
     let mut to = 0;
-    // Of the rows before from, those that stay stand before to. The rows not yet looked at are as they were.
+    // Of the rows before from, those that stay stand before to. The rows not yet looked at are as
+    // they were.
     while ROW_WORDS <= table.len() - from {
         let end = from + ROW_WORDS;
         let m = read_match(&table[from..end]);
