@@ -21,8 +21,8 @@ pub enum Kept {
     Refused { number: u32, place: usize },
 }
 
-// Takes the hidden rows out of a table: the others move to its front, in order, and the words behind
-// them become 0.
+// Takes the hidden rows out of a table: the others move to its front, in order, and the words
+// behind them become 0.
 pub fn drop_hidden(table: &mut [u32]) -> Kept
     ensures value { result ≡ kept_of table.old }
     ensures table_after { table.new ≡ table_kept table.old }
