@@ -1,10 +1,11 @@
-// Where a node, its operators and its atoms stand in a policy file. Each function is total: outside the file all is 0,
-// and there are no atoms.
+// Where a node, its operators and its atoms stand in a policy file. Each function is total: outside
+// the file all is 0, and there are no atoms.
 #![tactic(auto)]
 
 ghost use Rattle.std.specs.Prelude.{◌≡◌, ◌≤◌};
 ghost use Rattle.action.specs.Operator.{join};
-ghost use Rattle.nodes.specs.Nodes.{node_place, node_at, from_operator, cells_at, atom_words_at, first_atom, root_spot};
+ghost use Rattle.nodes.specs.Nodes.{node_place, node_at, from_operator, cells_at};
+ghost use Rattle.nodes.specs.Nodes.{atom_words_at, first_atom, root_spot};
 
 use action::{Action, Operator, operator_of};
 use policy::Layout;
@@ -14,7 +15,8 @@ use section::{
 };
 use words::word;
 
-// A place in the list of nodes: how many nodes are left from it on, and the word where the next node's atoms start.
+// A place in the list of nodes: how many nodes are left from it on, and the word where the next
+// node's atoms start.
 #[derive(Clone, Copy)]
 pub struct Spot {
     pub left: usize,
@@ -90,7 +92,8 @@ pub fn atoms_at(file: &[u32], from: usize, count: u32) -> &[u32]
     &file[from..end]
 }
 
-// The word where the first atom stands, behind so many operators and the count of the atoms; 0 if no file has so many.
+// The word where the first atom stands, behind so many operators and the count of the atoms; 0 if
+// no file has so many.
 fn first_atom(operators: usize) -> usize
     ensures { result ≡ first_atom operators }
 {

@@ -64,7 +64,8 @@ pub right-codes : (r : List ℕ) → ((j : ℕ) → j < operator_length → righ
 right-codes r h = (cells-many r, λ j l. rw (cell-word r j l) (h j l))
 
 -- for each edition
-right-codes-in : (e : Edition) (r : List ℕ) → ((j : ℕ) → j < operator_length_in e → right_cell_in e j (get_or r j 0) ≡ true) → RightCodes (cells_of (operator_row e r))
+right-codes-in : (e : Edition) (r : List ℕ) → ((j : ℕ) → j < operator_length_in e → right_cell_in e j (get_or r j 0) ≡ true)
+    → RightCodes (cells_of (operator_row e r))
 right-codes-in First r h = right-codes r h
 
 -- the operators of an edition in their newest form: as many, and one by one

@@ -22,7 +22,8 @@ use Rattle.section.specs.Numbers.{node_length}
 module _ (from left sum v : ℕ) (f : List ℕ) (inv : sum + own_atoms (records left node_length (drop from f)) ≡ v) where
   pub more-atoms : (x : ℕ) → 0 < left → x ≡ get_or f (from + 3) 0 → sum + x + own_atoms (records (left - 1) node_length (drop (from + node_length) f)) ≡ v
   more-atoms x m e =
-      let s : own_atoms (records left node_length (drop from f)) ≡ get_or f (from + 3) 0 + own_atoms (records (left - 1) node_length (drop (from + node_length) f)) =
+      let s : own_atoms (records left node_length (drop from f))
+      ≡ get_or f (from + 3) 0 + own_atoms (records (left - 1) node_length (drop (from + node_length) f)) =
       rw (records-next node_length from left f m, record-word node_length from 3 f (omega arith)) in
       omega arith
 

@@ -109,7 +109,8 @@ module _ {X : Type 0} where
     lists-found (t ▸ ts) ns f = rw append_assoc (list-found t (list_trees ts ++ ns) (lists-found ts ns f))
 
   -- a forest of which nothing is left behind its first tree
-  only : (ts : Forest X) → 1 ≤ count_trees ts → depths (take_trees 1 ts) ≤ deepest → drop_trees 1 ts ≡ bare → (t : Tree X) × (ts ≡ t ▸ bare) × (depth t ≤ deepest)
+  only : (ts : Forest X) → 1 ≤ count_trees ts → depths (take_trees 1 ts) ≤ deepest → drop_trees 1 ts ≡ bare
+      → (t : Tree X) × (ts ≡ t ▸ bare) × (depth t ≤ deepest)
   only bare h d e = absurd (omega arith)
   only (t ▸ us) h d e = (t, ap (λ (vs : Forest X). t ▸ vs) e, omega arith)
 

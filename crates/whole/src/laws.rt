@@ -13,8 +13,8 @@ use section::{
 };
 use words::word;
 
-// The first operator, by index, that some node names and that breaks a law. The count of the operators stands at h, the
-// nodes at a place.
+// The first operator, by index, that some node names and that breaks a law. The count of the
+// operators stands at h, the nodes at a place.
 pub fn laws_fault(
     file: &[u32],
     edition: Edition,
@@ -25,7 +25,8 @@ pub fn laws_fault(
 ) -> Test
     requires { Reaches edition file.now h operators (at + node_length * count) }
     ensures { result ≡ laws_fault (records count node_length (drop at file.now))
-        (operator_rows edition (records operators (operator_length_in edition) (drop (h + 1) file.now))) }
+        (operator_rows edition
+        (records operators (operator_length_in edition) (drop (h + 1) file.now))) }
 {
     let step = operator_words(edition);
     let mut from = h + 1;

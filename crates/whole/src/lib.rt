@@ -1,6 +1,6 @@
-// What is tested of a file once its sections are good: that the nodes are one tree of the depth allowed, their own-atom
-// counts, and the laws of the operators. Only the reading of a file calls these: they ask that the nodes and the
-// operators are within the file.
+// What is tested of a file once its sections are good: that the nodes are one tree of the depth
+// allowed, their own-atom counts, and the laws of the operators. Only the reading of a file calls
+// these: they ask that the nodes and the operators are within the file.
 #![tactic(auto)]
 
 pub use crate::laws::laws_fault;

@@ -9,8 +9,8 @@ use section::{CHILDREN, NO_TREE, NODE_WORDS, OWN, Test, WRONG_SUM, unless, wide}
 // The root has depth 1.
 const DEEPEST: usize = 16;
 
-// The first node that the tree has no place for: it had ended, or the node is too deep; or the node count, if children
-// are missing.
+// The first node that the tree has no place for: it had ended, or the node is too deep; or the node
+// count, if children are missing.
 pub fn shape_fault(file: &[u32], at: usize, count: usize) -> Test
     requires { at + node_length * count ≤ length file.now }
     ensures { result ≡ shape_fault (records count node_length (drop at file.now)) }
@@ -18,8 +18,8 @@ pub fn shape_fault(file: &[u32], at: usize, count: usize) -> Test
     let mut waiting = [0u32; DEEPEST + 1];
     waiting[0] = 1;
     let mut height = 1;
-    // The first i nodes have a place; the first height words of waiting are the children still to come of each node
-    // that is open behind them.
+    // The first i nodes have a place; the first height words of waiting are the children still to
+    // come of each node that is open behind them.
     for i in 0..count {
         let d = settled(waiting, height);
         if d == 0 {
