@@ -105,7 +105,8 @@ module _ (P : Compiled → List ℕ → List ℕ → Type 0) where
   four false false true a b c d = d
   four false false false a b c d = c
 
-  of-refused : (f t s : List ℕ) (r : Refusal) → read_of f ≡ reading.Refused r → P (Refused r) t s → P (answer_of f t s) (table_after f t s) (scratch_after f t s)
+  of-refused : (f t s : List ℕ) (r : Refusal) → read_of f ≡ reading.Refused r → P (Refused r) t s
+      → P (answer_of f t s) (table_after f t s) (scratch_after f t s)
   unfolding answer_of table_after scratch_after
   of-refused f t s r e p = rw e p
 

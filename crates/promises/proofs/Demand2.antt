@@ -1,5 +1,5 @@
 -- Demand 2, from the theorems on reading, the tree's action and the compile.
-use Prim.Native.Nat.{ℕ, ◌+◌, ◌<◌}
+use Prim.Native.Nat.{ℕ, ◌+◌, ◌≤◌, ◌<◌}
 use native.Mathlib.Omega.{arith}
 use mathlib.Core.Path.{◌≡◌, refl, sym, ap, subst, ◌∙◌}
 use mathlib.Core.Bool.{true, or-true}
@@ -71,6 +71,18 @@ used : (i : ℕ) (ns : List (List ℕ)) (n : ℕ) → n < length ns → (i ≡ i
 used i ns n h (inl e) = named_by i ns n h (rw (eq-eqb (inner_of (get_or ns n [])) i (sym e)))
 used i ns n h (inr e) = named_by i ns n h (rw (eq-eqb (sibling_of (get_or ns n [])) i (sym e)) (or-true (eqb (inner_of (get_or ns n [])) i)))
 
+-- an operator that some node has and that breaks a law is not before the place that is named
+first-broken :
+    (f : List ℕ) (a b c n : ℕ) → ((i : ℕ) → i < n → named i (node_records f a b c) ≡ true → KeepsLaws (operator_at (operator_records f a) i))
+    → (other : SomeBroken f a b c) → n ≤ other.operator
+first-broken f a b c n kept x =
+    let ns : List (List ℕ) = node_records f a b c in
+    let many : length ns ≡ c = length-records c node_length (drop (nodes_at a b + 1) f) in
+    by_le n x.operator
+    (λ l. l)
+    (λ l. absurd (not-kept (operator_at (operator_records f a) x.operator) x.breaks
+    (kept x.operator l (used x.operator ns x.node (omega (arith, x.within)) x.named))))
+
 -- what a refusal for an operator says, at the counts of the file
 shown : (f : List ℕ) (a b c : ℕ) (r : Refusal) → Otherwise f a b c → read_of f ≡ Refused r → r.number ≡ law_broken → Shown f a b c r
 shown f a b c r o e n =
@@ -92,10 +104,7 @@ shown f a b c r o e n =
         breaks = breaks (operator_at os r.place) r.law r.first r.second r.third shows;
       };
       named = refl;
-      first = λ x. by_le r.place x.operator
-          (λ l. l)
-          (λ l. absurd (not-kept (operator_at os x.operator) x.breaks
-          (kept x.operator l (used x.operator ns x.node (omega (arith, x.within)) x.named))));
+      first = first-broken f a b c r.place kept;
       shows = shows;
     }
 

@@ -3,13 +3,14 @@ use Prim.Native.Nat.{ℕ, ◌<◌}
 use mathlib.Core.Path.{◌≡◌, refl, sym, ap, ◌∙◌}
 use mathlib.Core.Bool.{Bool, true, false, not, ◌||◌, and-eq-true_iff, and-true, and-false, or-true, false≢true}
 use mathlib.Core.List.{List}
-use mathlib.Core.Logic.{⊎_elim, ◌⊎◌, inl, inr}
+use mathlib.Core.Logic.{⊎_elim, inl, inr}
 use lib.Dec.{eqb}
 use borrow.Author.Tests.{eqb-true, lt-ltb}
 use Rattle.logic.proofs.Tests.{and_both, or_split}
 use Rattle.field.specs.Value.{right_value}
 use Rattle.flow.specs.Packet.{protocol_limit}
-use Rattle.flow.specs.Match.{sourceport_flag, destinationport_flag, protocol_flag, port_flags, empty_flag, constrains, flagged, has_ports, meets_ports, match_of}
+use Rattle.flow.specs.Match.{sourceport_flag, destinationport_flag, protocol_flag, port_flags, empty_flag, constrains, flagged, has_ports}
+use Rattle.flow.specs.Match.{meets_ports, match_of}
 use Rattle.flow.specs.Match.{is_empty, is_none, is_plain, right_match, fits, meets}
 use Rattle.flow.specs.declared.Match.{Match}
 use Rattle.flow.specs.declared.Packet.{Packet}
@@ -22,7 +23,7 @@ use Rattle.promises.specs.Ports.{TcpOrUdp, PortMet, spoken, CountsAsEmpty, Follo
 use Rattle.promises.proofs.Cases.{port-cases}
 use Rattle.promises.proofs.Demand2.{demand-2}
 use Rattle.promises.proofs.Demand3.{demand-3}
-use Rattle.promises.proofs.Hidden.{hidden-rows}
+use Rattle.promises.proofs.HiddenLaws.{hidden-rows}
 
 -- a protocol that has ports is one of the two
 two : (p : Packet) → has_ports p.protocol ≡ true → TcpOrUdp p

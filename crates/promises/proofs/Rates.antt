@@ -12,7 +12,8 @@ use Rattle.logic.proofs.Tests.{by-test, by_le, and_left, and_right, and_both}
 use Rattle.theory.proofs.Every.{compile-every}
 use Rattle.flow.specs.Match.{is_empty, common}
 use Rattle.action.specs.Action.{gmb, kind_of, rate_of, is_dont_care, action_of, largest_rate, right_rate, right_action, in_range}
-use Rattle.action.specs.Operator.{kinds, cell_count, cell, rate_cell, rate_cells, largest_code, largest_rate_code, largest_in, coded, join, right_cell, RightCodes}
+use Rattle.action.specs.Operator.{kinds, cell_count, cell, rate_cell, rate_cells, largest_code, largest_rate_code, largest_in, coded, join}
+use Rattle.action.specs.Operator.{right_cell, RightCodes}
 use Rattle.action.specs.declared.Action.{Action}
 use Rattle.action.specs.declared.Action.TheVariants.{DontCare, Allow, Deny, Gmb}
 use Rattle.action.proofs.Words.{action-of-words, words-of-action, right-words}

@@ -40,7 +40,8 @@ rows-scan f l p =
 
 -- of the rows that were answered, the scan is no refusal, and its action is the tree's
 pub table-scans : (f t s p : List ℕ) (n : ℕ) → answer_of f t s ≡ Rows n → right_packet_words p ≡ true
-    → (scan_number (scan_of (table_rows n (table_after f t s)) p) ≡ 0) × (tree_action_of f p ≡ Gives (scan_action (scan_of (table_rows n (table_after f t s)) p)))
+    → (scan_number (scan_of (table_rows n (table_after f t s)) p) ≡ 0)
+    × (tree_action_of f p ≡ Gives (scan_action (scan_of (table_rows n (table_after f t s)) p)))
 table-scans f t s p n q right =
     let k : AnswerTells f t s n = answers-rows f t s n q in
     let l : Layout = k.layout in

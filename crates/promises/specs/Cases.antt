@@ -2,9 +2,9 @@
 --
 --   Case, k n call gives   a call's answer and what the scope says of it, under the number n of the case
 --   Hold                   every call of a list gives what is said
---   to                     a packet to an dotted, with zeros for the rest
+--   to                     a packet to an address, with zeros for the rest
 --   lent                   a buffer of zeros with room for four rows
---   rows_left f               the rows that the compile of a file leaves in such a buffer, as many as it answers
+--   rows_left f            the rows that the compile of a file leaves in such a buffer, as many as it answers
 --   cases                  the list
 use Rattle.std.specs.Prelude.{ℕ, ◌+◌, ◌*◌, ◌≡◌, List, [], ◌∷◌, ◌++◌}
 use Rattle.action.specs.Operator.{join, sibling, parent}
@@ -41,11 +41,11 @@ abbrev pub Hold : List Case → Type 0
 Hold [] = Unit {0}
 Hold (c ∷ cs) = (c.call ≡ c.gives) × Hold cs
 
--- an dotted by its four bytes
+-- an address by its four bytes
 abbrev pub dotted : ℕ → ℕ → ℕ → ℕ → ℕ
 dotted a b c d = ((a * 256 + b) * 256 + c) * 256 + d
 
--- a packet to an dotted
+-- a packet to an address
 abbrev pub to : ℕ → List ℕ
 to destination = 0 ∷ 0 ∷ destination ∷ 0 ∷ 0 ∷ 0 ∷ []
 

@@ -2,12 +2,12 @@
 -- cite, so of what these functions answer and leave in the lent buffers; that no second answer fits any of those
 -- contracts is proved in proofs/Answers.antt.
 --
---   read_of                                     policy::read        of a file
---   tree_action_of                                   tree::tree_action   of a file and a packet
+--   read_of                                       policy::read        of a file
+--   tree_action_of                                tree::tree_action   of a file and a packet
 --   answer_of, table_after, scratch_after         compile::compile    of a file, a table buffer and a scratch buffer
---   scan_of                                     table::scan         of a table and a packet
+--   scan_of                                       table::scan         of a table and a packet
 --   number_of, priorities_after, chain_after      priority::number    of a table, a priority buffer and a chain buffer
---   kept_of, table_kept                          hidden::drop_hidden of a table
+--   kept_of, table_kept                           hidden::drop_hidden of a table
 use Rattle.std.specs.Prelude.{ℕ, suc, ◌*◌, ◌-◌, ◌≤◌, ◌<◌, ◌≡◌, true, false, not, List, [], ◌++◌, ◌↔◌, ◌⊎◌, length, get_or, take, drop}
 use Rattle.theory.specs.Rows.{matches_at}
 use Rattle.theory.specs.Nodes.{list_tree}

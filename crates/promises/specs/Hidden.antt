@@ -1,17 +1,17 @@
 -- Hidden rows out, sentence by sentence as it was asked for. It is said of the definitions that the contracts cite:
 --
---   kept_of, table_kept    hidden::drop_hidden   of a table: the answer, and every word after it
+--   kept_of, table_kept   hidden::drop_hidden   of a table: the answer, and every word after it
 --   listing_of            text::list            of the bytes of a file
 --
 -- and in these words:
 --
---   row_in ws i           row i of a table
---   Inside ws i j        row i's match lies wholly inside row j's: every packet in range that meets it meets row j's
---   Hidden ws i          it lies wholly inside that of one earlier row
---   Passed ws            what the pass makes of a right table
---   PassRefused          what it refuses, and in which order
---   PassListed           what the listing shows of a file
---   KeptObeysTree        what a switch does that has the rows which stay
+--   row_in ws i         row i of a table
+--   Inside ws i j       row i's match lies wholly inside row j's: every packet in range that meets it meets row j's
+--   Hidden ws i         it lies wholly inside that of one earlier row
+--   Passed ws           what the pass makes of a right table
+--   PassRefused         what it refuses, and in which order
+--   PassListed          what the listing shows of a file
+--   KeptObeysTree       what a switch does that has the rows which stay
 use Rattle.std.specs.Prelude.{ℕ, suc, ◌*◌, ◌-◌, ◌≤◌, ◌<◌, ◌≡◌, true, false, not, List, ◌++◌, ◌↔◌, length, get_or}
 use Rattle.words.specs.Words.{zeros}
 use Rattle.words.specs.Records.{flat}

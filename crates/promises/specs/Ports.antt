@@ -7,7 +7,7 @@
 --   spoken q m        the match m with the protocol q
 --   CountsAsEmpty     what becomes of a match that no packet can meet
 --   Follows           what follows the new meaning
---   port_cases         worked cases: calls, and what they give
+--   port_cases        worked cases: calls, and what they give
 use Rattle.std.specs.Prelude.{ℕ, ◌<◌, ◌≡◌, true, false, List, [], ◌∷◌, ◌++◌, ◌⊎◌}
 use Rattle.words.specs.Words.{zeros}
 use Rattle.words.specs.Records.{flat}

@@ -2,14 +2,14 @@
 -- an enum, each of its cases has them.
 --
 --   Told                a refusal's number, place, law and three actions, and the action and the count that are given
---   search_told          of the search for a broken law
---   read_told            of reading a file
---   action_told          of the tree's action
---   compile_told         of the compile
---   check_told           of the check of a table
---   scan_told            of the scan
---   number_told          of the numbering
---   kept_told            of the pass that takes hidden rows out
+--   search_told         of the search for a broken law
+--   read_told           of reading a file
+--   action_told         of the tree's action
+--   compile_told        of the compile
+--   check_told          of the check of a table
+--   scan_told           of the scan
+--   number_told         of the numbering
+--   kept_told           of the pass that takes hidden rows out
 --   between a b         the numbers from a to b
 --   Fixed numbers t     what is told has one of the numbers, and its other values where it has no use for them
 use Rattle.std.specs.Prelude.{ℕ, ◌≤◌, ◌≡◌, ◌⊎◌}
@@ -47,8 +47,7 @@ search_told i Yes = record { refusal = plain 0 0; action = DontCare; count = 0 }
 search_told i (Broken l a b c) =
     record {
       refusal = record { number = law_broken; place = i; law = l; first = a; second = b; third = c };
-      action =
-          DontCare;
+      action = DontCare;
       count = 0;
     }
 

@@ -137,7 +137,8 @@ module _ (ws : List ℕ) (right : RightTable ws) where
   kept-words =
       ap words_of at_places
       ∙ flat-same row_words (λ i. row_in ws i) (row_at ws) stayers
-      (all_then (λ i. i < row_count ws) (λ i. row_words (row_in ws i) ≡ row_at ws i) row_words-at stayers (where_below test (row_count ws) (row_count ws) (omega arith)))
+      (all_then (λ i. i < row_count ws) (λ i. row_words (row_in ws i) ≡ row_at ws i) row_words-at stayers
+      (where_below test (row_count ws) (row_count ws) (omega arith)))
 
   kept-long : length (words_of (kept_rows ws)) ≡ kept * row_length
   kept-long = words_count (kept_rows ws)
