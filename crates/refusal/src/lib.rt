@@ -1,4 +1,4 @@
-// A refusal, as every function that takes a policy file gives it.
+// Refusals: what a function that takes a policy file gives, and what one that takes a table gives.
 #![tactic(auto)]
 
 ghost use Rattle.std.specs.Prelude.{◌≡◌};
@@ -15,6 +15,13 @@ pub struct Refusal {
     pub first: Action,
     pub second: Action,
     pub third: Action,
+}
+
+// What a table is refused with: the number and the place.
+#[derive(Clone, Copy)]
+pub struct Fault {
+    pub number: u32,
+    pub place: usize,
 }
 
 // A refusal that names no law.

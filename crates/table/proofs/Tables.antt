@@ -23,7 +23,9 @@ use Rattle.row.specs.Row.{rows_in, table_rows}
 use Rattle.row.proofs.Rows.{row_back, row-long, words_count, words_back}
 use Rattle.table.specs.Table.{wrong_table, wrong_row, row_count, past, right_length, check_from, check_rows, check_of, row_at, RightTable}
 use Rattle.table.specs.Theorems.{CheckExactly, CheckFirst, TableRows, TableWords, RowsRead, RowsWritten}
-use Rattle.table.specs.declared.Checked.TheVariants.{Rows, Wrong}
+use Rattle.std.specs.Prelude.{Result, Ok, Err}
+use Rattle.refusal.specs.Plain.{fault}
+use Rattle.refusal.specs.declared.Fault.{Fault}
 use Rattle.logic.proofs.Lists.{all-at, all_map}
 
 -- record i of records that stand k words apart
@@ -79,31 +81,38 @@ right-action : (ws : List ℕ) → right_row ws ≡ true → right_row_action ws
 unfolding right_row
 right-action ws h = and_right (right_row_match ws && not (is_empty (match_of ws))) (right_row_action ws) h
 
+-- the two answers of the check of the rows
+abbrev counted : ℕ → Result ℕ Fault
+counted n = Ok n
+
+abbrev named : ℕ → Result ℕ Fault
+named i = Err (fault wrong_row i)
+
 -- where all rows are right, the check counts them; where row j is the first that is not, it names it
-check-counts : (i : ℕ) (rs : List (List ℕ)) → ((j : ℕ) → j < length rs → right_row (get_or rs j []) ≡ true) → check_from i rs ≡ Rows (i + length rs)
-check-counts i [] f = let e : i ≡ i + 0 = omega arith in ap Rows e
+check-counts : (i : ℕ) (rs : List (List ℕ)) → ((j : ℕ) → j < length rs → right_row (get_or rs j []) ≡ true) → check_from i rs ≡ counted (i + length rs)
+check-counts i [] f = let e : i ≡ i + 0 = omega arith in ap counted e
 check-counts i (r ∷ rs) f =
     let e : suc i + length rs ≡ i + suc (length rs) = omega arith in
-    rw (f 0 (omega arith)) (check-counts (suc i) rs (λ j h. f (suc j) (omega arith)) ∙ ap Rows e)
+    rw (f 0 (omega arith)) (check-counts (suc i) rs (λ j h. f (suc j) (omega arith)) ∙ ap counted e)
 
-check-names : (i j : ℕ) (rs : List (List ℕ)) → FirstPlace (λ k. not (right_row (get_or rs k []))) (length rs) j → check_from i rs ≡ Wrong wrong_row (i + j)
+check-names : (i j : ℕ) (rs : List (List ℕ)) → FirstPlace (λ k. not (right_row (get_or rs k []))) (length rs) j → check_from i rs ≡ named (i + j)
 check-names i j [] f = absurd (omega (arith, f.within))
-check-names i zero (r ∷ rs) f = let e : i ≡ i + 0 = omega arith in rw (not-true (right_row r) f.passes) (ap (Wrong wrong_row) e)
+check-names i zero (r ∷ rs) f = let e : i ≡ i + 0 = omega arith in rw (not-true (right_row r) f.passes) (ap named e)
 check-names i (suc j) (r ∷ rs) f =
     let e : suc i + j ≡ i + suc j = omega arith in
     rw (not-false (right_row r) (f.skips 0 (omega arith)))
     (check-names (suc i) j rs (record { within = omega (arith, f.within); passes = f.passes; skips = λ k h. f.skips (suc k) (omega arith) })
-    ∙ ap (Wrong wrong_row) e)
+    ∙ ap named e)
 
 -- and a check that passes went over right rows
-check-passed : (i n : ℕ) (rs : List (List ℕ)) → check_from i rs ≡ Rows n → (j : ℕ) → j < length rs → right_row (get_or rs j []) ≡ true
+check-passed : (i n : ℕ) (rs : List (List ℕ)) → check_from i rs ≡ counted n → (j : ℕ) → j < length rs → right_row (get_or rs j []) ≡ true
 check-passed i n [] e j h = absurd (omega arith)
 check-passed i n (r ∷ rs) e zero h =
-    by-test (right_row r) (λ t. t) (λ t. let e' : Wrong wrong_row i ≡ Rows n = rw t at e in cc)
+    by-test (right_row r) (λ t. t) (λ t. let e' : named i ≡ counted n = rw t at e in cc)
 check-passed i n (r ∷ rs) e (suc j) h =
     by-test (right_row r)
-    (λ t. let e' : check_from (suc i) rs ≡ Rows n = rw t at e in check-passed (suc i) n rs e' j (omega arith))
-    (λ t. let e' : Wrong wrong_row i ≡ Rows n = rw t at e in cc)
+    (λ t. let e' : check_from (suc i) rs ≡ counted n = rw t at e in check-passed (suc i) n rs e' j (omega arith))
+    (λ t. let e' : named i ≡ counted n = rw t at e in cc)
 
 -- the rows of a table, as the check goes over them
 module _ (ws : List ℕ) where
@@ -113,33 +122,33 @@ module _ (ws : List ℕ) where
   each_at : (i : ℕ) → i < length each → get_or each i [] ≡ row_at ws i
   each_at i h = records-at (row_count ws) row_length i ws (omega (arith, length-records (row_count ws) row_length ws))
 
-  table-passes : RightTable ws → check_of ws ≡ Rows (row_count ws)
+  table-passes : RightTable ws → check_of ws ≡ counted (row_count ws)
   unfolding check_of check_rows right_length
   table-passes t =
       let n : length each ≡ row_count ws = length-records (row_count ws) row_length ws in
       let e : 0 + length each ≡ row_count ws = omega arith in
       rw (eq-eqb (length ws % row_length) 0 t.whole, le-leb (row_count ws) most_rows t.few)
-      (check-counts 0 each (λ j h. rw (each_at j h) (t.rows j (omega arith))) ∙ ap Rows e)
+      (check-counts 0 each (λ j h. rw (each_at j h) (t.rows j (omega arith))) ∙ ap counted e)
 
-  passes-right : (n : ℕ) → check_of ws ≡ Rows n → RightTable ws
+  passes-right : (n : ℕ) → check_of ws ≡ counted n → RightTable ws
   unfolding check_of check_rows right_length
   passes-right n e =
       let whole : Bool = eqb (length ws % row_length) 0 in
       let few : Bool = leb (row_count ws) most_rows in
       by-test (whole && few)
       (λ t.
-      let e' : check_from 0 each ≡ Rows n = rw t at e in
+      let e' : check_from 0 each ≡ counted n = rw t at e in
       record {
         whole = eqb-true (length ws % row_length) 0 (and_left whole few t);
         few = leb-true (row_count ws) most_rows (and_right whole few t);
         rows = λ i h. let l : i < length each = omega (arith, length-records (row_count ws) row_length ws) in rw (← each_at i l) (check-passed 0 n each e' i l);
       })
-      (λ t. let e' : Wrong wrong_table 0 ≡ Rows n = rw t at e in let z : ◌≡◌ {A = ℕ} 0 1 = cc in absurd (omega arith))
+      (λ t. let e' : ◌≡◌ {A = Result ℕ Fault} (Err (fault wrong_table 0)) (counted n) = rw t at e in let z : ◌≡◌ {A = ℕ} 0 1 = cc in absurd (omega arith))
 
 pub check-exactly : CheckExactly
 check-exactly ws n = (
-  λ e. let t : RightTable ws = passes-right ws n e in let e' : Rows (row_count ws) ≡ Rows n = sym (table-passes ws t) ∙ e in (t, cc),
-  λ t. table-passes ws t.0 ∙ ap Rows (sym t.1),
+  λ e. let t : RightTable ws = passes-right ws n e in let e' : counted (row_count ws) ≡ counted n = sym (table-passes ws t) ∙ e in (t, cc),
+  λ t. table-passes ws t.0 ∙ ap counted (sym t.1),
 )
 
 pub check-first : CheckFirst
@@ -155,7 +164,7 @@ check-first ws i t f =
       passes = rw (same i f.within) f.passes;
       skips = λ j h. rw (same j (omega (arith, f.within))) (f.skips j h);
     })
-    ∙ ap (Wrong wrong_row) e)
+    ∙ ap named e)
 
 right-each : (ws : List ℕ) → RightTable ws → (j : ℕ) → j < length (each ws) → right_row (get_or (each ws) j []) ≡ true
 right-each ws t j h = rw (each_at ws j h) (t.rows j (omega (arith, length-records (row_count ws) row_length ws)))
@@ -214,7 +223,7 @@ rows_written ws t =
     words-again (row_count ws) ws (omega (arith, t.whole)) (λ j h. right-each ws t j (omega arith))
 
 -- rows at the front of a table that are a right table fit into it
-pub rows-within : (n : ℕ) (t : List ℕ) → check_of (table_rows n t) ≡ Rows n → n * row_length ≤ length t
+pub rows-within : (n : ℕ) (t : List ℕ) → check_of (table_rows n t) ≡ counted n → n * row_length ≤ length t
 rows-within n t e =
     let q : n ≡ row_count (table_rows n t) = ((check-exactly (table_rows n t) n).0 e).1 in
     by_le (n * row_length) (length t) (λ h. h) (λ h.

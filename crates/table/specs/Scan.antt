@@ -6,7 +6,7 @@
 --   scan_number, scan_place   the number and the place of an answer; both are 0 where it is no refusal
 --   scan_action, scan_tried   the action of an answer, and how many rows were tried; don't care and 0 where it is a
 --                           refusal
-use Rattle.std.specs.Prelude.{ℕ, ◌+◌, cond, List}
+use Rattle.std.specs.Prelude.{ℕ, ◌+◌, cond, List, Result, Ok, Err}
 use Rattle.theory.specs.Rows.{Row, scan, tried}
 use Rattle.flow.specs.Packet.{packet_of, right_packet_words, wrong_packet}
 use Rattle.flow.specs.Match.{meets}
@@ -15,43 +15,42 @@ use Rattle.flow.specs.declared.Packet.{Packet}
 use Rattle.action.specs.declared.Action.{Action}
 use Rattle.action.specs.declared.Action.TheVariants.{DontCare}
 use Rattle.table.specs.Table.{check_of}
-use Rattle.table.specs.declared.Checked.{Checked}
-use Rattle.table.specs.declared.Checked.TheVariants.{Rows, Wrong}
-use Rattle.table.specs.declared.Scanned.{Scanned}
-use Rattle.table.specs.declared.Scanned.TheVariants.{Found, Refused}
+use Rattle.table.specs.declared.Found.{Found}
+use Rattle.refusal.specs.Plain.{fault}
+use Rattle.refusal.specs.declared.Fault.{Fault}
 use Rattle.row.specs.Row.{rows_in}
 
 -- the scan of rows before which k rows were tried
-abbrev pub found : ℕ → List (Row Match Action) → Packet → Scanned
-found k N p = Found (scan meets DontCare N p) (k + tried meets N p)
+abbrev pub found : ℕ → List (Row Match Action) → Packet → Found
+found k N p = record { action = scan meets DontCare N p; tried = k + tried meets N p }
 
 -- what is found where the table is right, else its refusal
-abbrev pub where_right : Checked → Scanned → Scanned
-where_right (Rows n) s = s
-where_right (Wrong n i) s = Refused n i
+abbrev pub where_right : Result ℕ Fault → Found → Result Found Fault
+where_right (Ok n) s = Ok s
+where_right (Err f) s = Err f
 
 -- the scan: first the packet, then the table, then its rows in order
-unfoldable pub scan_of : List ℕ → List ℕ → Scanned
+unfoldable pub scan_of : List ℕ → List ℕ → Result Found Fault
 scan_of ws packet =
     cond (right_packet_words packet) (where_right (check_of ws) (found 0 (rows_in ws) (packet_of packet)))
-    (Refused wrong_packet 0)
+    (Err (fault wrong_packet 0))
 
 -- the number of an answer
-abbrev pub scan_number : Scanned → ℕ
-scan_number (Found a k) = 0
-scan_number (Refused n i) = n
+abbrev pub scan_number : Result Found Fault → ℕ
+scan_number (Ok s) = 0
+scan_number (Err f) = f.number
 
 -- the place of an answer
-abbrev pub scan_place : Scanned → ℕ
-scan_place (Found a k) = 0
-scan_place (Refused n i) = i
+abbrev pub scan_place : Result Found Fault → ℕ
+scan_place (Ok s) = 0
+scan_place (Err f) = f.place
 
 -- the action that an answer gives
-abbrev pub scan_action : Scanned → Action
-scan_action (Found a k) = a
-scan_action (Refused n i) = DontCare
+abbrev pub scan_action : Result Found Fault → Action
+scan_action (Ok s) = s.action
+scan_action (Err f) = DontCare
 
 -- how many rows were tried
-abbrev pub scan_tried : Scanned → ℕ
-scan_tried (Found a k) = k
-scan_tried (Refused n i) = 0
+abbrev pub scan_tried : Result Found Fault → ℕ
+scan_tried (Ok s) = s.tried
+scan_tried (Err f) = 0

@@ -11,14 +11,14 @@
 --   check_of ws        the check's answer
 --   row_at ws i        the words of row i
 --   RightTable ws     what makes a table right
-use Rattle.std.specs.Prelude.{ℕ, suc, ◌*◌, ◌/◌, ◌%◌, ◌≤◌, ◌<◌, ◌≡◌, Bool, true, cond, ◌&&◌, List, [], ◌∷◌, eqb, leb, length, take, drop}
+use Rattle.std.specs.Prelude.{ℕ, suc, ◌*◌, ◌/◌, ◌%◌, ◌≤◌, ◌<◌, ◌≡◌, Bool, true, cond, ◌&&◌, List, [], ◌∷◌, Result, Ok, Err, eqb, leb, length, take, drop}
 use Rattle.words.specs.Records.{records}
 use Rattle.theory.specs.Rows.{Row}
 use Rattle.flow.specs.declared.Match.{Match}
 use Rattle.action.specs.declared.Action.{Action}
 use Rattle.row.specs.Row.{row_length, most_rows, row_of, right_row}
-use Rattle.table.specs.declared.Checked.{Checked}
-use Rattle.table.specs.declared.Checked.TheVariants.{Rows, Wrong}
+use Rattle.refusal.specs.Plain.{fault}
+use Rattle.refusal.specs.declared.Fault.{Fault}
 
 -- the number of a table that is not a multiple of 11 words, or has too many rows
 abbrev pub wrong_table : ℕ
@@ -41,17 +41,17 @@ unfoldable pub right_length : List ℕ → Bool
 right_length ws = eqb (length ws % row_length) 0 && leb (row_count ws) most_rows
 
 -- the first wrong row of those from row i on, each given by its words; how many rows there are if none is wrong
-abbrev pub check_from : ℕ → List (List ℕ) → Checked
-check_from i [] = Rows i
-check_from i (r ∷ rs) = cond (right_row r) (check_from (suc i) rs) (Wrong wrong_row i)
+abbrev pub check_from : ℕ → List (List ℕ) → Result ℕ Fault
+check_from i [] = Ok i
+check_from i (r ∷ rs) = cond (right_row r) (check_from (suc i) rs) (Err (fault wrong_row i))
 
 -- the same of all rows
-unfoldable pub check_rows : List ℕ → Checked
+unfoldable pub check_rows : List ℕ → Result ℕ Fault
 check_rows ws = check_from 0 (records (row_count ws) row_length ws)
 
 -- the check: first the length, then each row
-unfoldable pub check_of : List ℕ → Checked
-check_of ws = cond (right_length ws) (check_rows ws) (Wrong wrong_table 0)
+unfoldable pub check_of : List ℕ → Result ℕ Fault
+check_of ws = cond (right_length ws) (check_rows ws) (Err (fault wrong_table 0))
 
 -- the words of row i
 abbrev pub row_at : List ℕ → ℕ → List ℕ

@@ -8,7 +8,7 @@
 --                              its words
 --   ScanFirst, ScanUnmatched   the scan's answer where row i is the first that matches, and where none does
 --   ScanRefused                the order of the refusals: the packet, then the table
-use Rattle.std.specs.Prelude.{ℕ, suc, ◌≤◌, ◌<◌, ◌≡◌, true, false, not, List, ◌↔◌, length, get_or}
+use Rattle.std.specs.Prelude.{ℕ, suc, ◌≤◌, ◌<◌, ◌≡◌, true, false, not, List, Ok, Err, ◌↔◌, length, get_or}
 use Rattle.words.specs.Records.{flat}
 use Rattle.theory.specs.Rows.{Row, matches_at}
 use Rattle.theory.specs.Number.{FirstPlace}
@@ -20,19 +20,19 @@ use Rattle.action.specs.declared.Action.TheVariants.{DontCare}
 use Rattle.row.specs.Row.{most_rows, row_words, right_row, RightRow, rows_in}
 use Rattle.table.specs.Table.{wrong_row, row_count, past, right_length, check_of, row_at, RightTable}
 use Rattle.table.specs.Scan.{scan_of}
-use Rattle.table.specs.declared.Checked.TheVariants.{Rows, Wrong}
-use Rattle.table.specs.declared.Scanned.TheVariants.{Found, Refused}
+use Rattle.refusal.specs.Plain.{fault}
+use Rattle.refusal.specs.declared.Fault.{Fault}
 use Rattle.logic.specs.Lists.{All}
 
 -- the check passes exactly the right tables, and answers how many rows they have
 abbrev pub CheckExactly : Type 0
-CheckExactly = (ws : List ℕ) (n : ℕ) → (check_of ws ≡ Rows n) ↔ (RightTable ws × (n ≡ row_count ws))
+CheckExactly = (ws : List ℕ) (n : ℕ) → (check_of ws ≡ Ok n) ↔ (RightTable ws × (n ≡ row_count ws))
 
 -- in a table of right length the first wrong row is named
 abbrev pub CheckFirst : Type 0
 CheckFirst =
     (ws : List ℕ) (i : ℕ) → right_length ws ≡ true → FirstPlace (λ j. not (right_row (row_at ws j))) (row_count ws) i
-    → check_of ws ≡ Wrong wrong_row i
+    → check_of ws ≡ Err (fault wrong_row i)
 
 -- each row of a right table is right
 abbrev pub TableRows : Type 0
@@ -54,17 +54,17 @@ RowsWritten = (ws : List ℕ) → RightTable ws → flat row_words (rows_in ws) 
 abbrev pub ScanFirst : Type 0
 ScanFirst = (ws packet : List ℕ) (i : ℕ) → RightTable ws → right_packet_words packet ≡ true
     → FirstPlace (matches_at meets past (rows_in ws) (packet_of packet)) (row_count ws) i
-    → scan_of ws packet ≡ Found (get_or (rows_in ws) i past).action (suc i)
+    → scan_of ws packet ≡ Ok (record { action = (get_or (rows_in ws) i past).action; tried = suc i })
 
 -- where no row matches: don't care, and all rows tried
 abbrev pub ScanUnmatched : Type 0
 ScanUnmatched = (ws packet : List ℕ) → RightTable ws → right_packet_words packet ≡ true
     → ((i : ℕ) → i < row_count ws → matches_at meets past (rows_in ws) (packet_of packet) i ≡ false)
-    → scan_of ws packet ≡ Found DontCare (row_count ws)
+    → scan_of ws packet ≡ Ok (record { action = DontCare; tried = row_count ws })
 
 -- words that are no packet are refused whatever the table is; else a table that is not right is refused as the check
 -- has it
 abbrev pub ScanRefused : Type 0
 ScanRefused = (ws packet : List ℕ)
-    → (right_packet_words packet ≡ false → scan_of ws packet ≡ Refused wrong_packet 0)
-    × (right_packet_words packet ≡ true → (n i : ℕ) → check_of ws ≡ Wrong n i → scan_of ws packet ≡ Refused n i)
+    → (right_packet_words packet ≡ false → scan_of ws packet ≡ Err (fault wrong_packet 0))
+    × (right_packet_words packet ≡ true → (f : Fault) → check_of ws ≡ Err f → scan_of ws packet ≡ Err f)

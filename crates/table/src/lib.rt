@@ -8,6 +8,7 @@ ghost use Rattle.row.specs.Row.{rows_in};
 
 use action::Action;
 use flow::{Match, Packet, WRONG_PACKET, meets, read_match, read_packet, right_packet_words};
+use refusal::Fault;
 use row::{MOST_ROWS, ROW_WORDS, right_row, row_action};
 
 // The numbers of the refusals.
@@ -15,74 +16,58 @@ pub const WRONG_TABLE: u32 = 15;
 
 pub const WRONG_ROW: u32 = 16;
 
-// The row count of a right table, or what is wrong with it.
+// What a scan finds: the action, and how many rows were tried.
 #[derive(Clone, Copy)]
-pub enum Checked {
-    Rows(usize),
-    Wrong { number: u32, place: usize },
-}
-
-// The action that a scan gives and how many rows it tried, or the refusal.
-#[derive(Clone, Copy)]
-pub enum Scanned {
-    Found { action: Action, tried: usize },
-    Refused { number: u32, place: usize },
+pub struct Found {
+    pub action: Action,
+    pub tried: usize,
 }
 
 // Scans a table for a packet, both as words.
 #[tactic(auto, unfolding(crate::specs::Scan::scan_of))]
-pub fn scan(table: &[u32], packet: &[u32]) -> Scanned
+pub fn scan(table: &[u32], packet: &[u32]) -> Result<Found, Fault>
     ensures { result ≡ scan_of table.now packet.now }
 {
     if !right_packet_words(packet) {
-        return Scanned::Refused {
+        return Err(Fault {
             number: WRONG_PACKET,
             place: 0,
-        };
+        });
     }
-    match check(table) {
-        Checked::Rows(_) => first_match(table, read_packet(packet)),
-        Checked::Wrong { number, place } => Scanned::Refused { number, place },
-    }
+    check(table)?;
+    Ok(first_match(table, read_packet(packet)))
 }
 
-// Tests a table: its length, then each row.
+// Tests a table: its length, then each row. Answers how many rows it has.
 #[tactic(auto, unfolding(crate::specs::Table::check_of))]
-pub fn check(table: &[u32]) -> Checked
+pub fn check(table: &[u32]) -> Result<usize, Fault>
     ensures { result ≡ check_of table.now }
 {
     if !right_length(table) {
-        return Checked::Wrong {
+        return Err(Fault {
             number: WRONG_TABLE,
             place: 0,
-        };
+        });
     }
     check_rows(table)
 }
 
 // The first matching row's action and its place plus 1; don't care and the row count if none matches.
-pub fn first_match(table: &[u32], p: Packet) -> Scanned
+pub fn first_match(table: &[u32], p: Packet) -> Found
     ensures { result ≡ found 0 (rows_in table.now) p }
 {
-    let rows = table.len() / ROW_WORDS;
-    let mut at = 0;
-    let mut tried = 0;
-    // None of the first tried rows matches; at is where the next one starts.
-    while tried < rows {
-        let end = at + ROW_WORDS;
-        let row = &table[at..end];
+    // None of the rows before row i matches.
+    for (i, row) in table.chunks_exact(ROW_WORDS).enumerate() {
         if meets(read_match(row), p) {
-            return Scanned::Found {
+            return Found {
                 action: row_action(row),
-                tried: tried + 1,
+                tried: i + 1,
             };
         }
-        at = end;
-        tried += 1;
     }
-    Scanned::Found {
+    Found {
         action: Action::DONT_CARE,
-        tried,
+        tried: table.len() / ROW_WORDS,
     }
 }
 
@@ -107,23 +92,17 @@ fn right_length(table: &[u32]) -> bool
 }
 
 // The first wrong row, or how many rows there are.
-fn check_rows(table: &[u32]) -> Checked
+fn check_rows(table: &[u32]) -> Result<usize, Fault>
     ensures { result ≡ check_rows table.now }
 {
-    let rows = table.len() / ROW_WORDS;
-    let mut from = 0;
-    let mut i = 0;
-    // The first i rows are right; from is where the next one starts.
-    while i < rows {
-        let end = from + ROW_WORDS;
-        if !right_row(&table[from..end]) {
-            return Checked::Wrong {
+    // The rows before row i are right.
+    for (i, row) in table.chunks_exact(ROW_WORDS).enumerate() {
+        if !right_row(row) {
+            return Err(Fault {
                 number: WRONG_ROW,
                 place: i,
-            };
+            });
         }
-        from = end;
-        i += 1;
     }
-    Checked::Rows(i)
+    Ok(table.len() / ROW_WORDS)
 }

@@ -1,3 +1,4 @@
 pub mod Laid
 pub mod Records
 pub mod Bytes
+pub mod Chunks

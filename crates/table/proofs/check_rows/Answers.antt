@@ -1,24 +1,32 @@
--- A turn of the loop is a row. Assumes nothing.
-use native.Mathlib.Omega.{arith}
-use Rattle.table.proofs.Turns.{check-start, wrong-found, wrong-later, wrong-none}
+-- A turn of the loop is a row.
+use Rattle.std.proofs.Common.{sym, ◌∙◌, arith}
+use Rattle.words.proofs.Chunks.{started, numbered, ended}
+use Rattle.row.specs.Row.{row_length}
+use Rattle.table.specs.Table.{check_rows}
+use Rattle.table.proofs.Turns.{wrong-found, wrong-later, wrong-none}
 use Rattle.table.proofs.check_rows.Goals as goal
 
 pub loop-i-init : goal.loop-i-init
-loop-i-init c = record { room = omega arith; within = omega arith; rest = check-start c.args.table.now }
+unfolding check_rows
+loop-i-init c =
+    let s = started row_length c.args.table.now _ _ _ c.chunks_exact.ensures.rest c.chunks_exact.ensures.size c.enumerate-i-items.ensures.source
+    c.enumerate-i-items.ensures.count c.into_iter-i-iterator.ensures.into_iter_gives in
+    record { going = s.going; rest = rw (s.none, s.left) }
 
 pub loop-i-preserved : goal.loop-i-preserved
-loop-i-preserved c = record {
-  room = omega arith;
-  within = omega arith;
-  rest =
-      wrong-later c.args.table.now _ _ c.loop-i.from _ c.loop-i.invariant.rest c.loop-i-test.true _ c.right_row.ensures
-      c.if-not-right_row.false;
-}
+loop-i-preserved c =
+    let n = numbered row_length c.args.table.now c.loop-i.i-iterator c.next.new.self _ c.in-Some.row (omega arith) c.loop-i.invariant.going c.in-Some.ensures.steps in
+    record {
+      going = n.going;
+      rest = rw (n.next) (wrong-later _ _ _ _ _ c.loop-i.invariant.rest n.more (sym c.right_row.ensures ∙ c.if-not-right_row.false));
+    }
 
 pub returns-then-not-right_row : goal.returns-then-not-right_row
 returns-then-not-right_row c =
-    wrong-found c.args.table.now _ _ c.loop-i.from _ c.loop-i.invariant.rest c.loop-i-test.true _ c.right_row.ensures
-    c.if-not-right_row.true
+    let n = numbered row_length c.args.table.now c.loop-i.i-iterator c.next.new.self _ c.in-Some.row (omega arith) c.loop-i.invariant.going c.in-Some.ensures.steps in
+    rw n.number (wrong-found _ _ _ _ _ c.loop-i.invariant.rest n.more (sym c.right_row.ensures ∙ c.if-not-right_row.true))
 
 pub returns : goal.returns
-returns c = wrong-none c.args.table.now _ _ c.loop-i.from _ c.loop-i.invariant.rest c.loop-i-test.false
+returns c =
+    let e = ended row_length c.args.table.now _ _ c.loop-i.invariant.going c.in-None.ensures.steps in
+    rw (← e.count) (wrong-none _ _ _ c.loop-i.invariant.rest e.none)
