@@ -3,16 +3,14 @@
 --
 --   made_of at F room      the answer where F is laid at a place, and there is so much room
 --   Lays at F             F is laid at a place, if there is room for it
-use Rattle.std.specs.Prelude.{ℕ, ◌+◌, ◌≤◌, ◌≡◌, cond, List, leb, length}
+use Rattle.std.specs.Prelude.{ℕ, ◌+◌, ◌≤◌, ◌≡◌, cond, List, leb, length, Option, Some, None}
 use Rattle.words.specs.Words.{laid}
-use Rattle.common.specs.declared.Made.{Made}
-use Rattle.common.specs.declared.Made.TheVariants.{Words, Full}
 
--- the place past the last word, if all words fit into the room; else full
-unfoldable pub made_of : ℕ → List ℕ → ℕ → Made
-made_of at F room = cond (leb (at + length F) room) (Words (at + length F)) Full
+-- the place past the last word, if all words fit into the room; else none
+unfoldable pub made_of : ℕ → List ℕ → ℕ → Option ℕ
+made_of at F room = cond (leb (at + length F) room) (Some (at + length F)) None
 
 -- F is laid at a place of a buffer, if it fits; where it does not, nothing is said of the buffer's words
-pub record Lays (at : ℕ) (F old new : List ℕ) (r : Made) : Type 0 where
+pub record Lays (at : ℕ) (F old new : List ℕ) (r : Option ℕ) : Type 0 where
   pub answer : r ≡ made_of at F (length old)
   pub words : at + length F ≤ length old → new ≡ laid at F old

@@ -13,39 +13,25 @@ use flow::{Match, common, overlap, read_match};
 use row::{ROW_WORDS, row_action, words_of_row};
 use words::copy;
 
-// The place past what was made, or that there was no room for it.
-#[derive(Clone, Copy)]
-pub enum Made {
-    Words(usize),
-    Full,
-}
-
 // The common rows of two tables: each row of the left in order, with each row of the right in
-// order.
+// order. Each function answers the place past what it stored.
 pub fn common_rows(
     operator: Operator,
     left: &[u32],
     right: &[u32],
     out: &mut [u32],
     at: usize,
-) -> Made
+) -> Option<usize>
     requires { at ≤ length out.old }
     ensures { Lays at (common_rows_words operator.cells left.now right.now)
         out.old out.new result }
 {
     let mut done = at;
-    let mut i = 0;
-    // From at up to done stand the common rows of the rows in the first i words of the left and
-    // those of the right.
-    while i + ROW_WORDS <= left.len() {
-        let made = common_with(operator, &left[i..i + ROW_WORDS], right, out, done);
-        let Made::Words(end) = made else {
-            return Made::Full;
-        };
-        done = end;
-        i += ROW_WORDS;
+    // From at up to done stand the common rows of the left rows so far and those of the right.
+    for row in left.chunks_exact(ROW_WORDS) {
+        done = common_with(operator, row, right, out, done)?;
     }
-    Made::Words(done)
+    Some(done)
 }
 
 // The common rows of one row and a table.
@@ -55,7 +41,7 @@ pub fn common_with(
     table: &[u32],
     out: &mut [u32],
     at: usize,
-) -> Made
+) -> Option<usize>
     requires { at ≤ length out.old }
     ensures { Lays at (common_with_words operator.cells (row_of row.now) table.now)
         out.old out.new result }
@@ -63,18 +49,11 @@ pub fn common_with(
     let m = read_match(row);
     let a = row_action(row);
     let mut done = at;
-    let mut i = 0;
-    // From at up to done stand the common rows of the row and the rows in the first i words of the
-    // table.
-    while i + ROW_WORDS <= table.len() {
-        let made = add_common(operator, m, a, &table[i..i + ROW_WORDS], out, done);
-        let Made::Words(end) = made else {
-            return Made::Full;
-        };
-        done = end;
-        i += ROW_WORDS;
+    // From at up to done stand the common rows of the row and the table's rows so far.
+    for other in table.chunks_exact(ROW_WORDS) {
+        done = add_common(operator, m, a, other, out, done)?;
     }
-    Made::Words(done)
+    Some(done)
 }
 
 // The common row of a match and action and another row; none where the two do not overlap.
@@ -85,27 +64,27 @@ fn add_common(
     row: &[u32],
     out: &mut [u32],
     at: usize,
-) -> Made
+) -> Option<usize>
     requires { at ≤ length out.old }
     ensures { Lays at (common_words operator.cells (record { match = m; action = a }) row.now)
         out.old out.new result }
 {
     let other = read_match(row);
     if !overlap(m, other) {
-        return Made::Words(at);
+        return Some(at);
     }
     let words = words_of_row(common(m, other), operator.join(a, row_action(row)));
     append(out, at, &words)
 }
 
 // Stores some words from a place on, if they fit.
-pub fn append(out: &mut [u32], at: usize, words: &[u32]) -> Made
+pub fn append(out: &mut [u32], at: usize, words: &[u32]) -> Option<usize>
     requires { at ≤ length out.old }
     ensures { Lays at words.now out.old out.new result }
 {
     if out.len() - at < words.len() {
-        return Made::Full;
+        return None;
     }
     copy(out, at, words);
-    Made::Words(at + words.len())
+    Some(at + words.len())
 }
