@@ -1,7 +1,7 @@
 -- What the answer tells: the rows that stay are right as they were, and the scan finds the same without the others. Assumes nothing.
 use Prim.Native.Nat.{ℕ, ◌*◌, ◌-◌, ◌≤◌}
 use native.Mathlib.Omega.{arith}
-use mathlib.Core.Path.{◌≡◌, refl, sym, ap, ap₂, subst, ◌∙◌}
+use mathlib.Core.Path.{◌≡◌, refl, sym, ap, subst, ◌∙◌}
 use mathlib.Core.List.{List, ◌++◌}
 use lib.ListN.{length, take}
 use lib.Seq.{take_at}
@@ -17,17 +17,16 @@ use Rattle.action.specs.declared.Action.TheVariants.{DontCare}
 use Rattle.row.specs.Row.{row_length, most_rows, RightRow, rows_in, words_of, table_rows}
 use Rattle.table.specs.Table.{row_count, check_of, RightTable}
 use Rattle.table.specs.Scan.{scan_number, scan_action}
-use Rattle.table.specs.declared.Checked.{Checked}
-use Rattle.table.specs.declared.Checked.TheVariants as checked
+use Rattle.std.specs.Prelude.{Result, Ok, Err}
+use Rattle.refusal.specs.declared.Fault.{Fault}
 use Rattle.table.proofs.Tables.{length-rows, check-exactly, table-rows, table-words, rows-read}
 use Rattle.table.proofs.Scans.{scan-found, scan-refused}
 use Rattle.hidden.specs.Hidden.{kept_rows, kept_words, kept_by, kept_of, table_by, table_kept}
 use Rattle.hidden.specs.Theorems.{KeptTells, KeptRows, RightKept, RefusedExactly, RefusedStays, SameAction}
-use Rattle.hidden.specs.declared.Kept.TheVariants.{Rows, Refused}
-use Rattle.hidden.proofs.Passed.{kept-long}
+use Rattle.hidden.proofs.Passed.{counted, kept-long}
 
 -- the words of the rows that stay of a right table are a right table of so many rows
-kept-right : (ws : List ℕ) → RightTable ws → check_of (kept_words ws) ≡ checked.Rows (length (kept_rows ws))
+kept-right : (ws : List ℕ) → RightTable ws → check_of (kept_words ws) ≡ counted (length (kept_rows ws))
 unfolding kept_words
 kept-right ws t =
     let few : length (kept_rows ws) ≤ most_rows = omega (arith, hidden-less Action inside (rows_in ws), length-rows ws, t.few) in
@@ -35,7 +34,7 @@ kept-right ws t =
     (check-exactly (words_of (kept_rows ws)) (length (kept_rows ws))).1 (words, omega (arith, kept-long ws))
 
 -- what is told of a right table
-module _ (ws : List ℕ) (n : ℕ) (e : check_of ws ≡ checked.Rows n) where
+module _ (ws : List ℕ) (n : ℕ) (e : check_of ws ≡ counted n) where
   right : RightTable ws
   right = ((check-exactly ws n).0 e).0
 
@@ -61,33 +60,31 @@ unfolding kept_of
 right_kept ws t = ap (kept_by ws) ((check-exactly ws (row_count ws)).1 (t, refl))
 
 -- by what the check finds
-by-check : (ws : List ℕ) (X : Checked → Type 0) → ((n : ℕ) → check_of ws ≡ checked.Rows n → X (checked.Rows n))
-    → ((n i : ℕ) → check_of ws ≡ checked.Wrong n i → X (checked.Wrong n i))
+by-check : (ws : List ℕ) (X : Result ℕ Fault → Type 0) → ((n : ℕ) → check_of ws ≡ Ok n → X (Ok n))
+    → ((f : Fault) → check_of ws ≡ Err f → X (Err f))
     → X (check_of ws)
 by-check ws X rows wrong = go (check_of ws) refl
   where
-    go : (x : Checked) → check_of ws ≡ x → X x
-    go (checked.Rows n) e = rows n e
-    go (checked.Wrong n i) e = wrong n i e
+    go : (x : Result ℕ Fault) → check_of ws ≡ x → X x
+    go (Ok n) e = rows n e
+    go (Err f) e = wrong f e
 
 pub kept-rows : KeptRows
 unfolding kept_of
-kept-rows ws n = by-check ws (λ x. kept_by ws x ≡ Rows n → KeptTells ws n)
+kept-rows ws n = by-check ws (λ x. kept_by ws x ≡ Ok n → KeptTells ws n)
     (λ m c q. let many : length (kept_rows ws) ≡ n = cc in subst (KeptTells ws) many (told ws m c))
-    (λ m i c q. let z : ◌≡◌ {A = ℕ} 0 1 = cc in absurd (omega arith))
+    (λ f c q. let z : ◌≡◌ {A = ℕ} 0 1 = cc in absurd (omega arith))
 
 pub refused-exactly : RefusedExactly
 unfolding kept_of
-refused-exactly ws n i = (
-  by-check ws (λ x. kept_by ws x ≡ Refused n i → x ≡ checked.Wrong n i)
-      (λ m c q. let z : ◌≡◌ {A = ℕ} 0 1 = cc in absurd (omega arith))
-      (λ m j c q. let number : m ≡ n = cc in let place : j ≡ i = cc in ap₂ checked.Wrong number place),
+refused-exactly ws f = (
+  by-check ws (λ x. kept_by ws x ≡ Err f → x ≡ Err f) (λ m c q. let z : ◌≡◌ {A = ℕ} 0 1 = cc in absurd (omega arith)) (λ g c q. q),
   λ e. ap (kept_by ws) e,
 )
 
 pub refused-stays : RefusedStays
 unfolding table_kept
-refused-stays ws n i q = ap (table_by ws) ((refused-exactly ws n i).0 q)
+refused-stays ws f q = ap (table_by ws) ((refused-exactly ws f).0 q)
 
 pub same-action : SameAction
 same-action ws packet n e =

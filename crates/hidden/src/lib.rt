@@ -10,31 +10,21 @@ ghost use Rattle.row.specs.Row.{rows_in};
 ghost use Rattle.hidden.specs.Hidden.{kept_words, kept_of, table_kept};
 
 use flow::{Match, lies_inside, read_match};
+use refusal::Fault;
 use row::{ROW_WORDS, row_action, words_of_row};
-use table::{Checked, check};
+use table::check;
 use words::{clear_from, copy};
 
-// How many rows stay, or the refusal.
-#[derive(Clone, Copy)]
-pub enum Kept {
-    Rows(usize),
-    Refused { number: u32, place: usize },
-}
-
 // Takes the hidden rows out of a table: the others move to its front, in order, and the words
-// behind them become 0.
-pub fn drop_hidden(table: &mut [u32]) -> Kept
+// behind them become 0. Answers how many rows stay.
+pub fn drop_hidden(table: &mut [u32]) -> Result<usize, Fault>
     ensures value { result ≡ kept_of table.old }
     ensures table_after { table.new ≡ table_kept table.old }
 {
-    match check(table) {
-        Checked::Rows(_) => {
-            let end = keep_rows(table);
-            clear_from(table, end);
-            Kept::Rows(end / ROW_WORDS)
-        }
-        Checked::Wrong { number, place } => Kept::Refused { number, place },
-    }
+    check(table)?;
+    let end = keep_rows(table);
+    clear_from(table, end);
+    Ok(end / ROW_WORDS)
 }
 
 // Moves the rows that stay to the front, and answers where they end.
@@ -42,11 +32,11 @@ fn keep_rows(table: &mut [u32]) -> usize
     ensures value { result ≡ length (kept_words table.old) }
     ensures table_after { table.new ≡ laid 0 (kept_words table.old) table.old }
 {
-    let mut from = 0;
     let mut to = 0;
-    // Of the rows before from, those that stay stand before to. The rows not yet looked at are as
+    // Of the rows before row i, those that stay stand before to. Row i and those behind it are as
     // they were.
-    while ROW_WORDS <= table.len() - from {
+    for i in 0..table.len() / ROW_WORDS {
+        let from = i * ROW_WORDS;
         let end = from + ROW_WORDS;
         let m = read_match(&table[from..end]);
         if !inside_one(m, &table[..to]) {
@@ -54,7 +44,6 @@ fn keep_rows(table: &mut [u32]) -> usize
             copy(table, to, &words);
             to += ROW_WORDS;
         }
-        from = end;
     }
     to
 }
@@ -63,14 +52,11 @@ fn keep_rows(table: &mut [u32]) -> usize
 fn inside_one(m: Match, rows: &[u32]) -> bool
     ensures { result ≡ inside_one inside m (rows_in rows.now) }
 {
-    let mut from = 0;
-    // It lies inside none of the rows before from.
-    while ROW_WORDS <= rows.len() - from {
-        let end = from + ROW_WORDS;
-        if lies_inside(m, read_match(&rows[from..end])) {
+    // It lies inside none of the rows before this one.
+    for row in rows.chunks_exact(ROW_WORDS) {
+        if lies_inside(m, read_match(row)) {
             return true;
         }
-        from = end;
     }
     false
 }

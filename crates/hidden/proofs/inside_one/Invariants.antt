@@ -1,17 +1,14 @@
--- The match lies inside one of the rows from `from` on where it lies inside one of all rows.
-use Prim.Native.Nat.{◌-◌, ◌≤◌}
-use mathlib.Core.Path.{◌≡◌}
-use lib.ListN.{length, drop}
+-- The match lies inside one of the rows that the iterator still has to give where it lies inside one of all rows.
+use Rattle.std.proofs.Common.{◌≡◌}
+use mathlib.Core.List.{map}
+use Rattle.words.proofs.Chunks.{left}
 use Rattle.theory.specs.Hidden.{inside_one}
 use Rattle.flow.specs.Match.{inside}
-use Rattle.row.specs.Row.{rows_in}
+use Rattle.row.specs.Row.{row_length, row_of, rows_in}
 use Rattle.hidden.proofs.inside_one.Given as goal
 
-abbrev pub invariant-loop-from : goal.invariant-loop-from
-invariant-loop-from l = record {
-  within : l.from ≤ length l.rows;
-  rest : inside_one inside l.m (rows_in (drop l.from l.rows)) ≡ inside_one inside l.m (rows_in l.rows);
+abbrev pub invariant-loop-row : goal.invariant-loop-row
+invariant-loop-row l = record {
+  size : l.row-iterator.size ≡ row_length;
+  rest : inside_one inside l.m (map row_of (left row_length l.row-iterator)) ≡ inside_one inside l.m (rows_in l.rows);
 }
-
-abbrev pub decreases-loop-from : goal.decreases-loop-from
-decreases-loop-from l = length l.rows - l.from

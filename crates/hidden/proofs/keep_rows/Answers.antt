@@ -1,34 +1,36 @@
--- A turn of the loop is a row: it stays and is stored behind those that do, or it goes. Assumes nothing.
-use native.Mathlib.Omega.{arith}
-use Rattle.hidden.proofs.Turns.{same_after, keeping_start, keeping-length, keeping-goes, keeping-stays, keeping-end, keeping-table}
+-- A turn of the loop is a row: it stays and is stored behind those that do, or it goes.
+use Rattle.std.proofs.Common.{◌/◌, ◌<◌, length, arith}
+use Rattle.row.specs.Row.{row_length}
+use Rattle.hidden.proofs.Turns.{keeping_start, keeping-length, keeping-goes, keeping-stays, keeping-end, keeping-table}
 use Rattle.hidden.proofs.keep_rows.Goals as goal
+use Rattle.hidden.proofs.keep_rows.Goals.{then-not-inside_one, else-not-inside_one}
 
-pub loop-table-init : goal.loop-table-init
-loop-table-init c = record { within = omega arith; before = omega arith; rest = keeping_start _ }
+pub loop-i-init : goal.loop-i-init
+loop-i-init c = keeping_start c.args.table.now
 
-pub loop-table-preserved-then-not-inside_one : goal.loop-table-preserved-then-not-inside_one
-loop-table-preserved-then-not-inside_one c = record {
-  within = omega (arith, same_after _ _ _ c.copy.ensures);
-  before = omega arith;
-  rest =
-      keeping-stays c.loop-table.invariant.rest (omega arith) _ c.read_match-m.ensures _ c.inside_one.ensures _
-      c.row_action.ensures _ c.words_of_row-words.ensures _ c.copy.ensures c.if-not-inside_one.true;
-}
+pub slice_bounds-read_match-end : goal.slice_bounds-read_match-end
+slice_bounds-read_match-end c = omega (arith, keeping-length c.loop-i.invariant)
 
-pub loop-table-preserved : goal.loop-table-preserved
-loop-table-preserved c = record {
-  within = omega arith;
-  before = omega arith;
-  rest =
-      keeping-goes c.loop-table.invariant.rest (omega arith) _ c.read_match-m.ensures _ c.inside_one.ensures
-      c.if-not-inside_one.false;
-}
+pub slice_bounds-row_action-end : goal.slice_bounds-row_action-end
+slice_bounds-row_action-end c = omega (arith, keeping-length c.loop-i.invariant)
+
+pub loop-i-preserved : goal.loop-i-preserved
+loop-i-preserved c =
+    let k = c.loop-i.invariant in
+    let h : c.loop-i.i < length c.loop-i.table / row_length = omega (arith, keeping-length k) in
+    elim c.if-not-inside_one.branch [
+      | then-not-inside_one w ↦
+          rw (w.table-is, w.to-is)
+          (keeping-stays k h _ c.read_match-m.ensures _ c.inside_one.ensures _ w.row_action.ensures _ w.words_of_row-words.ensures _ w.copy.ensures
+          w.if-not-inside_one.true)
+      | else-not-inside_one w ↦ rw (w.table-is, w.to-is) (keeping-goes k h _ c.read_match-m.ensures _ c.inside_one.ensures w.if-not-inside_one.false)
+    ]
 
 pub shape_of-table : goal.shape_of-table
-shape_of-table c = keeping-length c.loop-table.invariant.rest
+shape_of-table c = keeping-length c.loop-i.invariant
 
 pub returns-clause-value : goal.returns-clause-value
-returns-clause-value c = keeping-end c.loop-table.invariant.rest (omega arith)
+returns-clause-value c = keeping-end c.loop-i.invariant (omega (arith, keeping-length c.loop-i.invariant))
 
 pub returns-clause-table_after : goal.returns-clause-table_after
-returns-clause-table_after c = keeping-table c.loop-table.invariant.rest (omega arith)
+returns-clause-table_after c = keeping-table c.loop-i.invariant (omega (arith, keeping-length c.loop-i.invariant))
