@@ -3,12 +3,21 @@
 // written.
 #![tactic(auto)]
 
+ghost use Rattle.std.specs.Prelude.{◌≡◌, true, ℕ, List, ◌++◌};
+ghost use Rattle.std.specs.Io.KnownBytes.{Appends, Consumes};
+ghost use Rattle.wire.specs.Sent.{slice_bytes};
+ghost use Rattle.replies.specs.Replies.{read_reply, action_reply, compile_reply, scan_reply, number_reply};
+
 use replies::{reply_action, reply_compile, reply_number, reply_read, reply_scan};
 use std::io::{Read, Write};
 use wire::{take_slice, take_three, take_two};
 
 // Takes a policy file, and reads it.
-pub fn call_read<R: Read, W: Write>(input: &mut R, output: &mut W, file: &mut [u32]) -> bool {
+pub fn call_read<R: Read, W: Write>(input: &mut R, output: &mut W, file: &mut [u32]) -> bool
+    ensures { result ≡ true → (f : List ℕ)
+        × Consumes (R.remaining input.old) (R.remaining input.new) (slice_bytes f)
+        × Appends (W.contents output.old) (W.contents output.new) (read_reply f) }
+{
     let f = take_slice(input, file);
     if !f.whole {
         return false;
@@ -22,7 +31,12 @@ pub fn call_action<R: Read, W: Write>(
     output: &mut W,
     file: &mut [u32],
     packet: &mut [u32],
-) -> bool {
+) -> bool
+    ensures { result ≡ true → (f p : List ℕ)
+        × Consumes (R.remaining input.old) (R.remaining input.new)
+        (slice_bytes f ++ slice_bytes p)
+        × Appends (W.contents output.old) (W.contents output.new) (action_reply f p) }
+{
     let t = take_two(input, file, packet);
     if !t.whole {
         return false;
@@ -37,7 +51,12 @@ pub fn call_compile<R: Read, W: Write>(
     file: &mut [u32],
     table: &mut [u32],
     scratch: &mut [u32],
-) -> bool {
+) -> bool
+    ensures { result ≡ true → (f t s : List ℕ)
+        × Consumes (R.remaining input.old) (R.remaining input.new)
+        ((slice_bytes f ++ slice_bytes t) ++ slice_bytes s)
+        × Appends (W.contents output.old) (W.contents output.new) (compile_reply f t s) }
+{
     let t = take_three(input, file, table, scratch);
     if !t.whole {
         return false;
@@ -56,7 +75,12 @@ pub fn call_scan<R: Read, W: Write>(
     output: &mut W,
     table: &mut [u32],
     packet: &mut [u32],
-) -> bool {
+) -> bool
+    ensures { result ≡ true → (t p : List ℕ)
+        × Consumes (R.remaining input.old) (R.remaining input.new)
+        (slice_bytes t ++ slice_bytes p)
+        × Appends (W.contents output.old) (W.contents output.new) (scan_reply t p) }
+{
     let t = take_two(input, table, packet);
     if !t.whole {
         return false;
@@ -71,7 +95,12 @@ pub fn call_number<R: Read, W: Write>(
     table: &mut [u32],
     priorities: &mut [u32],
     chain: &mut [u32],
-) -> bool {
+) -> bool
+    ensures { result ≡ true → (t ps cs : List ℕ)
+        × Consumes (R.remaining input.old) (R.remaining input.new)
+        ((slice_bytes t ++ slice_bytes ps) ++ slice_bytes cs)
+        × Appends (W.contents output.old) (W.contents output.new) (number_reply t ps cs) }
+{
     let t = take_three(input, table, priorities, chain);
     if !t.whole {
         return false;

@@ -4,11 +4,16 @@
 // be written.
 #![tactic(auto)]
 
-ghost use Rattle.std.specs.Prelude.{◌≡◌};
+ghost use Rattle.std.specs.Prelude.{◌≡◌, true};
+ghost use Rattle.std.specs.Io.KnownBytes.{Appends};
+ghost use Rattle.words.specs.Records.{flat};
+ghost use Rattle.words.specs.Bytes.{bytes_of};
 ghost use Rattle.compile.specs.Compile.{table_after, scratch_after};
 ghost use Rattle.priority.specs.Numbering.{priorities_after, chain_after};
+ghost use Rattle.refusal.specs.Plain.{plain};
+ghost use Rattle.replies.specs.Replies.{law_number, action_words, refusal_words, reading_words, evaluated_words, compiled_words, scanned_words, numbered_words, read_reply, action_reply, compile_reply, scan_reply, number_reply};
 
-use action::{Action, Law};
+use action::{Action, Law, kind, rate};
 use compile::Compiled;
 use policy::Reading;
 use priority::Numbered;
@@ -19,12 +24,18 @@ use tree::Evaluated;
 use wire::{give, low};
 
 // Reads a policy file.
-pub fn reply_read<W: Write>(output: &mut W, file: &[u32]) -> bool {
+pub fn reply_read<W: Write>(output: &mut W, file: &[u32]) -> bool
+    ensures { result ≡ true → Appends (W.contents output.old) (W.contents output.new)
+        (read_reply file.now) }
+{
     give_reading(output, policy::read(file))
 }
 
 // The tree's action.
-pub fn reply_action<W: Write>(output: &mut W, file: &[u32], packet: &[u32]) -> bool {
+pub fn reply_action<W: Write>(output: &mut W, file: &[u32], packet: &[u32]) -> bool
+    ensures { result ≡ true → Appends (W.contents output.old) (W.contents output.new)
+        (action_reply file.now packet.now) }
+{
     give_evaluated(output, tree::tree_action(file, packet))
 }
 
@@ -36,15 +47,19 @@ pub fn reply_compile<W: Write>(
     scratch: &mut [u32],
 ) -> bool
     ensures table_after { table.new ≡ table_after file.now table.old scratch.old }
-    ensures scratch_after { scratch.new ≡ scratch_after file.now table.old
-        scratch.old }
+    ensures scratch_after { scratch.new ≡ scratch_after file.now table.old scratch.old }
+    ensures written { result ≡ true → Appends (W.contents output.old) (W.contents output.new)
+        (compile_reply file.now table.old scratch.old) }
 {
     let compiled = compile::compile(file, table, scratch);
     give_compiled(output, compiled) & give(output, table) & give(output, scratch)
 }
 
 // Scans a table.
-pub fn reply_scan<W: Write>(output: &mut W, table: &[u32], packet: &[u32]) -> bool {
+pub fn reply_scan<W: Write>(output: &mut W, table: &[u32], packet: &[u32]) -> bool
+    ensures { result ≡ true → Appends (W.contents output.old) (W.contents output.new)
+        (scan_reply table.now packet.now) }
+{
     give_scanned(output, table::scan(table, packet))
 }
 
@@ -57,15 +72,19 @@ pub fn reply_number<W: Write>(
 ) -> bool
     ensures priorities_after { priorities.new ≡ priorities_after table.now priorities.old
         chain.old }
-    ensures chain_after { chain.new ≡ chain_after table.now priorities.old
-        chain.old }
+    ensures chain_after { chain.new ≡ chain_after table.now priorities.old chain.old }
+    ensures written { result ≡ true → Appends (W.contents output.old) (W.contents output.new)
+        (number_reply table.now priorities.old chain.old) }
 {
     let numbered = priority::number(table, priorities, chain);
     give_numbered(output, numbered) & give(output, priorities) & give(output, chain)
 }
 
 // What was read of a file: its three counts.
-fn give_reading<W: Write>(output: &mut W, reading: Reading) -> bool {
+fn give_reading<W: Write>(output: &mut W, reading: Reading) -> bool
+    ensures { result ≡ true → Appends (W.contents output.old) (W.contents output.new)
+        (flat bytes_of (reading_words reading)) }
+{
     match reading {
         Reading::Accepted(layout) => {
             let operators = low(layout.operators);
@@ -78,29 +97,36 @@ fn give_reading<W: Write>(output: &mut W, reading: Reading) -> bool {
 }
 
 // The tree's action.
-fn give_evaluated<W: Write>(output: &mut W, evaluated: Evaluated) -> bool {
+fn give_evaluated<W: Write>(output: &mut W, evaluated: Evaluated) -> bool
+    ensures { result ≡ true → Appends (W.contents output.old) (W.contents output.new)
+        (flat bytes_of (evaluated_words evaluated)) }
+{
     match evaluated {
         Evaluated::Gives(action) => give_success(output) & give_action(output, action),
-        Evaluated::Refused(refusal) => give_refusal(output, refusal)
-            & give_action(output, Action::DONT_CARE),
+        Evaluated::Refused(refusal) => {
+            give_refusal(output, refusal) & give_action(output, Action::DontCare)
+        }
     }
 }
 
 // What the scan found: the action, and how many rows were tried.
-fn give_scanned<W: Write>(output: &mut W, scanned: Scanned) -> bool {
+fn give_scanned<W: Write>(output: &mut W, scanned: Scanned) -> bool
+    ensures { result ≡ true → Appends (W.contents output.old) (W.contents output.new)
+        (flat bytes_of (scanned_words scanned)) }
+{
     match scanned {
         Scanned::Found { action, tried } => {
-            give(
-                output,
-                &[0, 0, action::kind(action), action::rate(action), low(tried)],
-            )
+            give(output, &[0, 0, kind(action), rate(action), low(tried)])
         }
         Scanned::Refused { number, place } => give(output, &[number, low(place), 0, 0, 0]),
     }
 }
 
 // How many rows the compile made.
-fn give_compiled<W: Write>(output: &mut W, compiled: Compiled) -> bool {
+fn give_compiled<W: Write>(output: &mut W, compiled: Compiled) -> bool
+    ensures { result ≡ true → Appends (W.contents output.old) (W.contents output.new)
+        (flat bytes_of (compiled_words compiled)) }
+{
     match compiled {
         Compiled::Rows(rows) => give_success(output) & give(output, &[low(rows)]),
         Compiled::Refused(refusal) => give_refusal(output, refusal) & give(output, &[0]),
@@ -108,7 +134,10 @@ fn give_compiled<W: Write>(output: &mut W, compiled: Compiled) -> bool {
 }
 
 // How many priorities the numbering used.
-fn give_numbered<W: Write>(output: &mut W, numbered: Numbered) -> bool {
+fn give_numbered<W: Write>(output: &mut W, numbered: Numbered) -> bool
+    ensures { result ≡ true → Appends (W.contents output.old) (W.contents output.new)
+        (flat bytes_of (numbered_words numbered)) }
+{
     match numbered {
         Numbered::Priorities(count) => give(output, &[0, 0, count]),
         Numbered::Refused { number, place } => give(output, &[number, low(place), 0]),
@@ -116,11 +145,13 @@ fn give_numbered<W: Write>(output: &mut W, numbered: Numbered) -> bool {
 }
 
 // The nine words of a refusal.
-fn give_refusal<W: Write>(output: &mut W, refusal: Refusal) -> bool {
+fn give_refusal<W: Write>(output: &mut W, refusal: Refusal) -> bool
+    ensures { result ≡ true → Appends (W.contents output.old) (W.contents output.new)
+        (flat bytes_of (refusal_words refusal)) }
+{
     let number = refusal.number;
     let place = low(refusal.place);
-    let broken = refusal.law;
-    let law = law_number(broken);
+    let law = law_number(refusal.law);
     let first = refusal.first;
     let second = refusal.second;
     let third = refusal.third;
@@ -131,15 +162,23 @@ fn give_refusal<W: Write>(output: &mut W, refusal: Refusal) -> bool {
 }
 
 // The nine words of an answer that is no refusal.
-fn give_success<W: Write>(output: &mut W) -> bool {
+fn give_success<W: Write>(output: &mut W) -> bool
+    ensures { result ≡ true → Appends (W.contents output.old) (W.contents output.new)
+        (flat bytes_of (refusal_words (plain 0 0))) }
+{
     give(output, &[0, 0, 0, 0, 0, 0, 0, 0, 0])
 }
 
-fn give_action<W: Write>(output: &mut W, a: Action) -> bool {
-    give(output, &[action::kind(a), action::rate(a)])
+fn give_action<W: Write>(output: &mut W, a: Action) -> bool
+    ensures { result ≡ true → Appends (W.contents output.old) (W.contents output.new)
+        (flat bytes_of (action_words a)) }
+{
+    give(output, &[kind(a), rate(a)])
 }
 
-fn law_number(law: Law) -> u32 {
+fn law_number(law: Law) -> u32
+    ensures { result ≡ law_number law }
+{
     match law {
         Law::Unnamed => 0,
         Law::Commutativity => 1,

@@ -1,5 +1,5 @@
 -- Known bytes that are read, and that are written, one part after the other. Assumes nothing.
-use Rattle.std.proofs.Common.{◌≡◌, sym, ap, ◌∙◌, List, ◌++◌, ℕ, append_assoc, None, Some, Ok, Err, true}
+use Rattle.std.proofs.Common.{◌≡◌, refl, sym, ap, ◌∙◌, List, ◌++◌, ℕ, append_assoc, None, Some, Ok, Err, Bool, true, false, ◌&&◌}
 use Rattle.std.specs.declared.option.Option.{Option}
 use Rattle.std.specs.declared.result.Result.{Result}
 use Rattle.std.specs.Result.{is_ok, OnOk}
@@ -16,6 +16,13 @@ appends_then None b c xs ys p q = tt
 appends_then (Some u) None c xs ys p q = absurd p
 appends_then (Some u) (Some v) None xs ys p q = q
 appends_then (Some u) (Some v) (Some w) xs ys p q = q ∙ ap (λ l. l ++ ys) p ∙ append_assoc u xs ys
+
+-- what is written in two parts, if both succeed
+pub both_written : (a b c : Option (List ℕ)) (p q : Bool) (xs ys : List ℕ) → (p ≡ true → Appends a b xs) → (q ≡ true → Appends b c ys)
+    → p && q ≡ true → Appends a c (xs ++ ys)
+both_written a b c true true xs ys f g h = appends_then a b c xs ys (f refl) (g refl)
+both_written a b c true false xs ys f g h = cc
+both_written a b c false q xs ys f g h = cc
 
 -- what a success says holds where one was found
 pub on_ok : {T E P : Type 0} → (r : Result T E) → is_ok r ≡ true → OnOk r P → P

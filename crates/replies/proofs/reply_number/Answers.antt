@@ -1,0 +1,22 @@
+-- The answer is given, then each buffer.
+use Rattle.words.specs.Records.{flat}
+use Rattle.words.specs.Bytes.{bytes_of}
+use Rattle.priority.specs.Numbering.{number_of, priorities_after, chain_after}
+use Rattle.std.proofs.Common.{◌++◌, List, ℕ, length}
+use Rattle.replies.specs.Replies.{numbered_words, number_reply}
+use Rattle.wire.proofs.Known.{both_written}
+use Rattle.replies.proofs.reply_number.Goals as goal
+
+pub returns-clause-written : goal.returns-clause-written
+unfolding number_reply
+returns-clause-written g c =
+    let t = c.args.table.now in
+    let ps = c.args.priorities.now in
+    let cs = c.args.chain.now in
+    let answer : List ℕ = flat bytes_of (numbered_words (number_of t (length ps) (length cs))) in
+    let numbers : List ℕ = flat bytes_of (priorities_after t ps cs) in
+    both_written _ _ _ _ _ (answer ++ numbers) (flat bytes_of (chain_after t ps cs))
+    (both_written _ _ _ _ _ answer numbers
+    (rw c.number-numbered.ensures.0 at c.give_numbered.ensures)
+    (rw c.number-numbered.ensures.1 at c.give.ensures))
+    (rw c.number-numbered.ensures.2 at c.give-2.ensures)
