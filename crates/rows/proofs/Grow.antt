@@ -22,8 +22,7 @@ use Rattle.action.specs.Operator as operator
 use Rattle.action.specs.declared.Action.{Action}
 use Rattle.row.specs.Row.{row_length, row_of, row_words, rows_in, words_of}
 use Rattle.row.proofs.Rows.{row_back, row-long}
-use Rattle.common.specs.declared.Made.{Made}
-use Rattle.common.specs.declared.Made.TheVariants.{Words, Full}
+use Rattle.std.specs.Prelude.{Option, Some, None}
 use Rattle.common.specs.Lays.{made_of, Lays}
 use Rattle.common.specs.Tables.{common_rows_words}
 use Rattle.rows.specs.Places.{part}
@@ -70,7 +69,7 @@ part-split a b e l h g =
     ∙ ap (λ x. part a b l ++ take (e - b) x) (drop-drop (b - a) a l ∙ ap (λ n. drop n l) p)
 
 -- what was laid up to e is read back
-pub laid-back : {a e : ℕ} {F old new : List ℕ} {r : Made} → Lays a F old new r → r ≡ Words e → part a e new ≡ F
+pub laid-back : {a e : ℕ} {F old new : List ℕ} {r : Option ℕ} → Lays a F old new r → r ≡ Some e → part a e new ≡ F
 laid-back {a} {e} {F} {old} {new} l q =
     let f : Fitted a F (length old) e = made-words a F (length old) e (sym q ∙ l.answer) in
     let n : e - a ≡ length F = omega (arith, f.end) in
@@ -83,22 +82,22 @@ module _ (a m e : ℕ) (s old : List ℕ) (h : a ≤ m) (g : a ≤ e) (f : m ≤
   both = length-append (part a m s) (part a e old) ∙ ap₂ (λ x y. x + y) (length_part a m s h (omega arith)) (length_part a e old g k)
 
   -- there are none
-  pub put-none : m ≡ a → Lays a (part a m s ++ part a e old) old old (Words e)
+  pub put-none : m ≡ a → Lays a (part a m s ++ part a e old) old old (Some e)
   put-none q =
       let z : m - a ≡ 0 = omega arith in
       let n : length (part a e old) ≡ e - a = length_part a e old g k in
       rw z (lays-words a (part a e old) old old e (omega arith) (omega arith) (sym (laid_same a (e - a) old (omega arith))))
 
   -- there is no room for them
-  pub put_full : {s' new : List ℕ} {r : Made} → Lays m (part a e old) s s' r → r ≡ Full → Lays a (part a m s ++ part a e old) old new Full
+  pub put_full : {s' new : List ℕ} {r : Option ℕ} → Lays m (part a e old) s s' r → r ≡ None → Lays a (part a m s ++ part a e old) old new None
   put_full {s'} {new} l q =
       let n : length (part a e old) ≡ e - a = length_part a e old g k in
       let b : length (part a m s ++ part a e old) ≡ (m - a) + (e - a) = both in
       too_long new l q same (omega arith)
 
   -- the table is stored behind them, and all is put back
-  pub put_all : {s' new : List ℕ} {r : Made} {n : ℕ} → Lays m (part a e old) s s' r → r ≡ Words n → new ≡ copied a (part a n s') old
-      → Lays a (part a m s ++ part a e old) old new (Words n)
+  pub put_all : {s' new : List ℕ} {r : Option ℕ} {n : ℕ} → Lays m (part a e old) s s' r → r ≡ Some n → new ≡ copied a (part a n s') old
+      → Lays a (part a m s ++ part a e old) old new (Some n)
   put_all {s'} {new} {r} {n} l q w =
       let P : List ℕ = part a m s in
       let G : List ℕ = part a e old in
@@ -116,21 +115,21 @@ module _ (a m e : ℕ) (s old : List ℕ) (h : a ≤ m) (g : a ≤ e) (f : m ≤
       (w ∙ ap (λ x. copied a x old) y ∙ copied-fits a (P ++ G) old (omega (arith, i.fits)))
 
 -- two tables one behind the other, at a..b and b..e, with their common rows made in s
-module _ (o : List ℕ) {a b e : ℕ} {old s s' : List ℕ} {r : Made} (h : a ≤ b) (g : b ≤ e) (same : length s ≡ length old)
+module _ (o : List ℕ) {a b e : ℕ} {old s s' : List ℕ} {r : Option ℕ} (h : a ≤ b) (g : b ≤ e) (same : length s ≡ length old)
     (l : Lays a (common_rows_words o (part a b old) (part b e old)) s s' r) where
   -- there is no room for the common rows
-  pub join-full : (new : List ℕ) → r ≡ Full → Lays a (join_words o (part a b old) (part b e old)) old new Full
+  pub join-full : (new : List ℕ) → r ≡ None → Lays a (join_words o (part a b old) (part b e old)) old new None
   join-full new q = too_long new l q same (omega (arith, join-length o (part a b old) (part b e old)))
 
   -- the common rows are put before the two
-  pub join-put : {m : ℕ} {new : List ℕ} {r' : Made} → r ≡ Words m → Lays a (part a m s' ++ part a e old) old new r'
+  pub join-put : {m : ℕ} {new : List ℕ} {r' : Option ℕ} → r ≡ Some m → Lays a (part a m s' ++ part a e old) old new r'
       → Lays a (join_words o (part a b old) (part b e old)) old new r'
   join-put q k =
       lays-same (ap₂ (λ x y. x ++ y) (laid-back l q) (part-split a b e old h g) ∙ sym (join-parts o (part a b old) (part b e old))) k
 
 -- two tables, laid one behind the other, are replaced by their join
-pub joins : {a b e : ℕ} {C D : List ℕ} {old mid here new : List ℕ} {m : Made} (o : List ℕ)
-    → Lays a C old mid (Words b) → Lays b D mid here (Words e)
+pub joins : {a b e : ℕ} {C D : List ℕ} {old mid here new : List ℕ} {m : Option ℕ} (o : List ℕ)
+    → Lays a C old mid (Some b) → Lays b D mid here (Some e)
     → Lays a (join_words o (part a b here) (part b e here)) here new m → Lays a (join_words o C D) old new m
 joins {a} {b} {e} {C} {D} {old} {mid} {here} {new} {m} o l₁ l₂ k =
     let f₁ : Fitted a C (length old) b = made-words a C (length old) b l₁.answer in

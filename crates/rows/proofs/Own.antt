@@ -3,15 +3,19 @@ use Prim.Native.Nat.{ℕ, zero, suc, ◌+◌, ◌-◌, ◌*◌, ◌/◌, ◌%◌
 use native.Mathlib.Omega.{arith}
 use mathlib.Core.Path.{◌≡◌, refl, sym, ap, ap₂, subst, ◌∙◌}
 use mathlib.Core.Bool.{Bool, true, false, cond}
-use mathlib.Core.List.{List, [], ◌∷◌, ◌++◌, append_assoc, append-nil}
+use mathlib.Core.List.{List, [], ◌∷◌, ◌++◌, append_assoc, append-nil, map}
 use lib.Dec.{leb}
-use lib.ListN.{length, take, drop, length-append, length-drop, drop_of_length-le}
-use lib.Seq.{take_all}
+use lib.ListN.{length, take, drop, length-append, length-drop, drop_of_length-le, take-append-drop}
+use lib.Seq.{take_all, length-take-le}
+use Rattle.std.proofs.lemmas.List.{nil_from_length}
 use Rattle.words.specs.Words.{laid, copied}
 use Rattle.words.proofs.Laid.{length-laid, laid_then, copied-fits}
-use Rattle.words.proofs.Records.{rows_at, rows_end}
-use Rattle.theory.specs.Rows.{kept}
-use Rattle.flow.specs.Match.{is_empty, match_of}
+use Rattle.words.specs.Records.{rows_of}
+use Rattle.words.proofs.Records.{rows_more, rows_none}
+use Rattle.words.proofs.Chunks.{whole-next}
+use Rattle.theory.specs.Rows.{kept, common_with, common_rows}
+use Rattle.flow.specs.Match.{is_empty, common, match_of}
+use Rattle.action.specs.Operator as operator
 use Rattle.flow.specs.declared.Match.{Match}
 use Rattle.action.specs.declared.Action.{Action}
 use Rattle.row.specs.Row.{row_length, row_of, row_action, row_words, rows_in, words_of}
@@ -20,15 +24,14 @@ use Rattle.common.specs.Lays.{made_of, Lays}
 use Rattle.common.specs.Tables.{common_with_words, common_rows_words}
 use Rattle.rows.specs.Places.{part, PutUpTo, Grows}
 use Rattle.rows.specs.Tables.{own_rows, join_words, atom_words, own_words}
-use Rattle.common.specs.declared.Made.{Made}
-use Rattle.common.specs.declared.Made.TheVariants.{Words, Full}
-use Rattle.common.proofs.Turns.{some_words, common-rows-next, common-rows-end}
+use Rattle.std.specs.Prelude.{Option, Some, None}
+use Rattle.common.proofs.Turns.{some_words}
 use Rattle.common.proofs.Going.{Fitted, made-words, made-full, lays-full, lays-same, too_long}
 use Rattle.rows.proofs.Grow.{join-parts, join-flat, join-length, join-none, laid-back}
 use Rattle.rows.proofs.Laid.{laid-over, laid-front}
 
 -- two parts laid one behind the other
-pub lays-then : {a b : ℕ} {C D old mid new : List ℕ} {r : Made} → Lays a C old mid (Words b) → Lays b D mid new r → Lays a (C ++ D) old new r
+pub lays-then : {a b : ℕ} {C D old mid new : List ℕ} {r : Option ℕ} → Lays a C old mid (Some b) → Lays b D mid new r → Lays a (C ++ D) old new r
 unfolding made_of
 lays-then {a} {b} {C} {D} {old} {mid} {new} {r} l k =
     let f : Fitted a C (length old) b = made-words a C (length old) b l.answer in
@@ -36,12 +39,12 @@ lays-then {a} {b} {C} {D} {old} {mid} {new} {r} l k =
     let same : length mid ≡ length old = ap length w ∙ length-laid a C old in
     let n : b + length D ≡ a + length (C ++ D) = omega (arith, f.end, length-append C D) in
     record {
-      answer = k.answer ∙ ap₂ (λ x y. cond (leb x y) (Words x) Full) n same;
+      answer = k.answer ∙ ap₂ (λ x y. cond (leb x y) (Some x) None) n same;
       words = λ h. k.words (omega arith) ∙ ap₂ (λ x y. laid x D y) f.end w ∙ laid_then a C D old;
     }
 
 -- the first part does not fit
-pub lays-first-full : {a : ℕ} {C old mid : List ℕ} (D new : List ℕ) {r : Made} → Lays a C old mid r → r ≡ Full → Lays a (C ++ D) old new Full
+pub lays-first-full : {a : ℕ} {C old mid : List ℕ} (D new : List ℕ) {r : Option ℕ} → Lays a C old mid r → r ≡ None → Lays a (C ++ D) old new None
 lays-first-full {a} {C} D new l q = too_long new l q refl (omega (arith, length-append C D))
 
 -- all words from a place on
@@ -49,7 +52,7 @@ all_from : (p : ℕ) (s : List ℕ) → take (length s - p) (drop p s) ≡ drop 
 all_from p s = take_all (length s - p) (drop p s) (rw length-drop (omega arith))
 
 -- a table stands at the end of a buffer, and nothing was made for it
-stands_at : (a : ℕ) (F old s : List ℕ) (p : ℕ) → a ≤ p → p ≤ length s → drop p s ≡ F → Grows a F old old s (Words p)
+stands_at : (a : ℕ) (F old s : List ℕ) (p : ℕ) → a ≤ p → p ≤ length s → drop p s ≡ F → Grows a F old old s (Some p)
 stands_at a F old s p h k e = record {
   stands = record {
     full = λ q. let z : ◌≡◌ {A = ℕ} 0 1 = cc in absurd (omega arith);
@@ -61,7 +64,7 @@ stands_at a F old s p h k e = record {
 }
 
 -- there is no room for it
-no_room : (a : ℕ) (F old new s : List ℕ) → length s < a + length F → Grows a F old new s Full
+no_room : (a : ℕ) (F old new s : List ℕ) → length s < a + length F → Grows a F old new s None
 no_room a F old new s h = record {
   stands = record {
     full = λ q. h;
@@ -71,14 +74,14 @@ no_room a F old new s h = record {
 }
 
 -- words put before a place: there is no room for them, and they stand before the words from there on
-pub put-up-full : (a p : ℕ) (F old : List ℕ) → a ≤ p → p ≤ length old → p - a < length F → PutUpTo a (F ++ drop p old) old Full
+pub put-up-full : (a p : ℕ) (F old : List ℕ) → a ≤ p → p ≤ length old → p - a < length F → PutUpTo a (F ++ drop p old) old None
 put-up-full a p F old h g k = record {
   full = λ q. rw (length-append, length-drop) (omega arith);
   words = λ first q. let z : ◌≡◌ {A = ℕ} 0 1 = cc in absurd (omega arith);
 }
 
 pub put-up-words : (a p : ℕ) (F old : List ℕ) {new : List ℕ} → new ≡ copied (p - length F) F old → a ≤ p → p ≤ length old → length F ≤ p - a
-    → PutUpTo a (F ++ drop p old) new (Words (p - length F))
+    → PutUpTo a (F ++ drop p old) new (Some (p - length F))
 put-up-words a p F old {new} w h g k =
     let n : ℕ = p - length F in
     let fits : n + length F ≤ length old = omega arith in
@@ -95,15 +98,17 @@ put-up-words a p F old {new} w h g k =
 
 -- the common rows of one row and a table
 one-row : (o w B : List ℕ) → length w ≡ row_length → common_rows_words o w B ≡ common_with_words o (row_of w) B
+unfolding common_rows_words common_with_words
 one-row o w B h =
-    let q : 0 + row_length - 0 ≡ row_length = omega arith in
-    common-rows-next o w B 0 (omega arith)
-    ∙ ap₂ (λ x y. common_with_words o (row_of x) B ++ y) (take_all (0 + row_length - 0) w (omega arith)) (common-rows-end o w B (0 + row_length) (omega arith))
-    ∙ append-nil (common_with_words o (row_of w) B)
+    let none : rows_in (drop row_length w) ≡ [] = rows_none row_length row_of some_words (drop row_length w) (rw length-drop (omega arith)) in
+    let e : rows_in w ≡ row_of w ∷ [] =
+    rows_more row_length row_of some_words w (omega arith) ∙ ap₂ (λ x l. row_of x ∷ l) (take_all row_length w (omega arith)) none in
+    ap (λ N. words_of (common_rows common is_empty (operator.join o) N (rows_in B))) e
+    ∙ ap words_of (append-nil (common_with common is_empty (operator.join o) (row_of w) (rows_in B)))
 
 -- an atom whose match is empty leaves the table as it is
 pub atom-none : (o atom : List ℕ) {a p : ℕ} {old s : List ℕ} {m : Match} {t : Bool} → m ≡ match_of atom → t ≡ is_empty m → t ≡ true → a ≤ p → p ≤ length s
-    → Grows a (join_words o (atom_words atom) (drop p s)) old old s (Words p)
+    → Grows a (join_words o (atom_words atom) (drop p s)) old old s (Some p)
 unfolding atom_words
 atom-none o atom {a} {p} {old} {s} {m} {t} e q h g k =
     let i : is_empty (match_of atom) ≡ true = ap is_empty (sym e) ∙ sym q ∙ h in
@@ -112,7 +117,7 @@ atom-none o atom {a} {p} {old} {s} {m} {t} e q h g k =
     stands_at a (join_words o (atom_words atom) (drop p s)) old s p g k j
 
 -- another is one row
-module _ (o atom : List ℕ) {a : ℕ} (p : ℕ) {old mid : List ℕ} (s : List ℕ) {m : Match} {t : Bool} {y : Action} {w : List ℕ} {r : Made}
+module _ (o atom : List ℕ) {a : ℕ} (p : ℕ) {old mid : List ℕ} (s : List ℕ) {m : Match} {t : Bool} {y : Action} {w : List ℕ} {r : Option ℕ}
     (e : m ≡ match_of atom) (q : t ≡ is_empty m) (h : t ≡ false) (x : y ≡ row_action atom) (u : w ≡ row_words (record { match = m; action = y }))
     (l : Lays a (common_with_words o (row_of w) (take (length s - p) (drop p s)) ++ w) old mid r) where
   is_row : atom_words atom ≡ w
@@ -142,13 +147,13 @@ module _ (o atom : List ℕ) {a : ℕ} (p : ℕ) {old mid : List ℕ} (s : List 
   whole_long : length (join_words o (atom_words atom) (drop p s)) ≡ length added + length (drop p s)
   whole_long = ap length (sym whole) ∙ length-append added (drop p s)
 
-  pub atom-full : (new : List ℕ) → length s ≡ length old → r ≡ Full → Grows a (join_words o (atom_words atom) (drop p s)) old new s Full
+  pub atom-full : (new : List ℕ) → length s ≡ length old → r ≡ None → Grows a (join_words o (atom_words atom) (drop p s)) old new s None
   atom-full new same g =
       let f : length old < a + length added = made-full a added (length old) (sym g ∙ l.answer) in
       let n : length (join_words o (atom_words atom) (drop p s)) ≡ length added + length (drop p s) = whole_long in
       no_room a (join_words o (atom_words atom) (drop p s)) old new s (omega arith)
 
-  pub atom-joined : {n : ℕ} {s' : List ℕ} {z : Made} → r ≡ Words n → PutUpTo a (part a n mid ++ drop p s) s' z
+  pub atom-joined : {n : ℕ} {s' : List ℕ} {z : Option ℕ} → r ≡ Some n → PutUpTo a (part a n mid ++ drop p s) s' z
       → Grows a (join_words o (atom_words atom) (drop p s)) old mid s' z
   atom-joined {n} {s'} {z} g k =
       let f : Fitted a added (length old) n = made-words a added (length old) n (sym g ∙ l.answer) in
@@ -159,74 +164,73 @@ module _ (o atom : List ℕ) {a : ℕ} (p : ℕ) {old mid : List ℕ} (s : List 
         hidden = λ first i W d c. ap (laid a W) v ∙ laid-over a W added old c (omega arith);
       }
 
--- the atoms from the i-th word on: one more, none yet, and all
-own-more : (o atoms : List ℕ) (i : ℕ) → i + row_length ≤ length atoms
-    → own_words o (drop i atoms) ≡ join_words o (atom_words (take row_length (drop i atoms))) (own_words o (drop (i + row_length) atoms))
-unfolding own_words atom_words
-own-more o atoms i h =
-    ap (λ N. words_of (own_rows o N)) (rows_at row_length row_of some_words atoms i h)
-    ∙ sym (join-flat o (kept is_empty (row_of (take row_length (drop i atoms)))) (own_rows o (rows_in (drop (i + row_length) atoms))))
+-- the table of some atoms: with one more before them, of none, and with whole atoms before them
+own-more : (o x given : List ℕ) → length x ≡ row_length → own_words o (x ++ given) ≡ join_words o (atom_words x) (own_words o given)
+unfolding own_words atom_words rows_of
+own-more o x given h =
+    ap (λ rs. words_of (own_rows o (map row_of rs))) (whole-next row_length x given some_words h)
+    ∙ sym (join-flat o (kept is_empty (row_of x)) (own_rows o (rows_in given)))
 
-pub own-start : (o atoms : List ℕ) {a : ℕ} {old s : List ℕ} → a ≤ length s → Grows a (own_words o (drop (length atoms) atoms)) old old s (Words (length s))
+pub own-start : (o : List ℕ) {given : List ℕ} {a : ℕ} {old s : List ℕ} → given ≡ [] → a ≤ length s → Grows a (own_words o given) old old s (Some (length s))
 unfolding own_words
-own-start o atoms {a} {old} {s} h =
-    let n : own_words o (drop (length atoms) atoms) ≡ [] = ap (λ N. words_of (own_rows o N))
-    (rows_end row_length row_of some_words atoms (length atoms) (omega arith)) in
-    stands_at a (own_words o (drop (length atoms) atoms)) old s (length s) h (omega arith) (drop_of_length-le s {i = length s} (omega arith) ∙ sym n)
+own-start o {given} {a} {old} {s} e h =
+    let n : own_words o given ≡ [] = ap (own_words o) e ∙ ap (λ N. words_of (own_rows o N)) (rows_none row_length row_of some_words [] some_words) in
+    stands_at a (own_words o given) old s (length s) h (omega arith) (drop_of_length-le s {i = length s} (omega arith) ∙ sym n)
+
+last-rows : (o : List ℕ) (k : ℕ) (rest given : List ℕ) → length rest ≡ k * row_length → length (own_words o given) ≤ length (own_words o (rest ++ given))
+last-rows o zero rest given h =
+    let e : rest ≡ [] = nil_from_length rest (omega arith) in
+    rw e (omega arith)
+last-rows o (suc k) rest given h =
+    let x : List ℕ = take row_length rest in
+    let r : List ℕ = drop row_length rest in
+    let lx : length x ≡ row_length = length-take-le row_length rest (omega arith) in
+    let lr : length r ≡ k * row_length = rw length-drop (omega arith) in
+    let e : rest ++ given ≡ x ++ (r ++ given) = ap (λ l. l ++ given) (sym (take-append-drop row_length rest)) ∙ append_assoc x r given in
+    let m : length (own_words o (rest ++ given)) ≡ length (join_words o (atom_words x) (own_words o (r ++ given))) =
+    ap (λ l. length (own_words o l)) e ∙ ap length (own-more o x (r ++ given) lx) in
+    omega (arith, m, last-rows o k r given lr, join-length o (atom_words x) (own_words o (r ++ given)))
 
 -- where the table of the last atoms does not fit, nor does the whole
-last-rows : (o atoms : List ℕ) (k : ℕ) → k * row_length ≤ length atoms → length (own_words o (drop (k * row_length) atoms)) ≤ length (own_words o atoms)
-last-rows o atoms zero h = omega arith
-last-rows o atoms (suc k) h =
-    let q : suc k * row_length ≡ k * row_length + row_length = omega arith in
-    let A : List ℕ = atom_words (take row_length (drop (k * row_length) atoms)) in
-    let B : List ℕ = own_words o (drop (k * row_length + row_length) atoms) in
-    let e : length (own_words o (drop (k * row_length) atoms)) ≡ length (join_words o A B) = ap length (own-more o atoms (k * row_length) (omega arith)) in
-    rw q (omega (arith, last-rows o atoms k (omega arith), join-length o A B))
-
-own-hold : (o atoms : List ℕ) (i : ℕ) → i % row_length ≡ 0 → i ≤ length atoms → length (own_words o (drop i atoms)) ≤ length (own_words o atoms)
-own-hold o atoms i h k =
-    let q : i ≡ i / row_length * row_length = omega arith in
-    subst (λ n. length (own_words o (drop n atoms)) ≤ length (own_words o atoms)) (sym q) (last-rows o atoms (i / row_length) (omega arith))
+own-hold : (o rest given : List ℕ) → length rest % row_length ≡ 0 → length (own_words o given) ≤ length (own_words o (rest ++ given))
+own-hold o rest given h = last-rows o (length rest / row_length) rest given (omega arith)
 
 -- equal answers tell the same
-pub grows-case : {a : ℕ} {F old new s : List ℕ} {m n : Made} → m ≡ n → Grows a F old new s m → Grows a F old new s n
+pub grows-case : {a : ℕ} {F old new s : List ℕ} {m n : Option ℕ} → m ≡ n → Grows a F old new s m → Grows a F old new s n
 grows-case {a} {F} {old} {new} {s} q g = subst (Grows a F old new s) q g
 
 -- the steps: one more atom, no room for it, and all atoms joined
-module _ (o atoms : List ℕ) (i : ℕ) {a e : ℕ} {old here new s s' : List ℕ} {m : Made} (h : row_length ≤ i) (k : i ≤ length atoms)
+module _ (o x given : List ℕ) {more : List ℕ} {a e : ℕ} {old here new s s' : List ℕ} {m : Option ℕ} (long : length x ≡ row_length) (parts : more ≡ x ++ given)
     (same : length here ≡ length old)
-    (g : Grows a (own_words o (drop i atoms)) old here s (Words e))
-    (j : Grows a (join_words o (atom_words (take (i - (i - row_length)) (drop (i - row_length) atoms))) (drop e s)) here new s' m) where
-  pub own-step : Grows a (own_words o (drop (i - row_length) atoms)) old new s' m
+    (g : Grows a (own_words o given) old here s (Some e))
+    (j : Grows a (join_words o (atom_words x) (drop e s)) here new s' m) where
+  pub own-step : Grows a (own_words o more) old new s' m
   own-step =
-      let q : i - (i - row_length) ≡ row_length = omega arith in
-      let p : i - row_length + row_length ≡ i = omega arith in
-      let A : List ℕ = atom_words (take row_length (drop (i - row_length) atoms)) in
-      let B : List ℕ = own_words o (drop i atoms) in
-      let W : List ℕ = own_words o (drop (i - row_length) atoms) in
-      let t : W ≡ join_words o A B = own-more o atoms (i - row_length) (omega arith) ∙ ap (λ n. join_words o A (own_words o (drop n atoms))) p in
+      let A : List ℕ = atom_words x in
+      let B : List ℕ = own_words o given in
+      let W : List ℕ = own_words o more in
+      let t : W ≡ join_words o A B = ap (own_words o) parts ∙ own-more o x given long in
       let n : length W ≡ length (join_words o A B) = ap length t in
-      let z : join_words o (atom_words (take (i - (i - row_length)) (drop (i - row_length) atoms))) (drop e s) ≡ W =
-      ap₂ (λ x y. join_words o (atom_words (take x (drop (i - row_length) atoms))) y) q (g.stands.words e refl).2 ∙ sym t in
+      let z : join_words o A (drop e s) ≡ W = ap (join_words o A) (g.stands.words e refl).2 ∙ sym t in
       let j' : Grows a W here new s' m = subst (λ F. Grows a F here new s' m) z j in
       record {
         stands = j'.stands;
         hidden = λ first r F d c. j'.hidden first r F d (omega arith) ∙ g.hidden e refl F (omega (arith, join-length o A B)) c;
       }
 
-  pub own-full : (last : List ℕ) → m ≡ Full → i % row_length ≡ 0 → length s' ≡ length old → Lays a (own_words o atoms) old last Full
-  own-full last q r n =
-      let f : length s' < a + length (own_words o (drop (i - row_length) atoms)) = own-step.stands.full q in
-      lays-full a (own_words o atoms) old last (omega (arith, own-hold o atoms (i - row_length) (omega arith) (omega arith)))
+  pub own-full : (rest last : List ℕ) {atoms : List ℕ} → m ≡ None → length rest % row_length ≡ 0 → rest ++ more ≡ atoms → length s' ≡ length old
+      → Lays a (own_words o atoms) old last None
+  own-full rest last {atoms} q r w n =
+      let f : length s' < a + length (own_words o more) = own-step.stands.full q in
+      let l : length (own_words o (rest ++ more)) ≡ length (own_words o atoms) = ap (λ k. length (own_words o k)) w in
+      lays-full a (own_words o atoms) old last (omega (arith, own-hold o rest more r))
 
-pub own-whole : (o atoms : List ℕ) (i : ℕ) {a e : ℕ} {old here new s : List ℕ} {m : Made} → i % row_length ≡ 0 → i < row_length → length here ≡ length old
-    → Grows a (own_words o (drop i atoms)) old here s (Words e) → Lays a (take (length s - e) (drop e s)) here new m → Lays a (own_words o atoms) old new m
-own-whole o atoms i {a} {e} {old} {here} {new} {s} {m} h k same g l =
-    let q : i ≡ 0 = omega arith in
-    let t : take (length s - e) (drop e s) ≡ own_words o (drop i atoms) = all_from e s ∙ (g.stands.words e refl).2 in
-    let l' : Lays a (own_words o (drop i atoms)) here new m = lays-same t l in
-    lays-same (ap (λ n. own_words o (drop n atoms)) q) (record {
-      answer = l'.answer ∙ ap (made_of a (own_words o (drop i atoms))) same;
-      words = λ c. l'.words (omega arith) ∙ g.hidden e refl (own_words o (drop i atoms)) (omega arith) c;
+pub own-whole : (o : List ℕ) {atoms given : List ℕ} {a e : ℕ} {old here new s : List ℕ} {m : Option ℕ} → given ≡ atoms → length here ≡ length old
+    → Grows a (own_words o given) old here s (Some e) → Lays a (take (length s - e) (drop e s)) here new m → Lays a (own_words o atoms) old new m
+own-whole o {atoms} {given} {a} {e} {old} {here} {new} {s} {m} q same g l =
+    let t : take (length s - e) (drop e s) ≡ own_words o given = all_from e s ∙ (g.stands.words e refl).2 in
+    let l' : Lays a (own_words o given) here new m = lays-same t l in
+    lays-same (ap (own_words o) q) (record {
+      answer = l'.answer ∙ ap (made_of a (own_words o given)) same;
+      words = λ c. l'.words (omega arith) ∙ g.hidden e refl (own_words o given) (omega arith) c;
     })

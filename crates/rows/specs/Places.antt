@@ -4,11 +4,9 @@
 --   Behind, From, Before, Ending   what the functions ask of places
 --   PutUpTo a F                    F stands at the end of a buffer, if there is room for it from the place a on
 --   Grows a F                      the same, with the rows made in another buffer from a on
-use Rattle.std.specs.Prelude.{ℕ, ◌+◌, ◌-◌, ◌%◌, ◌≤◌, ◌<◌, ◌≡◌, List, length, take, drop}
+use Rattle.std.specs.Prelude.{ℕ, ◌+◌, ◌-◌, ◌%◌, ◌≤◌, ◌<◌, ◌≡◌, List, length, take, drop, Option, Some, None}
 use Rattle.words.specs.Words.{laid}
 use Rattle.row.specs.Row.{row_length}
-use Rattle.common.specs.declared.Made.{Made}
-use Rattle.common.specs.declared.Made.TheVariants.{Words, Full}
 
 -- the words from the place a up to e
 abbrev pub part : ℕ → ℕ → List ℕ → List ℕ
@@ -31,13 +29,13 @@ Before start made end t s =
 abbrev pub Ending : ℕ → ℕ → List ℕ → List ℕ → Type 0
 Ending start first t s = (start ≤ first) × (first ≤ length s) × (length s ≡ length t)
 
--- F stands at the end of a buffer, from the answered place on; full where it would start before the place a
-pub record PutUpTo (a : ℕ) (F new : List ℕ) (r : Made) : Type 0 where
-  pub full : r ≡ Full → length new < a + length F
-  pub words : (first : ℕ) → r ≡ Words first → (a ≤ first) × (first ≤ length new) × (drop first new ≡ F)
+-- F stands at the end of a buffer, from the answered place on; none where it would start before the place a
+pub record PutUpTo (a : ℕ) (F new : List ℕ) (r : Option ℕ) : Type 0 where
+  pub full : r ≡ None → length new < a + length F
+  pub words : (first : ℕ) → r ≡ Some first → (a ≤ first) × (first ≤ length new) × (drop first new ≡ F)
 
 -- the same, and the other buffer has changed only where F would be laid at a
-pub record Grows (a : ℕ) (F old new scratch : List ℕ) (r : Made) : Type 0 where
+pub record Grows (a : ℕ) (F old new scratch : List ℕ) (r : Option ℕ) : Type 0 where
   pub stands : PutUpTo a F scratch r
-  pub hidden : (first : ℕ) → r ≡ Words first → (W : List ℕ) → length F ≤ length W → a + length W ≤ length old
+  pub hidden : (first : ℕ) → r ≡ Some first → (W : List ℕ) → length F ≤ length W → a + length W ≤ length old
       → laid a W new ≡ laid a W old

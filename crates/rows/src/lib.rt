@@ -11,7 +11,7 @@ ghost use Rattle.rows.specs.Places.{part, Behind, From, Before, Ending, Grows, P
 ghost use Rattle.rows.specs.Tables.{join_words, atom_words, own_words};
 
 use action::Operator;
-use common::{Made, append, common_rows, common_with};
+use common::{append, common_rows, common_with};
 use flow::{is_empty, read_match};
 use row::{ROW_WORDS, row_action, words_of_row};
 use words::copy;
@@ -25,23 +25,20 @@ pub fn join(
     start: usize,
     middle: usize,
     end: usize,
-) -> Made
+) -> Option<usize>
     requires { Behind start middle end table.old scratch.old }
     ensures { Lays start
         (join_words operator.cells (part start middle table.old) (part middle end table.old))
         table.old table.new result }
 {
     let whole = &*table;
-    let common = common_rows(
+    let made = common_rows(
         operator,
         &whole[start..middle],
         &whole[middle..end],
         scratch,
         start,
-    );
-    let Made::Words(made) = common else {
-        return Made::Full;
-    };
+    )?;
     put_before(table, scratch, start, made, end)
 }
 
@@ -53,42 +50,37 @@ pub fn own_rows(
     table: &mut [u32],
     scratch: &mut [u32],
     start: usize,
-) -> Made
+) -> Option<usize>
     requires { From atoms.now start table.old scratch.old }
     ensures { Lays start (own_words operator.cells atoms.now) table.old
         table.new result }
 {
-    let mut i = atoms.len();
     let mut first = scratch.len();
-    // Scratch from first on is the table of the atoms from word i on; the words before i are whole
-    // atoms.
-    while ROW_WORDS <= i {
-        let from = i - ROW_WORDS;
-        let made = join_atom(operator, &atoms[from..i], table, scratch, start, first);
-        let Made::Words(f) = made else {
-            return Made::Full;
-        };
-        first = f;
-        i = from;
+    // Scratch from first on is the table of the atoms so far.
+    for atom in atoms.rchunks_exact(ROW_WORDS) {
+        first = join_atom(operator, atom, table, scratch, start, first)?;
     }
     append(table, start, &scratch[first..])
 }
 
 // Puts the words at start..made of scratch before those at start..end of the table.
-fn put_before(table: &mut [u32], scratch: &mut [u32], start: usize, made: usize, end: usize) -> Made
+fn put_before(
+    table: &mut [u32],
+    scratch: &mut [u32],
+    start: usize,
+    made: usize,
+    end: usize,
+) -> Option<usize>
     requires { Before start made end table.old scratch.old }
     ensures { Lays start (part start made scratch.old ++ part start end table.old)
         table.old table.new result }
 {
     if made == start {
-        return Made::Words(end);
+        return Some(end);
     }
-    let whole = append(scratch, made, &table[start..end]);
-    let Made::Words(e) = whole else {
-        return Made::Full;
-    };
+    let e = append(scratch, made, &table[start..end])?;
     copy(table, start, &scratch[start..e]);
-    Made::Words(e)
+    Some(e)
 }
 
 // Joins an atom with the table that stands at the end of scratch, from its first word on. Its rows
@@ -101,7 +93,7 @@ fn join_atom(
     scratch: &mut [u32],
     start: usize,
     first: usize,
-) -> Made
+) -> Option<usize>
     requires { Ending start first table.old scratch.old }
     ensures { Grows start
         (join_words operator.cells (atom_words atom.now) (drop first scratch.old))
@@ -109,40 +101,40 @@ fn join_atom(
 {
     let m = read_match(atom);
     if is_empty(m) {
-        return Made::Words(first);
+        return Some(first);
     }
     let row = words_of_row(m, row_action(atom));
-    let made = row_before(operator, &row, &scratch[first..], table, start);
-    let Made::Words(end) = made else {
-        return Made::Full;
-    };
+    let end = row_before(operator, &row, &scratch[first..], table, start)?;
     put_up_to(scratch, start, first, &table[start..end])
 }
 
 // Puts some words before a place, if there is room for them from the start on. Answers where they
 // start.
-fn put_up_to(out: &mut [u32], start: usize, place: usize, words: &[u32]) -> Made
+fn put_up_to(out: &mut [u32], start: usize, place: usize, words: &[u32]) -> Option<usize>
     requires { (start ≤ place) × (place ≤ length out.old) }
     ensures { PutUpTo start (words.now ++ drop place out.old) out.new result }
 {
     if place - start < words.len() {
-        return Made::Full;
+        return None;
     }
     let first = place - words.len();
     copy(out, first, words);
-    Made::Words(first)
+    Some(first)
 }
 
 // The common rows of a row and a table, and then the row.
-fn row_before(operator: Operator, row: &[u32], table: &[u32], out: &mut [u32], at: usize) -> Made
+fn row_before(
+    operator: Operator,
+    row: &[u32],
+    table: &[u32],
+    out: &mut [u32],
+    at: usize,
+) -> Option<usize>
     requires { at ≤ length out.old }
     ensures { Lays at
         (common_with_words operator.cells (row_of row.now) table.now ++ row.now)
         out.old out.new result }
 {
-    let common = common_with(operator, row, table, out, at);
-    let Made::Words(end) = common else {
-        return Made::Full;
-    };
+    let end = common_with(operator, row, table, out, at)?;
     append(out, end, row)
 }

@@ -4,14 +4,14 @@ use Rattle.common.proofs.Going.{lays-ends}
 use Rattle.rows.proofs.Grow.{join-full, join-put}
 use Rattle.rows.proofs.join.Goals as goal
 
-pub returns-in_default : goal.returns-in_default
-returns-in_default c = join-full _ (omega arith) (omega arith) (omega arith) c.common_rows-common.ensures _ c.in_default.is
+pub returns-in_err-made : goal.returns-in_err-made
+returns-in_err-made c = rw c.from_residual.ensures (join-full _ (omega arith) (omega arith) (omega arith) c.common_rows.ensures _ c.in_err-made.was)
 
 pub put_before-requires : goal.put_before-requires
 put_before-requires c =
-    let n = lays-ends c.common_rows-common.ensures c.in-Words.is in
-    (n.0, omega arith, omega (arith, n.1), omega arith, omega (arith, c.common_rows-common.auto.out))
+    let n = lays-ends c.common_rows.ensures c.in_ok-made.was in
+    (n.0, omega arith, omega (arith, n.1), omega arith, omega (arith, c.common_rows.auto.out))
 
 pub returns : goal.returns
 returns c =
-    join-put _ (omega arith) (omega arith) (omega arith) c.common_rows-common.ensures c.in-Words.is c.put_before.ensures
+    join-put _ (omega arith) (omega arith) (omega arith) c.common_rows.ensures c.in_ok-made.was c.put_before.ensures

@@ -8,21 +8,22 @@ pub returns-then-is_empty : goal.returns-then-is_empty
 returns-then-is_empty c =
     atom-none _ _ c.read_match-m.ensures c.is_empty.ensures c.if-is_empty.true c.requires.0 c.requires.1
 
-pub returns-in_default : goal.returns-in_default
-returns-in_default c =
-    atom-full _ _ _ _ c.read_match-m.ensures c.is_empty.ensures c.if-is_empty.false c.row_action.ensures
-    c.words_of_row-row.ensures c.row_before-made.ensures _ (omega (arith, c.requires.2)) c.in_default.is
+pub returns-in_err-end : goal.returns-in_err-end
+returns-in_err-end c =
+    rw c.from_residual.ensures
+    (atom-full _ _ _ _ c.read_match-m.ensures c.is_empty.ensures c.if-is_empty.false c.row_action.ensures
+    c.words_of_row-row.ensures c.row_before.ensures _ (omega (arith, c.requires.2)) c.in_err-end.was)
 
 pub slice_bounds-put_up_to-count : goal.slice_bounds-put_up_to-count
-slice_bounds-put_up_to-count c = omega (arith, lays-ends c.row_before-made.ensures c.in-Words.is)
+slice_bounds-put_up_to-count c = omega (arith, lays-ends c.row_before.ensures c.in_ok-end.was)
 
 pub slice_bounds-put_up_to-start : goal.slice_bounds-put_up_to-start
-slice_bounds-put_up_to-start c = omega (arith, lays-ends c.row_before-made.ensures c.in-Words.is)
+slice_bounds-put_up_to-start c = omega (arith, lays-ends c.row_before.ensures c.in_ok-end.was)
 
 pub slice_bounds-put_up_to-end : goal.slice_bounds-put_up_to-end
-slice_bounds-put_up_to-end c = omega (arith, lays-ends c.row_before-made.ensures c.in-Words.is)
+slice_bounds-put_up_to-end c = omega (arith, lays-ends c.row_before.ensures c.in_ok-end.was)
 
 pub returns : goal.returns
 returns c =
     atom-joined _ _ c.args.first c.args.scratch.now c.read_match-m.ensures c.is_empty.ensures c.if-is_empty.false
-    c.row_action.ensures c.words_of_row-row.ensures c.row_before-made.ensures c.in-Words.is c.put_up_to.ensures
+    c.row_action.ensures c.words_of_row-row.ensures c.row_before.ensures c.in_ok-end.was c.put_up_to.ensures

@@ -1,41 +1,50 @@
 -- A turn of the loop joins one atom with the table behind it; in the end the table is laid into the other buffer.
-use Rattle.std.proofs.Common.{refl, arith}
+use Rattle.std.proofs.Common.{◌∙◌, refl, arith}
+use Rattle.words.proofs.Chunks.{returning, returned, all-given}
+use Rattle.row.specs.Row.{row_length}
 use Rattle.rows.proofs.Own.{own-start, own-step, own-full, own-whole, grows-case}
 use Rattle.rows.proofs.own_rows.Goals as goal
 
-pub loop-i-init : goal.loop-i-init
-loop-i-init c = record {
-  atoms = omega arith;
-  whole = c.requires.0;
-  start = omega (arith, c.requires.1, c.requires.2);
-  first = omega arith;
-  table = refl;
-  scratch = c.requires.2;
-  grown = own-start _ c.args.atoms.now (omega (arith, c.requires.1, c.requires.2));
-}
-
-pub returns-in_default : goal.returns-in_default
-returns-in_default c =
-    let l = c.loop-i.invariant in
-    own-full _ _ _ c.loop-i-test.true l.atoms l.table l.grown c.join_atom-made.ensures _ c.in_default.is l.whole
-    (omega (arith, l.scratch, c.join_atom-made.auto.scratch))
-
-pub loop-i-preserved : goal.loop-i-preserved
-loop-i-preserved c =
-    let l = c.loop-i.invariant in
-    let g = grows-case c.in-Words.is (own-step _ _ _ c.loop-i-test.true l.atoms l.table l.grown c.join_atom-made.ensures) in
-    let n = g.stands.words _ refl in
+pub loop-atom-init : goal.loop-atom-init
+loop-atom-init c =
+    let e = c.rchunks_exact-atom-items.ensures in
+    let r = returning row_length c.args.atoms.now c.rchunks_exact-atom-items.result c.into_iter-atom-iterator.result c.requires.0 e.parts e.remainder_len e.size
+    c.into_iter-atom-iterator.ensures.into_iter_gives in
     record {
-      atoms = omega (arith, l.atoms);
-      whole = omega (arith, l.whole, c.loop-i-test.true);
-      start = n.0;
-      first = n.1;
-      table = omega (arith, l.table, c.join_atom-made.auto.table);
-      scratch = omega (arith, l.scratch, c.join_atom-made.auto.scratch);
+      atoms = r.0;
+      start = omega (arith, c.requires.1, c.requires.2);
+      first = omega arith;
+      table = refl;
+      scratch = c.requires.2;
+      grown = own-start _ r.1 (omega (arith, c.requires.1, c.requires.2));
+    }
+
+pub returns-in_err-first : goal.returns-in_err-first
+returns-in_err-first c =
+    let l = c.loop-atom.invariant in
+    let n = c.in-Some.ensures.steps in
+    let r = returned row_length c.args.atoms.now c.loop-atom.atom-iterator c.next.new.self c.in-Some.atom l.atoms n in
+    rw c.from_residual.ensures
+    (own-full _ c.in-Some.atom.now l.atoms.given (n.2.1 ∙ l.atoms.size) r.1 l.table l.grown c.join_atom.ensures _ _ c.in_err-first.was r.0.whole r.0.parts
+    (omega (arith, l.scratch, c.join_atom.auto.scratch)))
+
+pub loop-atom-preserved : goal.loop-atom-preserved
+loop-atom-preserved c =
+    let l = c.loop-atom.invariant in
+    let n = c.in-Some.ensures.steps in
+    let r = returned row_length c.args.atoms.now c.loop-atom.atom-iterator c.next.new.self c.in-Some.atom l.atoms n in
+    let g = grows-case c.in_ok-first.was (own-step _ c.in-Some.atom.now l.atoms.given (n.2.1 ∙ l.atoms.size) r.1 l.table l.grown c.join_atom.ensures) in
+    let w = g.stands.words _ refl in
+    record {
+      atoms = r.0;
+      start = w.0;
+      first = w.1;
+      table = omega (arith, l.table, c.join_atom.auto.table);
+      scratch = omega (arith, l.scratch, c.join_atom.auto.scratch);
       grown = g;
     }
 
 pub returns : goal.returns
 returns c =
-    let l = c.loop-i.invariant in
-    own-whole _ _ _ l.whole (omega (arith, c.loop-i-test.false)) l.table l.grown c.append.ensures
+    let l = c.loop-atom.invariant in
+    own-whole _ (all-given row_length c.args.atoms.now c.loop-atom.atom-iterator c.next.new.self l.atoms c.in-None.ensures.steps) l.table l.grown c.append.ensures

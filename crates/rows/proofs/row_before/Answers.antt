@@ -4,12 +4,12 @@ use Rattle.rows.proofs.Own.{lays-then, lays-first-full}
 use Rattle.common.proofs.Going.{lays-case, lays-ends}
 use Rattle.rows.proofs.row_before.Goals as goal
 
-pub returns-in_default : goal.returns-in_default
-returns-in_default c = lays-first-full _ _ c.common_with-common.ensures c.in_default.is
+pub returns-in_err-end : goal.returns-in_err-end
+returns-in_err-end c = rw c.from_residual.ensures (lays-first-full _ _ c.common_with.ensures c.in_err-end.was)
 
 pub append-requires : goal.append-requires
 append-requires c =
-    let n = lays-ends c.common_with-common.ensures c.in-Words.is in omega (arith, n.1, c.common_with-common.auto.out)
+    let n = lays-ends c.common_with.ensures c.in_ok-end.was in omega (arith, n.1, c.common_with.auto.out)
 
 pub returns : goal.returns
-returns c = lays-then (lays-case c.in-Words.is c.common_with-common.ensures) c.append.ensures
+returns c = lays-then (lays-case c.in_ok-end.was c.common_with.ensures) c.append.ensures
