@@ -11,11 +11,12 @@ use lib.ListN.{get_or, length, drop}
 use borrow.Author.Tests.{lt-ltb, le-ltb, le-leb, lt-leb}
 use Rattle.words.specs.Records.{records}
 use Rattle.words.proofs.Records.{length-records}
+use Rattle.std.specs.Prelude.{Ok, Err}
 use Rattle.section.specs.Numbers.{operator_length_in, most_atoms, most_children, wrong_cell, wrong_node}
 use Rattle.section.specs.Atom.{right_atom_match, right_atom_action}
 use Rattle.section.specs.Cells.{right_cell_in}
 use Rattle.refusal.specs.Plain.{plain}
-use Rattle.section.specs.Sections.{unless, record_length, least, most, header_fault}
+use Rattle.section.specs.Sections.{Test, unless, record_length, least, most, header_fault}
 use Rattle.section.specs.Sections.{count_fault, cell_fault, cells_fault, atom_fault, node_fault, record_fault, section_fault}
 use Rattle.section.specs.Sections.{inner_of, parent_of, sibling_of, own_of, children_of}
 use Rattle.section.specs.Due.{Present, RightHeader, FirstWrong, RightRecord, record_at, Good, RecordDue, SectionDue, HeaderDue}
@@ -24,8 +25,6 @@ use Rattle.section.specs.declared.Edition.{Edition}
 use Rattle.section.specs.declared.Edition.TheVariants.{First}
 use Rattle.section.specs.declared.Section.{Section}
 use Rattle.section.specs.declared.Section.TheVariants.{Operators, Atoms, Nodes}
-use Rattle.section.specs.declared.Test.{Test}
-use Rattle.section.specs.declared.Test.TheVariants.{Passed, Failed}
 use Rattle.section.proofs.Each.{first-each}
 use Rattle.section.proofs.Passed.{node-fault, fault-node, right-record, present-long, present-fault}
 use Rattle.logic.proofs.Tests.{by-test, by_le}
@@ -50,16 +49,16 @@ true-or-not : (b : Bool) → (b ≡ true) ⊎ (¬ (b ≡ true))
 true-or-not true = inl refl
 true-or-not false = inr (λ e. let z : ◌≡◌ {A = ℕ} 0 1 = cc in omega arith)
 
-unless-failed : (b : Bool) (n at : ℕ) → ¬ (unless b n at ≡ Passed) → unless b n at ≡ Failed (plain n at)
+unless-failed : (b : Bool) (n at : ℕ) → ¬ (unless b n at ≡ Ok tt) → unless b n at ≡ Err (plain n at)
 unless-failed true n at h = absurd (h refl)
 unless-failed false n at h = refl
 
-pub passed-or-not : (t : Test) → (t ≡ Passed) ⊎ (¬ (t ≡ Passed))
-passed-or-not Passed = inl refl
-passed-or-not (Failed x) = inr (λ e. let z : ◌≡◌ {A = ℕ} 0 1 = cc in omega arith)
+pub passed-or-not : (t : Test) → (t ≡ Ok tt) ⊎ (¬ (t ≡ Ok tt))
+passed-or-not (Ok u) = inl refl
+passed-or-not (Err x) = inr (λ e. let z : ◌≡◌ {A = ℕ} 0 1 = cc in omega arith)
 
 -- a wrong record is refused as is due
-record-due : (at : ℕ) (r : List ℕ) {s : Section} {n p : ℕ} → RecordDue at r s n p → length r ≡ record_length s → record_fault s at r ≡ Failed (plain n p)
+record-due : (at : ℕ) (r : List ℕ) {s : Section} {n p : ℕ} → RecordDue at r s n p → length r ≡ record_length s → record_fault s at r ≡ Err (plain n p)
 unfolding cells_fault atom_fault node_fault
 record-due at r (cell {e} {j} w) long =
     first-each 0 (cell_fault e at) 1 0 r j (plain wrong_cell (at + j)) (record {
@@ -97,7 +96,7 @@ not_right at r (node n) h = n h
 -- SECTIONS
 module _ (f : List ℕ) (at : ℕ) (s : Section) where
   -- what is due to a section is what it is refused with
-  pub section-due : {n p : ℕ} → SectionDue f at s n p → section_fault f at s ≡ Failed (plain n p)
+  pub section-due : {n p : ℕ} → SectionDue f at s n p → section_fault f at s ≡ Err (plain n p)
   unfolding section_fault count_fault
   section-due (no-count h) = rw (le-ltb at (length f) h)
   section-due (beyond h (inl g)) = rw (lt-ltb at (length f) h, lt-leb (least s) (get_or f at 0) g)
@@ -139,7 +138,7 @@ module _ (f : List ℕ) (at : ℕ) (s : Section) where
           (first-wrong (λ j. RightRecord s (record_at f at s (get_or f at 0) j)) decide (get_or f at 0))
 
 -- THE HEADER: what is due to it is what it is refused with, and it is right or something is
-pub header-due : (e : Edition) (f : List ℕ) (n at : ℕ) → HeaderDue e f n at → header_fault e f ≡ Failed (plain n at)
+pub header-due : (e : Edition) (f : List ℕ) (n at : ℕ) → HeaderDue e f n at → header_fault e f ≡ Err (plain n at)
 header-due First f n at d = absurd d
 
 pub header-cases : (e : Edition) (f : List ℕ) → RightHeader e f ⊎ ((n : ℕ) × (at : ℕ) × HeaderDue e f n at)

@@ -7,19 +7,18 @@ use mathlib.Core.List.{List, [], ◌∷◌}
 use mathlib.Core.Logic.{◌⊎◌, inl, inr, ⊎_elim}
 use lib.ListN.{get_or, length}
 use Rattle.refusal.specs.declared.Refusal.{Refusal}
-use Rattle.section.specs.Sections.{◌else◌, each}
-use Rattle.section.specs.declared.Test.{Test}
-use Rattle.section.specs.declared.Test.TheVariants.{Passed, Failed}
+use Rattle.std.specs.Prelude.{Ok, Err}
+use Rattle.section.specs.Sections.{Test, ◌else◌, each}
 
 -- both of two tests pass
-pub else-both : (x y : Test) → ◌else◌ x y ≡ Passed → (x ≡ Passed) × (y ≡ Passed)
-else-both Passed y e = (refl, e)
-else-both (Failed r) y e = (e, cc)
+pub else-both : (x y : Test) → ◌else◌ x y ≡ Ok tt → (x ≡ Ok tt) × (y ≡ Ok tt)
+else-both (Ok u) y e = (refl, e)
+else-both (Err r) y e = (e, cc)
 
 -- the first of two tests fails, or it passes and the second fails
-else-cases : (x y : Test) (r : Refusal) → ◌else◌ x y ≡ Failed r → (x ≡ Failed r) ⊎ ((x ≡ Passed) × (y ≡ Failed r))
-else-cases Passed y r e = inr (refl, e)
-else-cases (Failed s) y r e = inl e
+else-cases : (x y : Test) (r : Refusal) → ◌else◌ x y ≡ Err r → (x ≡ Err r) ⊎ ((x ≡ Ok tt) × (y ≡ Err r))
+else-cases (Ok u) y r e = inr (refl, e)
+else-cases (Err s) y r e = inl e
 
 -- A LOOP'S TURN: the members ms are still to come, and their first fault is the whole search's answer w
 module _ {X : Type 0} (t : ℕ → X → Test) (at k : ℕ) {ms : List X} {w : Test} (inv : each t at k ms ≡ w) where
@@ -28,16 +27,12 @@ module _ {X : Type 0} (t : ℕ → X → Test) (at k : ℕ) {ms : List X} {w : T
     next = sym inv ∙ rw (s, e)
 
     -- a fault that is found is the answer
-    pub hit : {r : Refusal} → y ≡ Failed r → y ≡ w
+    pub hit : {r : Refusal} → y ≡ Err r → y ≡ w
     hit g = cc next
 
     -- and where none is, the search goes on
-    pub miss : y ≡ Passed → each t (at + k) k xs ≡ w
+    pub miss : y ≡ Ok tt → each t (at + k) k xs ≡ w
     miss g = cc next
-
-  -- where no member is left, none was found
-  pub done : ms ≡ [] → Passed ≡ w
-  done s = rw s at inv
 
 -- BY PLACE, with d for a member that is not there
 module _ {X : Type 0} (d : X) (t : ℕ → X → Test) (k : ℕ) where
@@ -55,50 +50,50 @@ module _ {X : Type 0} (d : X) (t : ℕ → X → Test) (k : ℕ) where
   sooner at x xs i y h p q = let g : k * suc i ≡ k + k * i = omega arith in h p (omega arith)
 
   -- all pass exactly when each does
-  pub each-passed : (at : ℕ) (xs : List X) → each t at k xs ≡ Passed → (i : ℕ) → i < length xs → Comes at xs i Passed
+  pub each-passed : (at : ℕ) (xs : List X) → each t at k xs ≡ Ok tt → (i : ℕ) → i < length xs → Comes at xs i (Ok tt)
   each-passed at [] e i h = absurd (omega arith)
-  each-passed at (x ∷ xs) e zero h = here at x xs Passed (else-both (t at x) (each t (at + k) k xs) e).0
+  each-passed at (x ∷ xs) e zero h = here at x xs (Ok tt) (else-both (t at x) (each t (at + k) k xs) e).0
   each-passed at (x ∷ xs) e (suc i) h =
-      later at x xs i Passed (each-passed (at + k) xs (else-both (t at x) (each t (at + k) k xs) e).1 i (omega arith))
+      later at x xs i (Ok tt) (each-passed (at + k) xs (else-both (t at x) (each t (at + k) k xs) e).1 i (omega arith))
 
-  pub passed-each : (at : ℕ) (xs : List X) → ((i : ℕ) → i < length xs → Comes at xs i Passed) → each t at k xs ≡ Passed
+  pub passed-each : (at : ℕ) (xs : List X) → ((i : ℕ) → i < length xs → Comes at xs i (Ok tt)) → each t at k xs ≡ Ok tt
   passed-each at [] h = refl
   passed-each at (x ∷ xs) h =
-      rw (h 0 (omega arith) at (omega arith)) (passed-each (at + k) xs (λ i l. sooner at x xs i Passed (h (suc i) (omega arith))))
+      rw (h 0 (omega arith) at (omega arith)) (passed-each (at + k) xs (λ i l. sooner at x xs i (Ok tt) (h (suc i) (omega arith))))
 
   -- the member i is the first that fails, with r
   pub record FirstFault (at : ℕ) (xs : List X) (i : ℕ) (r : Refusal) : Type 0 where
     pub within : i < length xs
-    pub before : (j : ℕ) → j < i → Comes at xs j Passed
-    pub fails : Comes at xs i (Failed r)
+    pub before : (j : ℕ) → j < i → Comes at xs j (Ok tt)
+    pub fails : Comes at xs i (Err r)
 
   -- THE FIRST THAT FAILS IS THE ANSWER
-  pub first-each : (at : ℕ) (xs : List X) (i : ℕ) (r : Refusal) → FirstFault at xs i r → each t at k xs ≡ Failed r
+  pub first-each : (at : ℕ) (xs : List X) (i : ℕ) (r : Refusal) → FirstFault at xs i r → each t at k xs ≡ Err r
   first-each at [] i r f = absurd (omega (arith, f.within))
   first-each at (x ∷ xs) zero r f = rw (f.fails at (omega arith))
   first-each at (x ∷ xs) (suc i) r f =
       rw (f.before 0 (omega arith) at (omega arith))
       (first-each (at + k) xs i r (record {
         within = omega (arith, f.within);
-        before = λ j l. sooner at x xs j Passed (f.before (suc j) (omega arith));
-        fails = sooner at x xs i (Failed r) f.fails;
+        before = λ j l. sooner at x xs j (Ok tt) (f.before (suc j) (omega arith));
+        fails = sooner at x xs i (Err r) f.fails;
       }))
 
-  pub each_first : (at : ℕ) (xs : List X) (r : Refusal) → each t at k xs ≡ Failed r → (i : ℕ) × FirstFault at xs i r
+  pub each_first : (at : ℕ) (xs : List X) (r : Refusal) → each t at k xs ≡ Err r → (i : ℕ) × FirstFault at xs i r
   each_first at [] r e = let z : ◌≡◌ {A = ℕ} 0 1 = cc in absurd (omega arith)
   each_first at (x ∷ xs) r e = ⊎_elim
-      (λ h. (0, record { within = omega arith; before = λ j l. absurd (omega arith); fails = here at x xs (Failed r) h }))
+      (λ h. (0, record { within = omega arith; before = λ j l. absurd (omega arith); fails = here at x xs (Err r) h }))
       (λ h. let f = each_first (at + k) xs r h.1 in (
         suc f.0,
         record {
           within = omega (arith, f.1.within);
           before = earlier at x xs f.0 h.0 f.1.before;
-          fails = later at x xs f.0 (Failed r) f.1.fails;
+          fails = later at x xs f.0 (Err r) f.1.fails;
         },
       ))
       (else-cases (t at x) (each t (at + k) k xs) r e)
     where
-      earlier : (at : ℕ) (x : X) (xs : List X) (i : ℕ) → t at x ≡ Passed → ((j : ℕ) → j < i → Comes (at + k) xs j Passed)
-          → (j : ℕ) → j < suc i → Comes at (x ∷ xs) j Passed
-      earlier at x xs i e h zero l = here at x xs Passed e
-      earlier at x xs i e h (suc j) l = later at x xs j Passed (h j (omega arith))
+      earlier : (at : ℕ) (x : X) (xs : List X) (i : ℕ) → t at x ≡ Ok tt → ((j : ℕ) → j < i → Comes (at + k) xs j (Ok tt))
+          → (j : ℕ) → j < suc i → Comes at (x ∷ xs) j (Ok tt)
+      earlier at x xs i e h zero l = here at x xs (Ok tt) e
+      earlier at x xs i e h (suc j) l = later at x xs j (Ok tt) (h j (omega arith))

@@ -11,7 +11,7 @@ use Rattle.section.specs.Sections.{record_length}
 use Rattle.section.specs.declared.Edition.{Edition}
 use Rattle.section.specs.declared.Edition.TheVariants.{First}
 use Rattle.section.specs.declared.Section.{Section}
-use Rattle.section.specs.declared.Section.TheVariants.{Atoms}
+use Rattle.section.specs.declared.Section.TheVariants.{Operators, Atoms, Nodes}
 
 pub match-first : (r : List ℕ) → right_row_match (take row_length r) ≡ right_row_match r
 unfolding right_row_match
@@ -38,3 +38,9 @@ row-long e r p h = let g : atom_length_in First ≤ length r = rw p at h in sym 
 
 pub atom-long : (s : Section) (e : Edition) (n : ℕ) → s ≡ Atoms e → record_length s ≤ n → atom_length_in e ≤ n
 atom-long s e n p h = rw p at h
+
+-- a record has a word at least
+pub record-some : (s : Section) (n : ℕ) → n ≡ record_length s → 0 < n
+record-some (Operators First) n e = omega arith
+record-some (Atoms First) n e = omega arith
+record-some (Nodes k) n e = omega arith

@@ -10,6 +10,7 @@ use lib.Seq.{length-take-le}
 use borrow.Author.Tests.{ltb-true, lt-ltb, leb-true, le-leb}
 use Rattle.words.specs.Records.{records}
 use Rattle.words.proofs.Records.{length-records}
+use Rattle.std.specs.Prelude.{Ok}
 use Rattle.section.specs.Numbers.{header_length_in, most_atoms, most_children, wrong_match, wrong_action, wrong_cell, wrong_node}
 use Rattle.section.specs.Sections.{unless, each, cell_fault, cells_fault, atom_fault, node_fault, record_length, least, most, header_fault, count_fault}
 use Rattle.section.specs.Sections.{record_fault, section_fault, inner_of, parent_of, sibling_of, own_of, children_of}
@@ -20,7 +21,6 @@ use Rattle.section.specs.declared.Edition.{Edition}
 use Rattle.section.specs.declared.Edition.TheVariants.{First}
 use Rattle.section.specs.declared.Section.{Section}
 use Rattle.section.specs.declared.Section.TheVariants.{Operators, Atoms, Nodes}
-use Rattle.section.specs.declared.Test.TheVariants.{Passed}
 use Rattle.section.proofs.Each.{else-both, each-passed, passed-each}
 use Rattle.section.proofs.Records.{unless-true, Section-passed, section-passed}
 
@@ -35,39 +35,39 @@ record-long (suc n) k ws (suc i) h l =
     record-long n k (drop k ws) i (rw length-drop (omega arith)) (omega arith)
 
 -- the cells of an operator
-cells-fault : (ed : Edition) (at : ℕ) (cs : List ℕ) → cells_fault ed at cs ≡ Passed → (j : ℕ) → j < length cs → right_cell_in ed j (get_or cs j 0) ≡ true
+cells-fault : (ed : Edition) (at : ℕ) (cs : List ℕ) → cells_fault ed at cs ≡ Ok tt → (j : ℕ) → j < length cs → right_cell_in ed j (get_or cs j 0) ≡ true
 unfolding cells_fault
 cells-fault ed at cs e j h =
     unless-true (right_cell_in ed j (get_or cs j 0)) wrong_cell (at + j) (each-passed 0 (cell_fault ed at) 1 0 cs e j h j (omega arith))
 
-fault-cells : (ed : Edition) (at : ℕ) (cs : List ℕ) → ((j : ℕ) → j < length cs → right_cell_in ed j (get_or cs j 0) ≡ true) → cells_fault ed at cs ≡ Passed
+fault-cells : (ed : Edition) (at : ℕ) (cs : List ℕ) → ((j : ℕ) → j < length cs → right_cell_in ed j (get_or cs j 0) ≡ true) → cells_fault ed at cs ≡ Ok tt
 unfolding cells_fault
 fault-cells ed at cs h = passed-each 0 (cell_fault ed at) 1 0 cs (λ j l p q. let z : p ≡ j = omega arith in rw (z, h j l))
 
 -- an atom's match and action
-atom-fault : (e : Edition) (at : ℕ) (r : List ℕ) → atom_fault e at r ≡ Passed → (right_atom_match e r ≡ true) × (right_atom_action e r ≡ true)
+atom-fault : (e : Edition) (at : ℕ) (r : List ℕ) → atom_fault e at r ≡ Ok tt → (right_atom_match e r ≡ true) × (right_atom_action e r ≡ true)
 unfolding atom_fault
 atom-fault e at r p =
     let h = else-both (unless (right_atom_match e r) wrong_match at) (unless (right_atom_action e r) wrong_action at) p in
     (unless-true (right_atom_match e r) wrong_match at h.0, unless-true (right_atom_action e r) wrong_action at h.1)
 
-fault-atom : (e : Edition) (at : ℕ) (r : List ℕ) → right_atom_match e r ≡ true → right_atom_action e r ≡ true → atom_fault e at r ≡ Passed
+fault-atom : (e : Edition) (at : ℕ) (r : List ℕ) → right_atom_match e r ≡ true → right_atom_action e r ≡ true → atom_fault e at r ≡ Ok tt
 unfolding atom_fault
 fault-atom e at r p q = rw (p, q)
 
 -- the header passes exactly when the file begins with it
-pub header-passed : (e : Edition) (f : List ℕ) → header_fault e f ≡ Passed → RightHeader e f
+pub header-passed : (e : Edition) (f : List ℕ) → header_fault e f ≡ Ok tt → RightHeader e f
 header-passed First f p = refl
 
-pub passed-header : (e : Edition) (f : List ℕ) → RightHeader e f → header_fault e f ≡ Passed
+pub passed-header : (e : Edition) (f : List ℕ) → RightHeader e f → header_fault e f ≡ Ok tt
 passed-header First f p = refl
 
 -- and then the first count may follow
-pub header-long : (e : Edition) (f : List ℕ) → header_fault e f ≡ Passed → header_length_in e ≤ length f
+pub header-long : (e : Edition) (f : List ℕ) → header_fault e f ≡ Ok tt → header_length_in e ≤ length f
 header-long First f p = omega arith
 
 -- a node's indexes and counts
-pub node-fault : (a at : ℕ) (r : List ℕ) → node_fault a at r ≡ Passed → RightNode a r
+pub node-fault : (a at : ℕ) (r : List ℕ) → node_fault a at r ≡ Ok tt → RightNode a r
 unfolding node_fault
 node-fault a at r e =
     let t : Bool = ltb (inner_of r) a && ltb (parent_of r) a && ltb (sibling_of r) a && leb (own_of r) most_atoms && leb (children_of r) most_children in
@@ -80,7 +80,7 @@ node-fault a at r e =
       children = leb-true _ _ h.1;
     }
 
-pub fault-node : (a at : ℕ) (r : List ℕ) → RightNode a r → node_fault a at r ≡ Passed
+pub fault-node : (a at : ℕ) (r : List ℕ) → RightNode a r → node_fault a at r ≡ Ok tt
 unfolding node_fault
 fault-node a at r n =
     rw (
@@ -92,12 +92,12 @@ fault-node a at r n =
     )
 
 -- a record of a section passes exactly when it is right
-record-right : (s : Section) (at : ℕ) (r : List ℕ) → length r ≡ record_length s → record_fault s at r ≡ Passed → RightRecord s r
+record-right : (s : Section) (at : ℕ) (r : List ℕ) → length r ≡ record_length s → record_fault s at r ≡ Ok tt → RightRecord s r
 record-right (Operators e) at r long g = λ j h. cells-fault e at r g j (omega arith)
 record-right (Atoms e) at r long g = atom-fault e at r g
 record-right (Nodes a) at r long e = node-fault a at r e
 
-pub right-record : (s : Section) (at : ℕ) (r : List ℕ) → length r ≡ record_length s → RightRecord s r → record_fault s at r ≡ Passed
+pub right-record : (s : Section) (at : ℕ) (r : List ℕ) → length r ≡ record_length s → RightRecord s r → record_fault s at r ≡ Ok tt
 right-record (Operators e) at r long h = fault-cells e at r (λ j g. h j (omega arith))
 right-record (Atoms e) at r long h = fault-atom e at r h.0 h.1
 right-record (Nodes a) at r long h = fault-node a at r h
@@ -116,13 +116,13 @@ module _ (f : List ℕ) (at : ℕ) (s : Section) (n : ℕ) where
       (rw (le-leb (at + 1 + record_length s * n) (length f) p.whole))
 
   -- A SECTION passes exactly when it is good
-  pub good-passed : Good f at s n → section_fault f at s ≡ Passed
+  pub good-passed : Good f at s n → section_fault f at s ≡ Ok tt
   good-passed g =
       present-fault g.present
       ∙ passed-each [] (record_fault s) (record_length s) (at + 1) (records n (record_length s) (drop (at + 1) f))
       (λ i l p q. let h : i < n = rw length-records at l in right-record s p (record_at f at s n i) (present-long g.present i h) (g.right i h))
 
-  pub passed-good : get_or f at 0 ≡ n → section_fault f at s ≡ Passed → Good f at s n
+  pub passed-good : get_or f at 0 ≡ n → section_fault f at s ≡ Ok tt → Good f at s n
   passed-good c e =
       let w : Section-passed f at s = section-passed f at s e in
       let whole : at + 1 + record_length s * n ≤ length f = rw c at w.whole in

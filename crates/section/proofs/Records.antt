@@ -1,24 +1,20 @@
 -- A section: the records and the cells that a loop has left, and what a passed section shows. Assumes nothing.
 use Prim.Native.Nat.{ℕ, zero, suc, ◌+◌, ◌*◌, ◌-◌, ◌≤◌, ◌<◌}
 use native.Mathlib.Omega.{arith}
-use native.Mathlib.Numerals.{add-one}
 use mathlib.Core.Path.{◌≡◌, refl, sym, ◌∙◌}
 use mathlib.Core.Bool.{Bool, true, false, ◌&&◌}
-use mathlib.Core.List.{List, ◌∷◌}
+use mathlib.Core.List.{List}
 use lib.Dec.{leb, ltb}
-use lib.ListN.{get_or, length, drop}
-use lib.Seq.{drop-cons}
+use lib.ListN.{get_or, length, take, drop, length-drop}
 use borrow.Author.Tests.{leb-true, ltb-true}
 use Rattle.words.specs.Records.{records}
+use Rattle.words.proofs.Chunks.{whole, whole-part}
+use Rattle.std.specs.Prelude.{Ok}
 use Rattle.section.specs.Numbers.{short, wrong_count}
-use Rattle.section.specs.Sections.{unless, ◌else◌, each, record_length, least, most, count_fault, record_fault, behind, section_fault}
-use Rattle.section.specs.declared.Edition.TheVariants.{First}
-use Rattle.refusal.specs.declared.Refusal.{Refusal}
+use Rattle.section.specs.Sections.{Test, unless, ◌else◌, each, record_length, least, most, count_fault, record_fault, behind, section_fault}
 use Rattle.section.specs.declared.Section.{Section}
-use Rattle.section.specs.declared.Section.TheVariants.{Operators, Atoms, Nodes}
-use Rattle.section.specs.declared.Test.{Test}
-use Rattle.section.specs.declared.Test.TheVariants.{Passed, Failed}
 use Rattle.section.proofs.Each.{else-both}
+use Rattle.section.proofs.Lengths.{record-some}
 use Rattle.logic.proofs.Tests.{and_left, and_right}
 
 -- where one record at least is left, it fits, and so do the others
@@ -33,12 +29,8 @@ fits k from (suc m) n h g =
     let e : k * suc m ≡ k + k * m = omega arith in
     record { one = omega arith; others = rw d (omega arith) }
 
--- where cells are left, the first of them and the others
-pub cells-next : (j : ℕ) (cs : List ℕ) → j < length cs → drop j cs ≡ get_or cs j 0 ∷ drop (j + 1) cs
-cells-next j cs h = rw (add-one j) (drop-cons cs j 0 h)
-
 -- what a passed test shows
-pub unless-true : (b : Bool) (n at : ℕ) → unless b n at ≡ Passed → b ≡ true
+pub unless-true : (b : Bool) (n at : ℕ) → unless b n at ≡ Ok tt → b ≡ true
 unless-true true n at e = refl
 unless-true false n at e = cc
 
@@ -48,7 +40,7 @@ pub record Counted (f : List ℕ) (at : ℕ) (s : Section) : Type 0 where
   pub few : least s ≤ get_or f at 0
   pub many : get_or f at 0 ≤ most s
 
-pub counted : (f : List ℕ) (at : ℕ) (s : Section) → count_fault f at s ≡ Passed → Counted f at s
+pub counted : (f : List ℕ) (at : ℕ) (s : Section) → count_fault f at s ≡ Ok tt → Counted f at s
 unfolding count_fault
 counted f at s e =
     let n : ℕ = get_or f at 0 in
@@ -60,22 +52,13 @@ counted f at s e =
       many = leb-true n (most s) (and_right (leb (least s) n) (leb n (most s)) k);
     }
 
--- more words than any section has
-abbrev pub section_limit : ℕ
-section_limit = 16384
-
-pub section-small : (s : Section) (n : ℕ) → n ≤ most s → record_length s * n ≤ section_limit
-section-small (Operators First) n h = omega arith
-section-small (Atoms First) n h = omega arith
-section-small (Nodes k) n h = omega arith
-
 -- a section that passes: its count, its whole length and its records
 pub record Section-passed (f : List ℕ) (at : ℕ) (s : Section) : Type 0 where
   pub count : Counted f at s
   pub whole : at + 1 + record_length s * get_or f at 0 ≤ length f
-  pub all : each (record_fault s) (at + 1) (record_length s) (records (get_or f at 0) (record_length s) (drop (at + 1) f)) ≡ Passed
+  pub all : each (record_fault s) (at + 1) (record_length s) (records (get_or f at 0) (record_length s) (drop (at + 1) f)) ≡ Ok tt
 
-pub section-passed : (f : List ℕ) (at : ℕ) (s : Section) → section_fault f at s ≡ Passed → Section-passed f at s
+pub section-passed : (f : List ℕ) (at : ℕ) (s : Section) → section_fault f at s ≡ Ok tt → Section-passed f at s
 unfolding section_fault
 section-passed f at s e =
     let k : ℕ = record_length s in
@@ -90,34 +73,20 @@ section-passed f at s e =
       all = g.1;
     }
 
--- the ways through a section, as the code has it: a count n that is the file's word, and an end x
-module _ (f : List ℕ) (at : ℕ) (s : Section) (t : Test) (e : t ≡ count_fault f at s) where
-  pub count-fails : (r : Refusal) → t ≡ Failed r → t ≡ section_fault f at s
-  unfolding section_fault
-  count-fails r g = rw (← e, g)
-
-  module _ (passes : t ≡ Passed) (n m : ℕ) (q : n ≡ m) (w : m ≡ get_or f at 0) where
-    pub words-few : behind at s n ≤ at + 1 + section_limit
-    words-few = rw (q, w) (omega (arith, section-small s (get_or f at 0) (counted f at s (sym e ∙ passes)).many))
-
-    module _ (x : ℕ) (p : x ≡ behind at s n) (y : Test) (d : y ≡ unless (leb x (length f)) short (length f)) where
-      present : y ≡ unless (leb (behind at s (get_or f at 0)) (length f)) short (length f)
-      present = d ∙ rw (p, q, w)
-
-      pub section-short : (r : Refusal) → y ≡ Failed r → y ≡ section_fault f at s
-      unfolding section_fault
-      section-short r g = rw (← e, passes, ← present, g)
-
-      pub section-whole : y ≡ Passed → behind at s n ≤ length f
-      section-whole g = leb-true _ _ (unless-true (leb (behind at s n) (length f)) short (length f) (rw (← p) (sym d ∙ g)))
-
-      pub section-records : (z : Test) → y ≡ Passed
-          → z ≡ each (record_fault s) (at + 1) (record_length s) (records n (record_length s) (drop (at + 1) f)) → z ≡ section_fault f at s
-      unfolding section_fault
-      section-records z g h = rw (← e, passes, ← present, g) (h ∙ rw (q, w))
+-- what a section comes to whose count passes and whose records are all there: that of the words behind the count
+pub section-records : (f : List ℕ) (at : ℕ) (s : Section) (n end : ℕ) → n ≡ get_or f at 0 → end ≡ behind at s n
+    → count_fault f at s ≡ Ok tt → unless (leb end (length f)) short (length f) ≡ Ok tt
+    → each (record_fault s) (at + 1) (record_length s) (whole (record_length s) (take (end - (at + 1)) (drop (at + 1) f))) ≡ section_fault f at s
+unfolding section_fault
+section-records f at s n end q p c d =
+    let k : ℕ = record_length s in
+    let there : end ≤ length f = leb-true end (length f) (unless-true _ short (length f) d) in
+    let w : end - (at + 1) ≡ k * n = omega (arith, p) in
+    let few : k * n ≤ length (drop (at + 1) f) = rw length-drop (omega (arith, p)) in
+    rw (w, whole-part k n (drop (at + 1) f) (record-some s k refl) few, c, ← q, ← p, d)
 
 -- what a caller learns of a count n, the file's word, where the section passed
-pub section-bounds : (f : List ℕ) (at : ℕ) (s : Section) (x : Test) → x ≡ section_fault f at s → x ≡ Passed → (n m : ℕ) → n ≡ m → m ≡ get_or f at 0
+pub section-bounds : (f : List ℕ) (at : ℕ) (s : Section) (x : Test) → x ≡ section_fault f at s → x ≡ Ok tt → (n m : ℕ) → n ≡ m → m ≡ get_or f at 0
     → (n ≤ most s) × (behind at s n ≤ length f)
 section-bounds f at s x e g n m p q =
     let h : Section-passed f at s = section-passed f at s (sym e ∙ g) in

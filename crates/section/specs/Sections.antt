@@ -1,6 +1,7 @@
 -- What the sections of a policy file are refused with, for every list of words: the count, then the whole section, then
 -- its records in order. See docs/FORMAT.md, "The policy file" and "Numbers a caller can get back".
 --
+--   Test                   what a test comes to: nothing, or a refusal
 --   unless, _else_         a refusal where a test is not met; the first of two
 --   each                   the first refusal of records, cells or operators in order
 --   record_length, least, most   the words of a section's records; the fewest and the most that it may have
@@ -10,7 +11,7 @@
 --   behind                 where a section ends: the next one's count stands there
 --   section_fault           the count, then the whole section (1), then its records in order
 --   Reaches                a file reaches to a place, and its operators are there
-use Rattle.std.specs.Prelude.{ℕ, ◌+◌, ◌*◌, ◌≤◌, Bool, cond, ◌&&◌, List, [], ◌∷◌, leb, ltb, get_or, length, drop}
+use Rattle.std.specs.Prelude.{ℕ, ◌+◌, ◌*◌, ◌≤◌, Bool, cond, ◌&&◌, List, [], ◌∷◌, Result, Ok, Err, leb, ltb, get_or, length, drop}
 use Rattle.words.specs.Records.{records}
 use Rattle.refusal.specs.Plain.{plain}
 use Rattle.section.specs.Numbers.{operator_length_in, atom_length_in, node_length}
@@ -22,21 +23,24 @@ use Rattle.section.specs.declared.Edition.{Edition}
 use Rattle.section.specs.declared.Edition.TheVariants.{First}
 use Rattle.section.specs.declared.Section.{Section}
 use Rattle.section.specs.declared.Section.TheVariants.{Operators, Atoms, Nodes}
-use Rattle.section.specs.declared.Test.{Test}
-use Rattle.section.specs.declared.Test.TheVariants.{Passed, Failed}
+use Rattle.refusal.specs.declared.Refusal.{Refusal}
+
+-- what a test comes to: nothing, or a refusal
+abbrev pub Test : Type 0
+Test = Result (Unit {0}) Refusal
 
 -- the refusal n at a place, where a test is not met
 abbrev pub unless : Bool → ℕ → ℕ → Test
-unless b n at = cond b Passed (Failed (plain n at))
+unless b n at = cond b (Ok tt) (Err (plain n at))
 
 -- the first of two refusals
 abbrev pub ◌else◌ : Test → Test → Test
-◌else◌ Passed y = y
-◌else◌ (Failed r) y = Failed r
+◌else◌ (Ok u) y = y
+◌else◌ (Err r) y = Err r
 
 -- the first refusal of members, such as records, that stand k apart from a place on
 abbrev pub each : {X : Type 0} → (ℕ → X → Test) → ℕ → ℕ → List X → Test
-each t at k [] = Passed
+each t at k [] = Ok tt
 each t at k (x ∷ xs) = ◌else◌ (t at x) (each t (at + k) k xs)
 
 -- the words of a section's records
@@ -59,7 +63,7 @@ most (Nodes n) = most_nodes
 
 -- the header of an edition: the first has none
 abbrev pub header_fault : Edition → List ℕ → Test
-header_fault First f = Passed
+header_fault First f = Ok tt
 
 -- the count of a section is there, and within its limits
 unfoldable pub count_fault : List ℕ → ℕ → Section → Test

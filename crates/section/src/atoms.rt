@@ -5,17 +5,17 @@ ghost use Rattle.section.specs.Atom.{right_atom_match, right_atom_action};
 ghost use Rattle.section.specs.Sections.{atom_fault};
 
 use crate::sections::unless;
-use crate::{ATOM_WORDS, Edition, Test, WRONG_ACTION, WRONG_MATCH};
+use crate::{ATOM_WORDS, Edition, WRONG_ACTION, WRONG_MATCH};
+use refusal::Refusal;
 use row::{right_row_action, right_row_match};
 
 // A wrong match, or else a wrong action.
-pub(crate) fn atom_fault(atom: &[u32], at: usize, edition: Edition) -> Test
+#[tactic(auto, unfolding(crate::specs::Sections::atom_fault))]
+pub(crate) fn atom_fault(atom: &[u32], at: usize, edition: Edition) -> Result<(), Refusal>
     requires { atom_length_in edition ≤ length atom.now }
     ensures { result ≡ atom_fault edition at atom.now }
 {
-    if !right_match_in(atom, edition) {
-        return unless(false, WRONG_MATCH, at);
-    }
+    unless(right_match_in(atom, edition), WRONG_MATCH, at)?;
     unless(right_action_in(atom, edition), WRONG_ACTION, at)
 }
 

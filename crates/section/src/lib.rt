@@ -7,7 +7,6 @@ pub use crate::operators::operator_in;
 pub use crate::places::{behind, header_words, operator_words};
 pub use crate::sections::{header_fault, section_fault, unless, wide};
 use action::CELLS;
-use refusal::Refusal;
 use row::ROW_WORDS;
 
 mod atoms;
@@ -69,13 +68,6 @@ pub const NO_TREE: u32 = 8;
 pub const WRONG_SUM: u32 = 9;
 
 pub const LAW_BROKEN: u32 = 10;
-
-// What a stage of the reading finds.
-#[derive(Clone, Copy)]
-pub enum Test {
-    Passed,
-    Failed(Refusal),
-}
 
 // The editions of the file format.
 #[derive(Clone, Copy)]

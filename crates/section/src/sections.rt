@@ -1,17 +1,17 @@
 // One section of a policy file: its count, that all of it is there, and its records in order.
-ghost use Rattle.std.specs.Prelude.{◌≡◌, ◌+◌, ◌*◌, ◌≤◌, ◌<◌, ◌^◌, length, drop};
+ghost use Rattle.std.specs.Prelude.{◌≡◌, ◌+◌, ◌/◌, ◌≤◌, ◌<◌, ◌^◌, length};
 ghost use Rattle.words.specs.Records.{records};
-ghost use Rattle.section.specs.Sections.{record_length, least, most, unless, ◌else◌, each};
+ghost use Rattle.section.specs.Sections.{record_length, least, most, unless, each};
 ghost use Rattle.section.specs.Sections.{header_fault, count_fault, cells_fault, node_fault};
 ghost use Rattle.section.specs.Sections.{record_fault, section_fault};
 
 use crate::operators::right_cell_in;
 use crate::places::{behind, record_words};
 use crate::{
-    CHILDREN, Edition, INNER, OWN, PARENT, SHORT, SIBLING, Section, Test, WRONG_CELL, WRONG_COUNT,
+    CHILDREN, Edition, INNER, OWN, PARENT, SHORT, SIBLING, Section, WRONG_CELL, WRONG_COUNT,
     WRONG_NODE, atoms,
 };
-use refusal::plain;
+use refusal::{Refusal, plain};
 use words::word;
 
 // How many records a section may have.
@@ -25,66 +25,53 @@ pub const MOST_NODES: u32 = 256;
 const MOST_CHILDREN: u32 = 255;
 
 // The first fault of the section whose count stands at a place.
-pub fn section_fault(file: &[u32], at: usize, section: Section) -> Test
+#[tactic(auto, unfolding(crate::specs::Sections::section_fault))]
+pub fn section_fault(file: &[u32], at: usize, section: Section) -> Result<(), Refusal>
     requires { at ≤ length file.now }
     ensures { result ≡ section_fault file.now at section }
 {
-    let counted = count_fault(file, at, section);
-    if let Test::Failed(_) = counted {
-        return counted;
-    }
-    let count = wide(word(file, at));
-    let end = behind(at, section, count);
-    let there = unless(end <= file.len(), SHORT, file.len());
-    if let Test::Failed(_) = there {
-        return there;
-    }
-    records_fault(file, at + 1, count, section)
+    count_fault(file, at, section)?;
+    let end = behind(at, section, wide(word(file, at)));
+    unless(end <= file.len(), SHORT, file.len())?;
+    records_fault(&file[at + 1..end], at + 1, section)
 }
 
 // Whether a count is there and within its limits.
-fn count_fault(file: &[u32], at: usize, section: Section) -> Test
+#[tactic(auto, unfolding(crate::specs::Sections::count_fault))]
+fn count_fault(file: &[u32], at: usize, section: Section) -> Result<(), Refusal>
     ensures { result ≡ count_fault file.now at section }
 {
+    unless(at < file.len(), SHORT, file.len())?;
     let count = word(file, at);
-    let there = unless(at < file.len(), SHORT, file.len());
     let good = (least(section) <= count) & (count <= most(section));
-    otherwise(there, unless(good, WRONG_COUNT, at))
+    unless(good, WRONG_COUNT, at)
 }
 
 // The header of a file of an edition.
-pub fn header_fault(file: &[u32], edition: Edition) -> Test
+pub fn header_fault(file: &[u32], edition: Edition) -> Result<(), Refusal>
     ensures { result ≡ header_fault edition file.now }
 {
     match edition {
-        Edition::First => Test::Passed,
+        Edition::First => Ok(()),
     }
 }
 
-// The first fault of some records that stand one behind the other.
-fn records_fault(file: &[u32], at: usize, count: usize, section: Section) -> Test
-    requires { at + record_length section * count ≤ length file.now }
+// The first fault of some records that stand one behind the other, from a place of the file on.
+fn records_fault(words: &[u32], at: usize, section: Section) -> Result<(), Refusal>
+    requires { at + length words.now < 2 ^ 64 }
     ensures { result ≡ each (record_fault section) at (record_length section)
-        (records count (record_length section) (drop at file.now)) }
+        (records (length words.now / record_length section) (record_length section) words.now) }
 {
     let step = record_words(section);
-    let mut from = at;
-    let mut left = count;
-    // No record before from has a fault; the others, left of them, stand from from on.
-    while 0 < left {
-        let end = from + step;
-        let found = record_fault(&file[from..end], from, section);
-        if let Test::Failed(_) = found {
-            return found;
-        }
-        from = end;
-        left -= 1;
+    // No record before record i has a fault.
+    for (i, record) in words.chunks_exact(step).enumerate() {
+        record_fault(record, at + step * i, section)?;
     }
-    Test::Passed
+    Ok(())
 }
 
 // The fault of one record, whose first word stands at a place of the file.
-fn record_fault(words: &[u32], at: usize, section: Section) -> Test
+fn record_fault(words: &[u32], at: usize, section: Section) -> Result<(), Refusal>
     requires { (at + length words.now < 2 ^ 64) × (record_length section ≤ length words.now) }
     ensures { result ≡ record_fault section at words.now }
 {
@@ -96,21 +83,19 @@ fn record_fault(words: &[u32], at: usize, section: Section) -> Test
 }
 
 // The first wrong cell of an operator.
-fn cells_fault(operator: &[u32], at: usize, edition: Edition) -> Test
+#[tactic(auto, unfolding(crate::specs::Sections::cells_fault))]
+fn cells_fault(operator: &[u32], at: usize, edition: Edition) -> Result<(), Refusal>
     requires { at + length operator.now < 2 ^ 64 }
     ensures { result ≡ cells_fault edition at operator.now }
 {
-    for j in 0..operator.len() {
-        let found = unless(right_cell_in(j, operator[j], edition), WRONG_CELL, at + j);
-        if let Test::Failed(_) = found {
-            return found;
-        }
+    for (j, code) in operator.iter().enumerate() {
+        unless(right_cell_in(j, *code, edition), WRONG_CELL, at + j)?;
     }
-    Test::Passed
+    Ok(())
 }
 
 // An operator index that is too large, or a count.
-fn node_fault(node: &[u32], at: usize, operators: usize) -> Test
+fn node_fault(node: &[u32], at: usize, operators: usize) -> Result<(), Refusal>
     ensures { result ≡ node_fault operators at node.now }
 {
     let inner = wide(word(node, INNER));
@@ -152,22 +137,13 @@ fn most(section: Section) -> u32
 }
 
 // A refusal that names no law, where a test is not met.
-pub fn unless(good: bool, number: u32, place: usize) -> Test
+pub fn unless(good: bool, number: u32, place: usize) -> Result<(), Refusal>
     ensures { result ≡ unless good number place }
 {
     if good {
-        return Test::Passed;
-    }
-    Test::Failed(plain(number, place))
-}
-
-// The first of two faults.
-fn otherwise(a: Test, b: Test) -> Test
-    ensures { result ≡ ◌else◌ a b }
-{
-    match a {
-        Test::Passed => b,
-        Test::Failed(_) => a,
+        Ok(())
+    } else {
+        Err(plain(number, place))
     }
 }
 

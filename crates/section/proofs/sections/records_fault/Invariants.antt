@@ -1,15 +1,12 @@
--- The records that are left stand in the file, and their first fault is that of all.
-use Rattle.std.proofs.Common.{◌≡◌, ◌+◌, ◌*◌, ◌≤◌, length, drop}
-use Rattle.words.specs.Records.{records}
-use Rattle.section.specs.Sections.{each, record_length, record_fault}
+-- The first fault of the records that the iterator still has to give is that of all.
+use Rattle.std.proofs.Common.{◌≡◌, ◌+◌, ◌*◌}
+use Rattle.words.proofs.Chunks.{whole, left, Going}
+use Rattle.section.specs.Sections.{each, record_fault}
 use Rattle.section.proofs.sections.records_fault.Given as goal
 
-abbrev pub invariant-loop-left : goal.invariant-loop-left
-invariant-loop-left l = record {
-  there : l.from + l.step * l.left ≤ length l.file;
-  same : each (record_fault l.section) l.from l.step (records l.left l.step (drop l.from l.file))
-      ≡ each (record_fault l.section) l.at (record_length l.section) (records l.count (record_length l.section) (drop l.at l.file));
+abbrev pub invariant-loop-i : goal.invariant-loop-i
+invariant-loop-i l = record {
+  going : Going l.step l.words l.i-iterator;
+  same : each (record_fault l.section) (l.at + l.step * l.i-iterator.count) l.step (left l.step l.i-iterator.iter)
+      ≡ each (record_fault l.section) l.at l.step (whole l.step l.words);
 }
-
-abbrev pub decreases-loop-left : goal.decreases-loop-left
-decreases-loop-left l = l.left
