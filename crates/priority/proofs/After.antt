@@ -24,8 +24,9 @@ use Rattle.flow.specs.Match.{meets, overlap}
 use Rattle.flow.proofs.Laws.{overlap-exactly, meets-overlap}
 use Rattle.action.specs.declared.Action.TheVariants.{DontCare}
 use Rattle.table.specs.Table.{row_count, past, check_of, RightTable}
-use Rattle.table.specs.declared.Checked.{Checked}
-use Rattle.table.specs.declared.Checked.TheVariants.{Rows, Wrong}
+use Rattle.std.specs.Prelude.{Result, Ok, Err}
+use Rattle.refusal.specs.Plain.{fault}
+use Rattle.refusal.specs.declared.Fault.{Fault}
 use Rattle.table.specs.Scan.{scan_action}
 use Rattle.table.proofs.Tables.{length-rows, right-row-at, check-exactly}
 use Rattle.table.proofs.Scans.{scan-found}
@@ -33,8 +34,7 @@ use Rattle.priority.specs.Numbering.{short_buffer, over, levels_of, priorities_o
 use Rattle.priority.specs.Numbering.{count, priority, link}
 use Rattle.priority.specs.Theorems.{AnswerCounts, EarlierHigher, PrioritiesUsed, FewestNumbers, ChainForces}
 use Rattle.priority.specs.Theorems.{SwitchScans, SwitchObeys, WordsStay, RefusedStays}
-use Rattle.priority.specs.declared.Numbered.TheVariants.{Priorities, Refused}
-use Rattle.priority.proofs.Whole.{levels-many, levels-few, priorities-many}
+use Rattle.priority.proofs.Whole.{counting, levels-many, levels-few, priorities-many}
 use Rattle.row.specs.Row.{rows_in}
 
 -- rows of a right table overlap exactly where some packet in range matches both
@@ -54,7 +54,7 @@ module _ (ws : List ℕ) where
   numbers-right = priorities-right (over ws) (row_count ws)
 
 module _ (ws ps cs : List ℕ) (r : Ready ws ps cs) where
-  answered : number_of ws (length ps) (length cs) ≡ Priorities (level_count (levels_of ws))
+  answered : number_of ws (length ps) (length cs) ≡ counting (level_count (levels_of ws))
   unfolding number_of
   answered =
       rw ((check-exactly ws (row_count ws)).1 (r.right, refl), le-leb (row_count ws) (length ps) r.priorities, le-leb (row_count ws) (length cs) r.chain)
@@ -96,24 +96,24 @@ module _ (ws ps cs : List ℕ) (r : Ready ws ps cs) where
       rw (priority-is i l, priority-is j (omega arith)) (numbers-right ws j i h l o)
 
 -- where the answer is a count, the table is right and the buffers are long enough
-pub number-ready : (ws ps cs : List ℕ) (l : ℕ) → number_of ws (length ps) (length cs) ≡ Priorities l → Ready ws ps cs
+pub number-ready : (ws ps cs : List ℕ) (l : ℕ) → number_of ws (length ps) (length cs) ≡ counting l → Ready ws ps cs
 unfolding number_of
 number-ready ws ps cs l = from (check_of ws) refl
   where
-    from : (x : Checked) → check_of ws ≡ x → numbered x (length ps) (length cs) (level_count (levels_of ws)) ≡ Priorities l → Ready ws ps cs
-    from (Rows n) e =
+    from : (x : Result ℕ Fault) → check_of ws ≡ x → numbered x (length ps) (length cs) (level_count (levels_of ws)) ≡ counting l → Ready ws ps cs
+    from (Ok n) e =
         let t : RightTable ws × (n ≡ row_count ws) = (check-exactly ws n).0 e in
         by-test (leb n (length ps) && leb n (length cs))
         (λ b q.
         let h = simp and-eq-true_iff at b in
         record { right = t.0; priorities = omega (arith, t.1, leb-true n (length ps) h.0); chain = omega (arith, t.1, leb-true n (length cs) h.1) })
         (λ b q.
-        let q' : Refused short_buffer 0 ≡ Priorities l = rw b at q in
+        let q' : Err (fault short_buffer 0) ≡ counting l = rw b at q in
         let z : ◌≡◌ {A = ℕ} 0 1 = cc in absurd (omega arith))
-    from (Wrong n i) e = λ q. let z : ◌≡◌ {A = ℕ} 0 1 = cc in absurd (omega arith)
+    from (Err f) e = λ q. let z : ◌≡◌ {A = ℕ} 0 1 = cc in absurd (omega arith)
 
 pub answer-counts : AnswerCounts
-answer-counts ws ps cs r = answered ws ps cs r ∙ ap Priorities (sym (counted ws ps cs r))
+answer-counts ws ps cs r = answered ws ps cs r ∙ ap counting (sym (counted ws ps cs r))
 
 pub earlier-higher : EarlierHigher
 earlier-higher ws ps cs r j i h l s =
@@ -175,4 +175,4 @@ words-stay ws ps cs r = (
 
 pub refused-stays : RefusedStays
 unfolding priorities_after chain_after
-refused-stays ws ps cs n i e = rw e (refl, refl)
+refused-stays ws ps cs f e = rw e (refl, refl)

@@ -68,8 +68,22 @@ linking-turn ws ls l₀ l count (suc k) at at' l' g h e d =
           ∙ g.ahead;
     })
 
+-- its place is stored already
+pub record Linked (ws ls l₀ l : List ℕ) (count k at : ℕ) : Type 0 where
+  pub before : List ℕ
+  pub link : Linking ws ls l₀ before count k at
+  pub is : l ≡ set before k at
+
+-- one step back, which is stored then
+pub linked-turn : (ws ls l₀ l : List ℕ) (count k at at' : ℕ) (l' : List ℕ) → Linked ws ls l₀ l count k at → 0 < k
+    → at' ≡ step_back (over ws) ls at (k - 1) → l' ≡ set l (k - 1) at' → Linked ws ls l₀ l' count (k - 1) at'
+linked-turn ws ls l₀ l count k at at' l' g h d e = record {
+  before = l;
+  link = linking-turn ws ls l₀ g.before count k at at' l g.link h g.is d;
+  is = e;
+}
+
 -- the start of the chain is stored last
-pub linking-end : (ws ls l₀ l : List ℕ) (count k at : ℕ) (l' : List ℕ) → Linking ws ls l₀ l count k at → k ≤ 0 → l' ≡ set l 0 at
-    → l' ≡ laid 0 (chain_under (over ws) ls count) l₀
-linking-end ws ls l₀ l count zero at l' g h e = e ∙ sym (laid_one 0 at l) ∙ g.ahead
-linking-end ws ls l₀ l count (suc k) at l' g h e = absurd (omega arith)
+pub linked-end : (ws ls l₀ l : List ℕ) (count k at : ℕ) → Linked ws ls l₀ l count k at → k ≤ 0 → l ≡ laid 0 (chain_under (over ws) ls count) l₀
+linked-end ws ls l₀ l count zero at g h = g.is ∙ sym (laid_one 0 at g.before) ∙ g.link.ahead
+linked-end ws ls l₀ l count (suc k) at g h = absurd (omega arith)

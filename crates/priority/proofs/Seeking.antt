@@ -2,13 +2,17 @@
 use Prim.Native.Nat.{ℕ, zero, suc, ◌+◌, ◌-◌, ◌≤◌, ◌<◌}
 use native.Mathlib.Omega.{arith}
 use native.Mathlib.Numerals.{add-one}
-use mathlib.Core.Path.{◌≡◌, sym, ◌∙◌}
+use mathlib.Core.Path.{◌≡◌, refl, sym, ap, ◌∙◌}
 use mathlib.Core.Bool.{Bool, true, false, cond, ◌&&◌}
-use mathlib.Core.List.{List}
-use lib.Dec.{eqb}
-use lib.ListN.{get_or}
+use mathlib.Core.List.{List, ◌∷◌}
+use lib.Dec.{eqb, ltb}
+use lib.ListN.{length, get_or}
+use borrow.Author.Tests.{ltb-false}
+use Rattle.std.specs.List.{position, position_or_len}
+use Rattle.std.specs.Option.{unwrap_or}
+use Rattle.std.proofs.lemmas.List.Recursion.{is_position_or_len}
 use Rattle.logic.proofs.Tests.{by-test}
-use Rattle.theory.specs.Number.{seek, overlaps_at}
+use Rattle.theory.specs.Number.{seek, at_level, first_of_level, overlaps_at}
 use Rattle.flow.specs.Match.{overlap}
 use Rattle.flow.specs.declared.Match.{Match}
 use Rattle.table.specs.Table.{past}
@@ -44,3 +48,27 @@ pub step-test : (ws ls : List ℕ) (i l j : ℕ) (m : Match) → m ≡ (get_or (
     → b ≡ (overlap (get_or (rows_in ws) j past).match m && eqb (get_or ls j 0) l) → overlaps_at (over ws) ls i l j ≡ b
 unfolding over
 step-test ws ls i l j m e b d = sym (rw e at d)
+
+-- the search among the places of a list, as `position` makes it
+seek-suc : (test : ℕ → Bool) (n at : ℕ) → seek test n (suc at) ≡ suc (seek (λ j. test (suc j)) n at)
+seek-suc test zero at = refl
+seek-suc test (suc n) at = by-test (test (suc at)) (λ t. rw t) (λ t. rw t (seek-suc test n (suc at)))
+
+seek-list : (test : ℕ → Bool) (ls : List ℕ) → seek (λ j. test (get_or ls j 0)) (length ls) 0 ≡ position_or_len test ls
+seek-list test ls = is_position_or_len (λ l. seek (λ j. test (get_or l j 0)) (length l) 0) test refl step ls
+  where
+    step : (x : ℕ) (l : List ℕ)
+        → cond (test x) 0 (seek (λ j. test (get_or (x ∷ l) j 0)) (length l) 1) ≡ cond (test x) 0 (1 + seek (λ j. test (get_or l j 0)) (length l) 0)
+    step x l =
+        let e : seek (λ j. test (get_or (x ∷ l) j 0)) (length l) 1 ≡ 1 + seek (λ j. test (get_or l j 0)) (length l) 0 =
+        omega (arith, seek-suc (λ j. test (get_or (x ∷ l) j 0)) (length l) 0) in
+        ap (cond (test x) 0) e
+
+pub first-position : (ls : List ℕ) (l : ℕ) → unwrap_or (position (λ x. eqb x l) ls) (length ls) ≡ first_of_level ls l
+first-position ls l =
+    let n : ℕ = position_or_len (λ x. eqb x l) ls in
+    let found : first_of_level ls l ≡ n = seek-list (λ x. eqb x l) ls in
+    let most : first_of_level ls l ≤ 0 + length ls = seek-within (at_level ls l) (length ls) 0 in
+    by-test (ltb n (length ls))
+    (λ t. rw t (sym found))
+    (λ t. let h : length ls ≤ n = ltb-false n (length ls) t in rw t (omega arith))

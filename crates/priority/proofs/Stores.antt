@@ -1,11 +1,11 @@
 -- Words stored one behind the other over a buffer: one word more, from the front or before what is laid. Assumes nothing.
-use Prim.Native.Nat.{ℕ, zero, suc, ◌+◌, ◌≤◌, ◌<◌}
+use Prim.Native.Nat.{ℕ, zero, suc, ◌+◌, ◌<◌}
 use native.Mathlib.Omega.{arith}
 use native.Mathlib.Numerals.{add-one}
 use mathlib.Core.Path.{◌≡◌, refl, sym, ap, ◌∙◌}
-use mathlib.Core.List.{List, [], ◌∷◌, ◌++◌, map, append-nil}
-use lib.ListN.{length, get_or, take, drop, set, length-append, length-map, length-set, drop_of_length-le}
-use lib.Seq.{drop-cons, set_at, set_split, append_snoc, take_all, length-take-le, get_or_at, drop_at}
+use mathlib.Core.List.{List, [], ◌∷◌, ◌++◌, map}
+use lib.ListN.{length, get_or, take, drop, set, length-append, length-map, length-set}
+use lib.Seq.{drop-cons, set_at, set_split, append_snoc, length-take-le, get_or_at, drop_at}
 use Rattle.words.specs.Words.{laid}
 use Rattle.words.proofs.Laid.{laid-front}
 
@@ -21,7 +21,7 @@ map-suc f [] i h = absurd (omega arith)
 map-suc f (x ∷ l) zero h = refl
 map-suc f (x ∷ l) (suc i) h = ap (λ r. f x ∷ r) (map-suc f l i (omega arith))
 
--- the loop that sends each word of a buffer through a function: the word that comes next, a turn, and the end
+-- the loop that sends each word of a buffer through a function: the word that comes next, and a turn
 module _ (f : ℕ → ℕ) (l₀ l : List ℕ) (i : ℕ) (inv : l ≡ map f (take i l₀) ++ drop i l₀) (same : length l ≡ length l₀) where
   module _ (h : i < length l) where
     done : length (map f (take i l₀)) ≡ i
@@ -37,13 +37,6 @@ module _ (f : ℕ → ℕ) (l₀ l : List ℕ) (i : ℕ) (inv : l ≡ map f (tak
         ∙ ap (λ x. set x i (f (get_or l₀ i 0))) inv
         ∙ store-next (map f (take i l₀)) l₀ i (f (get_or l₀ i 0)) done (omega arith)
         ∙ ap (λ x. x ++ drop (i + 1) l₀) (sym (map-suc f l₀ i (omega arith)) ∙ ap (λ k. map f (take k l₀)) (sym (add-one i)))
-
-  pub word_end : length l ≤ i → l ≡ map f l₀
-  word_end h =
-      inv
-      ∙ ap (λ x. map f x ++ drop i l₀) (take_all i l₀ (omega arith))
-      ∙ ap (λ x. map f l₀ ++ x) (drop_of_length-le l₀ {i = i} (omega arith))
-      ∙ append-nil (map f l₀)
 
 -- the last of some words may be stored before the others
 pub laid-last : (F l : List ℕ) (n v : ℕ) → length F ≡ n → n < length l → laid 0 F (set l n v) ≡ laid 0 (F ++ (v ∷ [])) l

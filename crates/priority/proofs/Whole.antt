@@ -12,11 +12,11 @@ use Rattle.words.specs.Words.{laid}
 use Rattle.theory.specs.Number.{level_count, chain_under}
 use Rattle.theory.proofs.Levels.{level-below, length-levels}
 use Rattle.table.specs.Table.{row_count, check_of, RightTable}
-use Rattle.table.specs.declared.Checked.{Checked}
-use Rattle.table.specs.declared.Checked.TheVariants.{Rows, Wrong}
+use Rattle.std.specs.Prelude.{Result, Ok, Err}
+use Rattle.refusal.specs.Plain.{fault}
+use Rattle.refusal.specs.declared.Fault.{Fault}
 use Rattle.table.proofs.Tables.{check-exactly}
 use Rattle.priority.specs.Numbering.{short_buffer, over, levels_of, priorities_of, chain_of, number_of, priorities_after, chain_after, Answered}
-use Rattle.priority.specs.declared.Numbered.TheVariants.{Priorities, Refused}
 use Rattle.priority.proofs.Back.{count-few}
 use Rattle.words.proofs.Laid.{laid-front}
 
@@ -53,21 +53,21 @@ module _ (ws ls : List ℕ) (count : ℕ) (e : count ≡ level_count (levels_of 
   pub stored-chain : (l l₀ : List ℕ) → l ≡ laid 0 (chain_under (over ws) ls count) l₀ → l ≡ laid 0 (chain_of ws) l₀
   stored-chain l l₀ h = h ∙ ap₂ (λ n k. laid 0 (chain_under (over ws) k n) l₀) e d
 
--- a table that is not right
-pub wrong-table : (ws ps cs : List ℕ) (x : Checked) → x ≡ check_of ws → (n i : ℕ) → x ≡ Wrong n i → Answered ws ps cs (Refused n i) ps cs
-unfolding number_of priorities_after chain_after
-wrong-table ws ps cs x e n i d = rw (← e, d) (refl, refl, refl)
+-- an answer of n
+abbrev pub counting : ℕ → Result ℕ Fault
+counting n = Ok n
 
--- a right table, and its row count
-pub right-table : (ws : List ℕ) (x : Checked) → x ≡ check_of ws → (n : ℕ) → x ≡ Rows n → RightTable ws × (n ≡ row_count ws)
-right-table ws x e n d = (check-exactly ws n).0 (sym e ∙ d)
+-- a table that is not right
+pub wrong-table : (ws ps cs : List ℕ) (f : Fault) → check_of ws ≡ Err f → Answered ws ps cs (Err f) ps cs
+unfolding number_of priorities_after chain_after
+wrong-table ws ps cs f d = rw d (refl, refl, refl)
 
 module _ (ws ps cs : List ℕ) (n : ℕ) (t : RightTable ws × (n ≡ row_count ws)) where
-  passed : check_of ws ≡ Rows n
+  passed : check_of ws ≡ Ok n
   passed = (check-exactly ws n).1 t
 
   -- a buffer is too short
-  pub short-buffer : (leb n (length ps) && leb n (length cs)) ≡ false → Answered ws ps cs (Refused short_buffer 0) ps cs
+  pub short-buffer : (leb n (length ps) && leb n (length cs)) ≡ false → Answered ws ps cs (Err (fault short_buffer 0)) ps cs
   unfolding number_of priorities_after chain_after
   short-buffer h = rw (passed, h) (refl, refl, refl)
 
@@ -80,11 +80,11 @@ module _ (ws ps cs : List ℕ) (n : ℕ) (t : RightTable ws × (n ≡ row_count 
     )
 
     pub numbered-right : (count : ℕ) → count ≡ level_count (levels_of ws) → (out : List ℕ) → out ≡ priorities_of ws
-        → (cs' : List ℕ) → cs' ≡ laid 0 (chain_of ws) cs → Answered ws ps cs (Priorities count) (out ++ drop n ps) cs'
+        → (cs' : List ℕ) → cs' ≡ laid 0 (chain_of ws) cs → Answered ws ps cs (Ok count) (out ++ drop n ps) cs'
     unfolding number_of priorities_after chain_after
     numbered-right count e out d cs' f =
         rw (passed, h) (
-          ap Priorities e,
+          ap counting e,
           ap (λ x. x ++ drop n ps) d ∙ sym (laid-front (priorities_of ws) ps n (priorities-many ws ∙ sym t.1) long-enough.0),
           f,
         )

@@ -19,16 +19,14 @@
 --   Ready                         a right table, and neither buffer is shorter than its row count
 --   Shared ws j i                 some packet in range matches rows j and i
 --   count, priority i, link k     how many priorities, row i's priority and the k-th place of the chain afterwards
-use Rattle.std.specs.Prelude.{ℕ, ◌≤◌, ◌<◌, ◌≡◌, Bool, cond, ◌&&◌, List, leb, length, get_or}
+use Rattle.std.specs.Prelude.{ℕ, ◌≤◌, ◌<◌, ◌≡◌, Bool, cond, ◌&&◌, List, Result, Ok, Err, leb, length, get_or}
 use Rattle.words.specs.Words.{laid}
 use Rattle.theory.specs.Number.{rows_overlap, levels, level_count, priorities, chain}
 use Rattle.flow.specs.Match.{overlap, SharedPacket}
 use Rattle.row.specs.Row.{most_rows, rows_in}
 use Rattle.table.specs.Table.{row_count, past, check_of, RightTable}
-use Rattle.table.specs.declared.Checked.{Checked}
-use Rattle.table.specs.declared.Checked.TheVariants.{Rows, Wrong}
-use Rattle.priority.specs.declared.Numbered.{Numbered}
-use Rattle.priority.specs.declared.Numbered.TheVariants.{Priorities, Refused}
+use Rattle.refusal.specs.Plain.{fault}
+use Rattle.refusal.specs.declared.Fault.{Fault}
 
 -- the number of a buffer that is shorter than the row count
 abbrev pub short_buffer : ℕ
@@ -51,18 +49,18 @@ abbrev pub chain_of : List ℕ → List ℕ
 chain_of ws = chain (over ws) (levels_of ws)
 
 -- the answer of l priorities, where the table is right and neither buffer is shorter than the row count
-abbrev pub numbered : Checked → ℕ → ℕ → ℕ → Numbered
-numbered (Rows n) p c l = cond (leb n p && leb n c) (Priorities l) (Refused short_buffer 0)
-numbered (Wrong n i) p c l = Refused n i
+abbrev pub numbered : Result ℕ Fault → ℕ → ℕ → ℕ → Result ℕ Fault
+numbered (Ok n) p c l = cond (leb n p && leb n c) (Ok l) (Err (fault short_buffer 0))
+numbered (Err f) p c l = Err f
 
 -- the answer, for buffers of p and c words
-unfoldable pub number_of : List ℕ → ℕ → ℕ → Numbered
+unfoldable pub number_of : List ℕ → ℕ → ℕ → Result ℕ Fault
 number_of ws p c = numbered (check_of ws) p c (level_count (levels_of ws))
 
 -- words at the start of a buffer, unless the answer is a refusal; every other word stays
-abbrev pub stored : Numbered → List ℕ → List ℕ → List ℕ
-stored (Priorities l) F buffer = laid 0 F buffer
-stored (Refused n i) F buffer = buffer
+abbrev pub stored : Result ℕ Fault → List ℕ → List ℕ → List ℕ
+stored (Ok l) F buffer = laid 0 F buffer
+stored (Err f) F buffer = buffer
 
 -- the priority buffer afterwards
 unfoldable pub priorities_after : List ℕ → List ℕ → List ℕ → List ℕ
@@ -73,7 +71,7 @@ unfoldable pub chain_after : List ℕ → List ℕ → List ℕ → List ℕ
 chain_after ws ps cs = stored (number_of ws (length ps) (length cs)) (chain_of ws) cs
 
 -- what the numbering leaves: the answer, the priority buffer and the chain buffer
-abbrev pub Answered : List ℕ → List ℕ → List ℕ → Numbered → List ℕ → List ℕ → Type 0
+abbrev pub Answered : List ℕ → List ℕ → List ℕ → Result ℕ Fault → List ℕ → List ℕ → Type 0
 Answered ws ps cs r ps' cs' =
     (r ≡ number_of ws (length ps) (length cs)) × (ps' ≡ priorities_after ws ps cs) × (cs' ≡ chain_after ws ps cs)
 
@@ -92,19 +90,19 @@ ChainFits ws ls count cs = (length ls ≡ row_count ws) × (count ≡ level_coun
     × (count ≤ length cs)
 
 -- the number of an answer, 0 where it is no refusal
-abbrev pub answer_number : Numbered → ℕ
-answer_number (Priorities l) = 0
-answer_number (Refused n i) = n
+abbrev pub answer_number : Result ℕ Fault → ℕ
+answer_number (Ok l) = 0
+answer_number (Err f) = f.number
 
 -- the place of an answer, 0 where it is no refusal
-abbrev pub answer_place : Numbered → ℕ
-answer_place (Priorities l) = 0
-answer_place (Refused n i) = i
+abbrev pub answer_place : Result ℕ Fault → ℕ
+answer_place (Ok l) = 0
+answer_place (Err f) = f.place
 
 -- how many priorities an answer counts, 0 where it is a refusal
-abbrev pub answer_count : Numbered → ℕ
-answer_count (Priorities l) = l
-answer_count (Refused n i) = 0
+abbrev pub answer_count : Result ℕ Fault → ℕ
+answer_count (Ok l) = l
+answer_count (Err f) = 0
 
 -- a right table, and neither buffer is shorter than its row count
 pub record Ready (ws ps cs : List ℕ) : Type 0 where

@@ -11,7 +11,7 @@
 --   SwitchObeys           where some row matches, some row is obeyed
 --   WordsStay             the words beyond the priorities and beyond the chain stay, and so do the lengths
 --   RefusedStays          where the answer is a refusal, both buffers stay
-use Rattle.std.specs.Prelude.{ℕ, suc, ◌≤◌, ◌<◌, ◌≡◌, true, List, length, get_or, take, drop}
+use Rattle.std.specs.Prelude.{ℕ, suc, ◌≤◌, ◌<◌, ◌≡◌, true, List, Ok, Err, length, get_or, take, drop}
 use Rattle.theory.specs.Rows.{matches_at}
 use Rattle.theory.specs.Number.{Chained, distinct, Obeyed}
 use Rattle.flow.specs.Packet.{packet_of, right_packet_words}
@@ -21,12 +21,12 @@ use Rattle.table.specs.Table.{row_count, past}
 use Rattle.table.specs.Scan.{scan_of, scan_action}
 use Rattle.priority.specs.Numbering.{over, levels_of, number_of, priorities_after, chain_after, Ready}
 use Rattle.priority.specs.Numbering.{Shared, count, priority, link}
-use Rattle.priority.specs.declared.Numbered.TheVariants.{Priorities, Refused}
+use Rattle.refusal.specs.declared.Fault.{Fault}
 use Rattle.row.specs.Row.{rows_in}
 
 -- the answer is a count
 abbrev pub AnswerCounts : Type 0
-AnswerCounts = (ws ps cs : List ℕ) → Ready ws ps cs → number_of ws (length ps) (length cs) ≡ Priorities (count ws ps cs)
+AnswerCounts = (ws ps cs : List ℕ) → Ready ws ps cs → number_of ws (length ps) (length cs) ≡ Ok (count ws ps cs)
 
 -- where some packet in range matches two rows, the earlier has the strictly higher priority
 abbrev pub EarlierHigher : Type 0
@@ -78,5 +78,5 @@ WordsStay = (ws ps cs : List ℕ) → Ready ws ps cs
 
 -- a refusal leaves both buffers as they were
 abbrev pub RefusedStays : Type 0
-RefusedStays = (ws ps cs : List ℕ) (n i : ℕ) → number_of ws (length ps) (length cs) ≡ Refused n i
+RefusedStays = (ws ps cs : List ℕ) (f : Fault) → number_of ws (length ps) (length cs) ≡ Err f
     → (priorities_after ws ps cs ≡ ps) × (chain_after ws ps cs ≡ cs)

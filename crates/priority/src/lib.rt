@@ -11,8 +11,9 @@ ghost use Rattle.priority.specs.Numbering.{over, levels_of, priorities_of, chain
 ghost use Rattle.priority.specs.Numbering.{NumbersFit, LevelsBefore, ChainFits};
 
 use flow::{Match, overlap, read_match};
+use refusal::Fault;
 use row::ROW_WORDS;
-use table::{Checked, check};
+use table::check;
 
 // The number of the refusal: a buffer is shorter than the row count.
 pub const SHORT_BUFFER: u32 = 17;
@@ -25,39 +26,35 @@ struct Place(usize);
 #[derive(Clone, Copy)]
 struct Priority(u32);
 
-// How many priorities there are, or the refusal.
-#[derive(Clone, Copy)]
-pub enum Numbered {
-    Priorities(u32),
-    Refused { number: u32, place: usize },
-}
-
-// Numbers a table: row i's priority goes to word i of one buffer, the chain to the first words of the other.
-pub fn number(table: &[u32], priorities: &mut [u32], chain: &mut [u32]) -> Numbered
+// Numbers a table: row i's priority goes to word i of one buffer, the chain to the first words of the other. Answers how
+// many priorities there are.
+pub fn number(table: &[u32], priorities: &mut [u32], chain: &mut [u32]) -> Result<u32, Fault>
     ensures { Answered table.now priorities.old chain.old
         result priorities.new chain.new }
 {
-    match check(table) {
-        Checked::Rows(rows) => number_right(table, rows, priorities, chain),
-        Checked::Wrong { number, place } => Numbered::Refused { number, place },
-    }
+    let rows = check(table)?;
+    number_right(table, rows, priorities, chain)
 }
 
 // Numbers a right table, where neither buffer is shorter than its row count.
-fn number_right(table: &[u32], rows: usize, priorities: &mut [u32], chain: &mut [u32]) -> Numbered
+fn number_right(
+    table: &[u32],
+    rows: usize,
+    priorities: &mut [u32],
+    chain: &mut [u32],
+) -> Result<u32, Fault>
     requires { RightTable table.now × (rows ≡ row_count table.now) }
     ensures { Answered table.now priorities.old chain.old
         result priorities.new chain.new }
 {
     let fits = (rows <= priorities.len()) & (rows <= chain.len());
-    if fits {
-        let count = put_numbers(table, &mut priorities[..rows], chain);
-        return Numbered::Priorities(count);
+    if !fits {
+        return Err(Fault {
+            number: SHORT_BUFFER,
+            place: 0,
+        });
     }
-    Numbered::Refused {
-        number: SHORT_BUFFER,
-        place: 0,
-    }
+    Ok(put_numbers(table, &mut priorities[..rows], chain))
 }
 
 // Leaves the priorities in a buffer of a word for each row, first as levels, and the chain; answers how many priorities
@@ -98,13 +95,11 @@ fn level(table: &[u32], levels: &[u32], i: usize, count: u32) -> u32
 {
     let m = row_match(table, i);
     let mut best = 0;
-    let mut j = i;
-    // The level is the larger of best and what the first j rows ask for.
-    while 0 < j {
+    // The level is the larger of best and what row j and those before it ask for.
+    for j in (0..i).rev() {
         if count <= best {
             return best;
         }
-        j -= 1;
         best = raised(table, m, j, levels[j], best);
     }
     best
@@ -133,28 +128,21 @@ fn put_chain(table: &[u32], levels: &[u32], count: u32, chain: &mut [u32])
     if count == 0 {
         return;
     }
-    let mut l = count - 1;
-    let mut at = first_of_level(levels, l);
-    // The places of the chain behind step l are stored, and at is the one of step l.
-    while 0 < l {
-        put_place(chain, l, at);
-        l -= 1;
+    let end = count - 1;
+    let mut at = first_of_level(levels, end);
+    put_place(chain, end, at);
+    // The places of the chain behind step l are stored, and at is the last that was.
+    for l in (0..end).rev() {
         at = step_back(table, levels, at, l);
+        put_place(chain, l, at);
     }
-    put_place(chain, 0, at);
 }
 
 // The first row of a level; the row count if there is none.
 fn first_of_level(levels: &[u32], l: u32) -> Place
     ensures { result.0 ≡ first_of_level levels.now l }
 {
-    // None of the first at rows has the level.
-    for at in 0..levels.len() {
-        if levels[at] == l {
-            return Place(at);
-        }
-    }
-    Place(levels.len())
+    Place(levels.iter().position(|x| *x == l).unwrap_or(levels.len()))
 }
 
 // The first row before a place that overlaps the row there and has a level; the place itself if there is none.
@@ -189,20 +177,17 @@ fn put_priorities(priorities: &mut [u32], count: u32)
     requires { (j : ℕ) → j < length priorities.old → get_or priorities.old j 0 ≤ count }
     ensures { priorities.new ≡ map (λ l. count - l) priorities.old }
 {
-    // The first i words are priorities, and the others are still levels.
-    for i in 0..priorities.len() {
-        let l = priorities[i];
-        put_priority(priorities, Place(i), Priority(count - l));
+    // The words before this one are priorities, and the others are still levels.
+    for word in priorities.iter_mut() {
+        put_priority(word, Priority(count - *word));
     }
 }
 
 // The only store of a priority.
-fn put_priority(priorities: &mut [u32], at: Place, p: Priority)
-    requires { at.0 < length priorities.old }
-    ensures { priorities.new ≡ set priorities.old at.0 p.0 }
+fn put_priority(word: &mut u32, p: Priority)
+    ensures { word.new ≡ p.0 }
 {
-    let i = at.0;
-    priorities[i] = p.0;
+    *word = p.0;
 }
 
 // The only store of a place of the chain.

@@ -1,24 +1,17 @@
--- A turn of the loop is a place of the search.
-use Rattle.std.proofs.Common.{length, arith}
-use borrow.Author.Tests.{eq-eqb, ne_eqb}
-use Rattle.theory.specs.Number.{at_level}
-use Rattle.priority.proofs.Seeking.{seek-start, seek_hit, seek-miss, seek-end}
+-- The first place of a level is that of the search.
+use Rattle.std.proofs.Common.{◌≡◌, ◌∙◌, ap, length, rules, tests}
+use Rattle.std.proofs.lemmas.Iterator.{YieldsList-from_slice}
+use Rattle.std.proofs.lemmas.Iterator.Search.{position_from_yields_List}
+use lib.Dec.{eqb}
+use Rattle.std.specs.List.{position}
+use Rattle.std.specs.Option.{unwrap_or}
+use Rattle.priority.proofs.Seeking.{first-position}
 use Rattle.priority.proofs.first_of_level.Goals as goal
-
-pub loop-at-init : goal.loop-at-init
-loop-at-init c = seek-start (at_level c.args.levels.now c.args.l) (length c.args.levels.now)
-
-pub returns-then-levels-at : goal.returns-then-levels-at
-returns-then-levels-at c =
-    let l = c.loop-at in
-    seek_hit (at_level c.args.levels.now c.args.l) _ l.at _ l.invariant (omega arith) (eq-eqb _ _ c.if-levels-at.true)
-
-pub loop-at-preserved : goal.loop-at-preserved
-loop-at-preserved c =
-    let l = c.loop-at in
-    seek-miss (at_level c.args.levels.now c.args.l) _ l.at _ l.invariant (omega arith) (ne_eqb _ _ c.if-levels-at.false)
 
 pub returns : goal.returns
 returns c =
-    let l = c.loop-at in
-    seek-end (at_level c.args.levels.now c.args.l) _ l.at _ l.invariant (omega arith)
+    let ls = c.args.levels.now in
+    let found : c.position.result ≡ position (λ x. eqb x c.args.l) ls =
+    position_from_yields_List (λ x. eqb x c.args.l) _ _ c.position.result c.position.ensures.ran (YieldsList-from_slice ls c.iter.ensures.rest)
+    (λ x b q k. search (rules, tests)) in
+    c.unwrap_or.ensures ∙ ap (λ o. unwrap_or o (length ls)) found ∙ first-position ls c.args.l

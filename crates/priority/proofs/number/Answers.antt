@@ -1,11 +1,15 @@
 -- What the check finds decides.
-use Rattle.priority.proofs.Whole.{wrong-table, right-table}
+use Rattle.std.proofs.Common.{sym, ◌∙◌}
+use Rattle.std.proofs.lemmas.Result.{err_from_is_err_and}
+use Rattle.table.proofs.Tables.{check-exactly}
+use Rattle.priority.proofs.Whole.{wrong-table}
 use Rattle.priority.proofs.number.Goals as goal
 
-pub number_right-requires : goal.number_right-requires
-number_right-requires c = right-table c.args.table.now _ c.check.ensures _ c.in-Rows.is
-
-pub returns-in-Wrong : goal.returns-in-Wrong
-returns-in-Wrong c =
+pub returns-in_err-rows : goal.returns-in_err-rows
+returns-in_err-rows c =
     let g = c.args in
-    wrong-table g.table.now g.priorities.now g.chain.now _ c.check.ensures _ _ c.in-Wrong.is
+    let p = err_from_is_err_and c.from_residual.result c.from_residual.ensures.1 in
+    rw (p.1, p.2) (wrong-table g.table.now g.priorities.now g.chain.now _ (sym c.check.ensures ∙ c.in_err-rows.was))
+
+pub number_right-requires : goal.number_right-requires
+number_right-requires c = (check-exactly c.args.table.now c.in_ok-rows.rows).0 (sym c.check.ensures ∙ c.in_ok-rows.was)

@@ -1,6 +1,6 @@
 -- A turn of the loop is a step back.
 use Rattle.std.proofs.Common.{arith}
-use Rattle.priority.proofs.Linking.{linking-none, linking-start, linking-turn, linking-end}
+use Rattle.priority.proofs.Linking.{linking-none, linking-start, linking-turn, linked-turn, linked-end}
 use Rattle.priority.proofs.put_chain.Goals as goal
 
 pub returns-then-count-eq0 : goal.returns-then-count-eq0
@@ -8,24 +8,32 @@ returns-then-count-eq0 c =
     let g = c.args in
     linking-none g.table.now g.levels.now g.chain.now _ c.if-count-eq0.true
 
+pub put_place-requires : goal.put_place-requires
+put_place-requires c =
+    let g = c.args in
+    let s = linking-start g.table.now g.levels.now g.chain.now g.count _ c.requires.1 c.if-count-eq0.false c.requires.3
+    c.first_of_level-at.ensures in
+    (s.within, omega (arith, s.row))
+
 pub loop-l-init : goal.loop-l-init
 loop-l-init c =
     let g = c.args in
-    linking-start g.table.now g.levels.now g.chain.now g.count _ c.requires.1 c.if-count-eq0.false c.requires.3
-    c.first_of_level-at.ensures
+    record {
+      before = g.chain.now;
+      link = linking-start g.table.now g.levels.now g.chain.now g.count _ c.requires.1 c.if-count-eq0.false c.requires.3
+          c.first_of_level-at.ensures;
+      is = c.put_place.ensures;
+    }
 
-pub put_place-requires : goal.put_place-requires
-put_place-requires c = (c.loop-l.invariant.within, omega (arith, c.loop-l.invariant.row))
-
-pub step_back-at-requires : goal.step_back-at-requires
-step_back-at-requires c = (omega (arith, c.loop-l.invariant.row), omega (arith, c.loop-l.invariant.row))
+pub put_place-requires-in-loop-l : goal.put_place-requires-in-loop-l
+put_place-requires-in-loop-l c =
+    let g = c.loop-l.invariant in
+    let t = linking-turn _ _ _ _ _ _ _ _ _ g.link c.loop-l-test.true g.is c.step_back-at.ensures in
+    (t.within, omega (arith, t.row))
 
 pub loop-l-preserved : goal.loop-l-preserved
 loop-l-preserved c =
-    linking-turn _ _ _ _ _ _ _ _ _ c.loop-l.invariant c.loop-l-test.true c.put_place.ensures c.step_back-at.ensures
-
-pub put_place-requires-2 : goal.put_place-requires-2
-put_place-requires-2 c = (omega (arith, c.loop-l.invariant.within), omega (arith, c.loop-l.invariant.row))
+    linked-turn _ _ _ _ _ _ _ _ _ c.loop-l.invariant c.loop-l-test.true c.step_back-at.ensures c.put_place-in-loop-l.ensures
 
 pub returns : goal.returns
-returns c = linking-end _ _ _ _ _ _ _ _ c.loop-l.invariant c.loop-l-test.false c.put_place-2.ensures
+returns c = linked-end _ _ _ _ _ _ _ c.loop-l.invariant c.loop-l-test.false
