@@ -7,6 +7,8 @@ use lib.Dec.{eqb}
 use lib.ListN.{get_or, length, take, drop, length-map, take-append-drop, drop_of_length-le}
 use lib.Seq.{drop-drop}
 use borrow.Author.Tests.{eqb-true, eq-eqb}
+use Rattle.std.specs.Prelude.{Ok, Err}
+use Rattle.section.specs.Sections.{Test}
 use Rattle.logic.specs.Lists.{All}
 use Rattle.words.proofs.Records.{length-records}
 use Rattle.theory.specs.Rows.{Row}
@@ -28,10 +30,7 @@ use Rattle.policy.specs.Order.{GoodSections}
 use Rattle.policy.specs.Theorems.{AcceptedAs, AcceptedExactly, AcceptedTree, AcceptedAtoms}
 use Rattle.section.specs.declared.Edition.{Edition}
 use Rattle.policy.specs.declared.Layout.{Layout}
-use Rattle.policy.specs.declared.Reading.TheVariants.{Accepted}
 use Rattle.section.specs.declared.Section.TheVariants.{Operators, Atoms, Nodes}
-use Rattle.section.specs.declared.Test.{Test}
-use Rattle.section.specs.declared.Test.TheVariants.{Passed, Failed}
 use Rattle.section.proofs.Records.{unless-true}
 use Rattle.whole.proofs.Trees.{shape-one-tree, one-tree-shape, one-tree-planted}
 use Rattle.section.proofs.Passed.{header-passed, passed-header, good-passed, passed-good}
@@ -41,17 +40,17 @@ use Rattle.policy.proofs.Extra.{passed-extra, extra-passed}
 
 -- the stages that are passed, each by its name
 pub record Stages (e : Edition) (f : List ℕ) (a b c : ℕ) : Type 0 where
-  pub header : header_fault e f ≡ Passed
-  pub operators : section_fault f (header_length_in e) (Operators e) ≡ Passed
-  pub atoms : section_fault f (atoms_at_in e a) (Atoms e) ≡ Passed
-  pub nodes : section_fault f (nodes_at_in e a b) (Nodes a) ≡ Passed
-  pub extra : extra_fault f (end_in e a b c) ≡ Passed
-  pub tree : shape_fault (nodes_in e f a b c) ≡ Passed
-  pub sum : sum_fault (nodes_in e f a b c) b ≡ Passed
+  pub header : header_fault e f ≡ Ok tt
+  pub operators : section_fault f (header_length_in e) (Operators e) ≡ Ok tt
+  pub atoms : section_fault f (atoms_at_in e a) (Atoms e) ≡ Ok tt
+  pub nodes : section_fault f (nodes_at_in e a b) (Nodes a) ≡ Ok tt
+  pub extra : extra_fault f (end_in e a b c) ≡ Ok tt
+  pub tree : shape_fault (nodes_in e f a b c) ≡ Ok tt
+  pub sum : sum_fault (nodes_in e f a b c) b ≡ Ok tt
 
 -- all of some stages are passed
 abbrev pub AllPassed : List Test → Type 0
-AllPassed ts = All (λ t. t ≡ Passed) ts
+AllPassed ts = All (λ t. t ≡ Ok tt) ts
 
 module _ (e : Edition) (f : List ℕ) (a b c : ℕ) where
   -- the stages before the laws
@@ -79,24 +78,23 @@ module _ (e : Edition) (f : List ℕ) (a b c : ℕ) where
   }
 
 -- an answer accepts exactly when all stages are passed
-all-passed : (ts : List Test) (l m : Layout) → answer ts l ≡ Accepted m → AllPassed ts × (l ≡ m)
-unfolding answer
+all-passed : (ts : List Test) (l m : Layout) → answer ts l ≡ Ok m → AllPassed ts × (l ≡ m)
 all-passed [] l m e = (tt, cc)
-all-passed (Passed ∷ ts) l m e = let r : AllPassed ts × (l ≡ m) = all-passed ts l m e in ((refl, r.0), r.1)
-all-passed (Failed r ∷ ts) l m e = let z : ◌≡◌ {A = ℕ} 0 1 = cc in absurd (omega arith)
+all-passed (Ok u ∷ ts) l m e = let r : AllPassed ts × (l ≡ m) = all-passed ts l m e in ((refl, r.0), r.1)
+all-passed (Err r ∷ ts) l m e = let z : ◌≡◌ {A = ℕ} 0 1 = cc in absurd (omega arith)
 
-answer-passed : (e : Edition) (f : List ℕ) (a b c : ℕ) (m : Layout) → answer (stages e f a b c) (layout a b c) ≡ Accepted m
-    → Stages e f a b c × (laws_fault (nodes_in e f a b c) (operator_rows e (operators_in e f a)) ≡ Passed) × (layout a b c ≡ m)
+answer-passed : (e : Edition) (f : List ℕ) (a b c : ℕ) (m : Layout) → answer (stages e f a b c) (layout a b c) ≡ Ok m
+    → Stages e f a b c × (laws_fault (nodes_in e f a b c) (operator_rows e (operators_in e f a)) ≡ Ok tt) × (layout a b c ≡ m)
 unfolding stages whole_stages
 answer-passed e f a b c m g =
     let r : AllPassed (stages e f a b c) × (layout a b c ≡ m) = all-passed (stages e f a b c) (layout a b c) m g in
     let laws : Test = laws_fault (nodes_in e f a b c) (operator_rows e (operators_in e f a)) in
-    let p = all_split (λ t. t ≡ Passed) (before e f a b c) (laws ∷ []) r.0 in
+    let p = all_split (λ t. t ≡ Ok tt) (before e f a b c) (laws ∷ []) r.0 in
     (by_name e f a b c p.0, p.1.0, r.1)
 
-passed-answer : (e : Edition) (f : List ℕ) (a b c : ℕ) → Stages e f a b c → laws_fault (nodes_in e f a b c) (operator_rows e (operators_in e f a)) ≡ Passed
-    → answer (stages e f a b c) (layout a b c) ≡ Accepted (layout a b c)
-unfolding stages whole_stages answer
+passed-answer : (e : Edition) (f : List ℕ) (a b c : ℕ) → Stages e f a b c → laws_fault (nodes_in e f a b c) (operator_rows e (operators_in e f a)) ≡ Ok tt
+    → answer (stages e f a b c) (layout a b c) ≡ Ok (layout a b c)
+unfolding stages whole_stages
 passed-answer e f a b c s laws = rw (s.header, s.operators, s.atoms, s.nodes, s.extra, s.tree, s.sum, laws)
 
 -- the child counts of the nodes are those of their records
@@ -159,7 +157,7 @@ pub accepted-as : AcceptedAs
 unfolding read_as
 accepted-as e f l = (well, accepts)
   where
-    well : read_as e f ≡ Accepted l → WellFormedIn e f l
+    well : read_as e f ≡ Ok l → WellFormedIn e f l
     well g =
         let a : ℕ = get_or f (header_length_in e) 0 in
         let b : ℕ = get_or f (atoms_at_in e a) 0 in
@@ -175,7 +173,7 @@ accepted-as e f l = (well, accepts)
               (λ i h. o.right-nodes i (rw length-records at h)) p.1;
         })
 
-    accepts : WellFormedIn e f l → read_as e f ≡ Accepted l
+    accepts : WellFormedIn e f l → read_as e f ≡ Ok l
     accepts w =
         let a : ℕ = l.operators in
         let b : ℕ = l.atoms in

@@ -4,12 +4,12 @@ use native.Mathlib.Omega.{arith}
 use mathlib.Core.Path.{◌≡◌}
 use mathlib.Core.List.{List}
 use lib.ListN.{length}
+use Rattle.std.specs.Prelude.{Ok}
 use Rattle.std.proofs.lemmas.Bool.Decides.{nat_tests}
-use Rattle.section.specs.declared.Test.TheVariants.{Passed}
 use Rattle.policy.specs.Read.{extra_fault}
 
-pub passed-extra : (f : List ℕ) (n : ℕ) → length f ≡ n → extra_fault f n ≡ Passed
+pub passed-extra : (f : List ℕ) (n : ℕ) → length f ≡ n → extra_fault f n ≡ Ok tt
 passed-extra f n h = grind (arith, nat_tests)
 
-pub extra-passed : (f : List ℕ) (n : ℕ) → extra_fault f n ≡ Passed → length f ≤ n
+pub extra-passed : (f : List ℕ) (n : ℕ) → extra_fault f n ≡ Ok tt → length f ≤ n
 extra-passed f n h = grind (arith, nat_tests)

@@ -1,4 +1,3 @@
-pub mod Chain
 pub mod Extra
 pub mod Accepted
 pub mod Refused

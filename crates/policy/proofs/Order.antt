@@ -8,6 +8,8 @@ use mathlib.Core.Logic.{◌⊎◌, inl, inr, ⊎_elim}
 use lib.Dec.{eqb}
 use lib.ListN.{get_or, length, drop, length-map}
 use borrow.Author.Tests.{le-leb, lt-leb, eqb-true, eqb-false, ne_eqb}
+use Rattle.std.specs.Prelude.{Ok, Err}
+use Rattle.policy.specs.Read.{Reading}
 use Rattle.words.proofs.Records.{length-records}
 use Rattle.action.specs.Operator.{RightCodes}
 use Rattle.section.specs.Numbers.{header_length_in, operator_length_in, node_length, extra_words, no_tree, wrong_sum, law_broken}
@@ -15,7 +17,7 @@ use Rattle.section.specs.Cells.{operator_rows}
 use Rattle.refusal.specs.Plain.{plain}
 use Rattle.section.specs.Sections.{children_of}
 use Rattle.whole.specs.Whole.{shape, shape_fault, own_atoms, sum_fault, laws_fault}
-use Rattle.policy.specs.Read.{atoms_at_in, nodes_at_in, end_in, operators_in, nodes_in, whole_stages, stages, layout, answer, read_as, read_refusal}
+use Rattle.policy.specs.Read.{atoms_at_in, nodes_at_in, end_in, operators_in, nodes_in, whole_stages, stages, layout, read_as, read_refusal}
 use Rattle.policy.specs.Steps.{with_whole}
 use Rattle.whole.specs.Meaning.{operator_at, OneTree, ended, HasPlace}
 use Rattle.policy.specs.File.{file_nodes_in}
@@ -23,9 +25,7 @@ use Rattle.section.specs.Due.{RightNode}
 use Rattle.policy.specs.WellFormed.{OtherwiseIn, WellFormedIn}
 use Rattle.policy.specs.Order.{child_counts_in, GoodSections, Due, in-header, in-operators, in-atoms, in-nodes, extra, no_place, missing, sum, FileOrder}
 use Rattle.section.specs.declared.Edition.{Edition}
-use Rattle.policy.specs.declared.Reading.TheVariants.{Accepted, Refused}
 use Rattle.section.specs.declared.Section.TheVariants.{Operators, Atoms, Nodes}
-use Rattle.section.specs.declared.Test.TheVariants.{Passed, Failed}
 use Rattle.section.proofs.Passed.{passed-header, good-passed}
 use Rattle.whole.proofs.Named.{operators-many, right-operators, laws-kept, kept_laws}
 use Rattle.whole.proofs.Trees.{shape-one-tree, one-tree-shape}
@@ -38,7 +38,7 @@ use Rattle.section.proofs.Due.{first-wrong, passed-or-not, section-due, section-
 -- THE FILE. Once the header and all three sections are good the other stages answer.
 module _ (e : Edition) (f : List ℕ) (a b c : ℕ) where
   sections-read : GoodSections e f a b c → read_as e f ≡ with_whole e f (header_length_in e) a b c (nodes_at_in e a b)
-  unfolding read_as with_whole stages answer
+  unfolding read_as stages
   sections-read g =
       rw (g.operators.present.count, g.atoms.present.count, g.nodes.present.count)
       (rw (
@@ -48,26 +48,26 @@ module _ (e : Edition) (f : List ℕ) (a b c : ℕ) where
         good-passed f (nodes_at_in e a b) (Nodes a) c g.nodes,
       ))
 
-  extra-read : end_in e a b c < length f → with_whole e f (header_length_in e) a b c (nodes_at_in e a b) ≡ Refused (plain extra_words (end_in e a b c))
-  unfolding with_whole whole_stages answer
+  extra-read : end_in e a b c < length f → with_whole e f (header_length_in e) a b c (nodes_at_in e a b) ≡ Err (plain extra_words (end_in e a b c))
+  unfolding whole_stages
   extra-read h = rw (lt-leb (length f) (end_in e a b c) h)
 
-  shape-read : length f ≡ end_in e a b c → (i : ℕ) → shape (child_counts_in e f a b c) (1 ∷ []) 0 ≡ Failed (plain no_tree i)
-      → with_whole e f (header_length_in e) a b c (nodes_at_in e a b) ≡ Refused (plain no_tree i)
-  unfolding with_whole whole_stages answer shape_fault
+  shape-read : length f ≡ end_in e a b c → (i : ℕ) → shape (child_counts_in e f a b c) (1 ∷ []) 0 ≡ Err (plain no_tree i)
+      → with_whole e f (header_length_in e) a b c (nodes_at_in e a b) ≡ Err (plain no_tree i)
+  unfolding whole_stages shape_fault
   shape-read h i x = rw (le-leb (length f) (end_in e a b c) (omega arith), x)
 
-  sum-read : length f ≡ end_in e a b c → shape (child_counts_in e f a b c) (1 ∷ []) 0 ≡ Passed → ¬ (own_atoms (nodes_in e f a b c) ≡ b)
-      → with_whole e f (header_length_in e) a b c (nodes_at_in e a b) ≡ Refused (plain wrong_sum 0)
-  unfolding with_whole whole_stages answer shape_fault sum_fault
+  sum-read : length f ≡ end_in e a b c → shape (child_counts_in e f a b c) (1 ∷ []) 0 ≡ Ok tt → ¬ (own_atoms (nodes_in e f a b c) ≡ b)
+      → with_whole e f (header_length_in e) a b c (nodes_at_in e a b) ≡ Err (plain wrong_sum 0)
+  unfolding whole_stages shape_fault sum_fault
   sum-read h x n = rw (le-leb (length f) (end_in e a b c) (omega arith), x, ne_eqb (own_atoms (nodes_in e f a b c)) b n)
 
   nodes-many : length (child_counts_in e f a b c) ≡ c
   nodes-many = length-map (nodes_in e f a b c) children_of ∙ length-records c node_length (drop (nodes_at_in e a b + 1) f)
 
 -- WHAT IS DUE IS GIVEN
-due-read : (e : Edition) (f : List ℕ) {n at : ℕ} → Due e f n at → read_as e f ≡ Refused (plain n at)
-unfolding read_as stages answer
+due-read : (e : Edition) (f : List ℕ) {n at : ℕ} → Due e f n at → read_as e f ≡ Err (plain n at)
+unfolding read_as stages
 due-read e f (in-header {n} {at} d) = rw (header-due e f n at d)
 due-read e f (in-operators h d) = rw (passed-header e f h, section-due f (header_length_in e) (Operators e) d)
 due-read e f (in-atoms {a} h g d) =
@@ -136,7 +136,7 @@ cases e f =
     (header-cases e f)
 
 -- a refusal without a law is given to no file that is well formed but for the laws: it is accepted, or a law is shown
-lawless : (e : Edition) (f : List ℕ) (a b c n at : ℕ) → OtherwiseIn e f a b c → ¬ (read_as e f ≡ Refused (plain n at))
+lawless : (e : Edition) (f : List ℕ) (a b c n at : ℕ) → OtherwiseIn e f a b c → ¬ (read_as e f ≡ Err (plain n at))
 lawless e f a b c n at o r =
     let raw : List (List ℕ) = operators_in e f a in
     let os : List (List ℕ) = operator_rows e raw in
@@ -148,23 +148,23 @@ lawless e f a b c n at o r =
     ⊎_elim
     (λ p.
     let w : WellFormedIn e f (layout a b c) = record { otherwise = o; lawful = laws-kept a os ns many codes nodes p } in
-    let g : read_as e f ≡ Accepted (layout a b c) = (accepted-as e f (layout a b c)).1 w in
+    let g : read_as e f ≡ Ok (layout a b c) = (accepted-as e f (layout a b c)).1 w in
     let z : ◌≡◌ {A = ℕ} 0 1 = cc in
     omega arith)
     (λ h.
     let w = broken-refused-as e f a b c o (λ k. h (kept_laws a os ns many codes nodes k)) in
-    let q : n ≡ law_broken = ap (λ x. (read_refusal x).number) (sym r ∙ w.1) ∙ w.2 in
+    let q : n ≡ law_broken = ap (λ (x : Reading). (read_refusal x).number) (sym r ∙ w.1) ∙ w.2 in
     (refused-law-as e f (plain n at) r q).shows)
     (passed-or-not (laws_fault ns os))
 
 -- AND NOTHING ELSE IS
-given-due : (e : Edition) (f : List ℕ) (n at : ℕ) → read_as e f ≡ Refused (plain n at) → Due e f n at
+given-due : (e : Edition) (f : List ℕ) (n at : ℕ) → read_as e f ≡ Err (plain n at) → Due e f n at
 given-due e f n at r = ⊎_elim
     (λ o. absurd (lawless e f o.0 o.1 o.2 n at o.3 r))
     (λ d.
-    let q : Refused (plain d.0 d.1) ≡ Refused (plain n at) = sym (due-read e f d.2) ∙ r in
-    let p : d.0 ≡ n = ap (λ x. (read_refusal x).number) q in
-    let w : d.1 ≡ at = ap (λ x. (read_refusal x).place) q in
+    let q : ◌≡◌ {A = Reading} (Err (plain d.0 d.1)) (Err (plain n at)) = sym (due-read e f d.2) ∙ r in
+    let p : d.0 ≡ n = ap (λ (x : Reading). (read_refusal x).number) q in
+    let w : d.1 ≡ at = ap (λ (x : Reading). (read_refusal x).place) q in
     rw (p, w) at d.2)
     (cases e f)
 

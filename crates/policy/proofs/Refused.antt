@@ -7,6 +7,8 @@ use mathlib.Core.List.{List, [], ◌∷◌, ◌++◌, map}
 use mathlib.Core.Logic.{◌⊎◌, inl, inr, ⊎_elim}
 use lib.Dec.{eqb, leb, ltb}
 use lib.ListN.{get_or, length, drop}
+use Rattle.std.specs.Prelude.{Ok, Err}
+use Rattle.section.specs.Sections.{Test}
 use Rattle.logic.specs.Lists.{All}
 use Rattle.words.proofs.Records.{length-records}
 use Rattle.words.specs.Records.{records}
@@ -29,12 +31,9 @@ use Rattle.policy.specs.Theorems.{RefusedLawAs, RefusedLaw, BrokenRefusedAs, Bro
 use Rattle.section.specs.declared.Edition.{Edition}
 use Rattle.section.specs.declared.Edition.TheVariants.{First}
 use Rattle.policy.specs.declared.Layout.{Layout}
-use Rattle.policy.specs.declared.Reading.TheVariants.{Refused}
 use Rattle.refusal.specs.declared.Refusal.{Refusal}
 use Rattle.section.specs.declared.Section.{Section}
 use Rattle.section.specs.declared.Section.TheVariants.{Operators, Atoms, Nodes}
-use Rattle.section.specs.declared.Test.{Test}
-use Rattle.section.specs.declared.Test.TheVariants.{Passed, Failed}
 use Rattle.section.proofs.Each.{FirstFault, each_first}
 use Rattle.whole.proofs.Named.{operators-many, right-operators, laws-kept, passed-search}
 use Rattle.policy.proofs.Accepted.{AllPassed, before, by_name, Stages, otherwise-of, of-otherwise}
@@ -47,12 +46,12 @@ PlainRefusal r = (1 ≤ r.number) × (r.number < law_broken) × (r ≡ plain r.n
 
 -- a test whose refusals are such
 record Plain (t : Test) : Type 0 where
-  only : (r : Refusal) → t ≡ Failed r → PlainRefusal r
+  only : (r : Refusal) → t ≡ Err r → PlainRefusal r
 
-passed-plain : Plain Passed
+passed-plain : Plain (Ok tt)
 passed-plain = record { only = λ r e. let z : ◌≡◌ {A = ℕ} 0 1 = cc in absurd (omega arith) }
 
-failed-plain : (n at : ℕ) → 1 ≤ n → n < law_broken → Plain (Failed (plain n at))
+failed-plain : (n at : ℕ) → 1 ≤ n → n < law_broken → Plain (Err (plain n at))
 failed-plain n at h k = record { only = λ r e. let q : r ≡ plain n at = cc in rw q (h, k, refl) }
 
 unless-plain : (b : Bool) (n at : ℕ) → 1 ≤ n → n < law_broken → Plain (unless b n at)
@@ -60,8 +59,8 @@ unless-plain true n at h k = passed-plain
 unless-plain false n at h k = failed-plain n at h k
 
 else-plain : (x y : Test) → Plain x → Plain y → Plain (◌else◌ x y)
-else-plain Passed y p q = q
-else-plain (Failed r) y p q = p
+else-plain (Ok u) y p q = q
+else-plain (Err r) y p q = p
 
 each-plain : {X : Type 0} (t : ℕ → X → Test) (at k : ℕ) (xs : List X) → ((p : ℕ) (x : X) → Plain (t p x)) → Plain (each t at k xs)
 each-plain t at k [] h = passed-plain
@@ -105,18 +104,17 @@ shape-plain [] st i = unless-plain (eqb (length (waiting_nodes st)) 0) no_tree i
 shape-plain (k ∷ ks) st i =
     go (leb 1 (length (waiting_nodes st)) && leb (length (waiting_nodes st)) deepest) (shape-plain ks (k ∷ one_less (waiting_nodes st)) (suc i))
   where
-    go : (b : Bool) {t : Test} → Plain t → Plain (cond b t (Failed (plain no_tree i)))
+    go : (b : Bool) {t : Test} → Plain t → Plain (cond b t (Err (plain no_tree i)))
     go true p = p
     go false p = failed-plain no_tree i (omega arith) (omega arith)
 
 -- of stages with plain refusals and one more, the answer is plain, or all but the last are passed
-first-refusal : (ts : List Test) (u : Test) (l : Layout) (r : Refusal) → All Plain ts → answer (ts ++ (u ∷ [])) l ≡ Refused r
-    → PlainRefusal r ⊎ (AllPassed ts × (u ≡ Failed r))
-unfolding answer
-first-refusal [] Passed l r p e = let z : ◌≡◌ {A = ℕ} 0 1 = cc in absurd (omega arith)
-first-refusal [] (Failed s) l r p e = inr (tt, cc)
-first-refusal (Passed ∷ ts) u l r p e = ⊎_elim (λ h. inl h) (λ h. inr ((refl, h.0), h.1)) (first-refusal ts u l r p.1 e)
-first-refusal (Failed s ∷ ts) u l r p e = inl (p.0.only r (cc))
+first-refusal : (ts : List Test) (u : Test) (l : Layout) (r : Refusal) → All Plain ts → answer (ts ++ (u ∷ [])) l ≡ Err r
+    → PlainRefusal r ⊎ (AllPassed ts × (u ≡ Err r))
+first-refusal [] (Ok v) l r p e = let z : ◌≡◌ {A = ℕ} 0 1 = cc in absurd (omega arith)
+first-refusal [] (Err s) l r p e = inr (tt, cc)
+first-refusal (Ok v ∷ ts) u l r p e = ⊎_elim (λ h. inl h) (λ h. inr ((refl, h.0), h.1)) (first-refusal ts u l r p.1 e)
+first-refusal (Err s ∷ ts) u l r p e = inl (p.0.only r (cc))
 
 module _ (e : Edition) (f : List ℕ) (a b c : ℕ) where
   -- the stages before the laws refuse plainly
@@ -145,7 +143,7 @@ module _ (e : Edition) (f : List ℕ) (a b c : ℕ) where
   laws : Test
   laws = laws_fault (nodes_in e f a b c) (operator_rows e (operators_in e f a))
 
-  split : (r : Refusal) → answer (stages e f a b c) (layout a b c) ≡ Refused r → PlainRefusal r ⊎ (Stages e f a b c × (laws ≡ Failed r))
+  split : (r : Refusal) → answer (stages e f a b c) (layout a b c) ≡ Err r → PlainRefusal r ⊎ (Stages e f a b c × (laws ≡ Err r))
   unfolding stages whole_stages laws
   split r g =
       ⊎_elim
@@ -160,21 +158,21 @@ record Found (ns : List (List ℕ)) (i : ℕ) (o : List ℕ) (r : Refusal) : Typ
   place : r.place ≡ i
   shows : Shows (cells_of o) r.law r.first r.second r.third
 
-found : (ns : List (List ℕ)) (i : ℕ) (o : List ℕ) (r : Refusal) → operator_fault ns i o ≡ Failed r → Found ns i o r
+found : (ns : List (List ℕ)) (i : ℕ) (o : List ℕ) (r : Refusal) → operator_fault ns i o ≡ Err r → Found ns i o r
 unfolding operator_fault
 found ns i o r e =
     by-test (named i ns)
     (λ t. searched (law_search (cells_of o)) t refl (rw t at e))
-    (λ t. let k : Passed ≡ Failed r = rw t at e in let z : ◌≡◌ {A = ℕ} 0 1 = cc in absurd (omega arith))
+    (λ t. let k : ◌≡◌ {A = Test} (Ok tt) (Err r) = rw t at e in let z : ◌≡◌ {A = ℕ} 0 1 = cc in absurd (omega arith))
   where
-    searched : (x : Lawful) → named i ns ≡ true → law_search (cells_of o) ≡ x → broken i x ≡ Failed r → Found ns i o r
+    searched : (x : Lawful) → named i ns ≡ true → law_search (cells_of o) ≡ x → broken i x ≡ Err r → Found ns i o r
     searched Yes t p g = let z : ◌≡◌ {A = ℕ} 0 1 = cc in absurd (omega arith)
     searched (Broken l a b c) t p g =
         let q : r ≡ record { number = law_broken; place = i; law = l; first = a; second = b; third = c } = cc in
         rw q (record { used = t; number = refl; place = refl; shows = search-shows (cells_of o) l a b c p })
 
 -- the laws are refused with the first operator that is
-first-broken : (ns os : List (List ℕ)) (r : Refusal) → laws_fault ns os ≡ Failed r
+first-broken : (ns os : List (List ℕ)) (r : Refusal) → laws_fault ns os ≡ Err r
     → (i : ℕ) × FirstFault [] (operator_fault ns) 1 0 os i r × Found ns i (get_or os i []) r
 unfolding laws_fault
 first-broken ns os r e =
@@ -226,21 +224,20 @@ refused-law-as e f r g n =
     (split e f a b c r g)
 
 -- where the last stage is not passed it is the answer
-last-answer : (u : Test) (l : Layout) → ¬ (u ≡ Passed) → (r : Refusal) × (answer (u ∷ []) l ≡ Refused r) × (u ≡ Failed r)
-unfolding answer
-last-answer Passed l n = absurd (n refl)
-last-answer (Failed r) l n = (r, refl, refl)
+last-answer : (u : Test) (l : Layout) → ¬ (u ≡ Ok tt) → (r : Refusal) × (answer (u ∷ []) l ≡ Err r) × (u ≡ Err r)
+last-answer (Ok u) l n = absurd (n refl)
+last-answer (Err r) l n = (r, refl, refl)
 
 -- A BROKEN LAW IS REFUSED
 pub broken-refused-as : BrokenRefusedAs
-unfolding read_as stages whole_stages answer
+unfolding read_as stages whole_stages
 broken-refused-as e f a b c o n =
     let raw : List (List ℕ) = operators_in e f a in
     let os : List (List ℕ) = operator_rows e raw in
     let counted : length raw ≡ a = length-records a (operator_length_in e) (drop (header_length_in e + 1) f) in
     let ns : List (List ℕ) = nodes_in e f a b c in
     let s : Stages e f a b c = of-otherwise e f a b c o in
-    let w : (r : Refusal) × (answer (laws_fault ns os ∷ []) (layout a b c) ≡ Refused r) × (laws_fault ns os ≡ Failed r) =
+    let w : (r : Refusal) × (answer (laws_fault ns os ∷ []) (layout a b c) ≡ Err r) × (laws_fault ns os ≡ Err r) =
     last-answer (laws_fault ns os) (layout a b c)
     (λ p. n (laws-kept a os ns (operators-many e raw ∙ counted) (right-operators e raw a counted o.cells)
     (λ i h. o.right-nodes i (rw length-records at h)) p)) in (

@@ -8,7 +8,7 @@
 --   GoodSections             the header and all three sections are good
 --   Due e f n at             the refusal n at a place is due to the file f of the edition e
 --   FileOrder                a file of any edition gets the refusal that is due
-use Rattle.std.specs.Prelude.{ℕ, ◌<◌, ◌≡◌, false, List, map, ◌↔◌, length}
+use Rattle.std.specs.Prelude.{ℕ, ◌<◌, ◌≡◌, false, List, map, ◌↔◌, length, Err}
 use Rattle.section.specs.Numbers.{header_length_in, extra_words, no_tree, wrong_sum}
 use Rattle.refusal.specs.Plain.{plain}
 use Rattle.section.specs.Sections.{children_of}
@@ -19,7 +19,6 @@ use Rattle.section.specs.Due.{RightHeader, FirstWrong, Good, SectionDue, HeaderD
 use Rattle.whole.specs.Meaning.{OneTree, ended, HasPlace}
 use Rattle.policy.specs.WellFormed.{OtherwiseIn}
 use Rattle.section.specs.declared.Edition.{Edition}
-use Rattle.policy.specs.declared.Reading.TheVariants.{Refused}
 use Rattle.section.specs.declared.Section.TheVariants.{Operators, Atoms, Nodes}
 
 -- the child counts of the nodes of a file of an edition
@@ -59,7 +58,7 @@ pub data Due (e : Edition) (f : List ℕ) : ℕ → ℕ → Type 0 where
 -- THE ORDER OF REFUSALS 1 TO 9, in a file of any edition (file-order)
 pub record FileOrder : Type 0 where
   -- a file gets the refusal that is due, and without a law none but that
-  pub due : (e : Edition) (f : List ℕ) (n at : ℕ) → (read_as e f ≡ Refused (plain n at)) ↔ Due e f n at
+  pub due : (e : Edition) (f : List ℕ) (n at : ℕ) → (read_as e f ≡ Err (plain n at)) ↔ Due e f n at
   -- "10" comes last: where none of these is due the file is well formed but for the laws
   pub last : (e : Edition) (f : List ℕ) → ((n at : ℕ) → ¬ Due e f n at)
       → (a : ℕ) × (b : ℕ) × (c : ℕ) × OtherwiseIn e f a b c

@@ -5,22 +5,19 @@
 --   extra_fault             no words stand behind the last node (7)
 --   whole_stages            once the sections are good: the end, the tree, the sum and the laws
 --   stages, answer         all stages in order
+--   Reading                what a file is read as
 --   read_as, read_of         the answer, for an edition and for the newest
 --   read_refusal               the answer's number, place, law and actions
-use Rattle.std.specs.Prelude.{ℕ, ◌+◌, List, [], ◌∷◌, leb, get_or, length, drop}
+use Rattle.std.specs.Prelude.{ℕ, ◌+◌, List, [], ◌∷◌, Result, Ok, Err, leb, get_or, length, drop}
 use Rattle.words.specs.Records.{records}
 use Rattle.section.specs.Numbers.{latest, header_length_in, operator_length_in, atom_length_in, node_length}
 use Rattle.section.specs.Numbers.{extra_words}
 use Rattle.section.specs.Cells.{operator_rows}
 use Rattle.section.specs.declared.Edition.{Edition}
 use Rattle.policy.specs.declared.Layout.{Layout}
-use Rattle.policy.specs.declared.Reading.{Reading}
-use Rattle.policy.specs.declared.Reading.TheVariants.{Accepted, Refused}
 use Rattle.refusal.specs.declared.Refusal.{Refusal}
 use Rattle.section.specs.declared.Section.TheVariants.{Operators, Atoms, Nodes}
-use Rattle.section.specs.declared.Test.{Test}
-use Rattle.section.specs.declared.Test.TheVariants.{Passed, Failed}
-use Rattle.section.specs.Sections.{unless, header_fault, section_fault, behind}
+use Rattle.section.specs.Sections.{Test, unless, header_fault, section_fault, behind}
 use Rattle.refusal.specs.Plain.{plain}
 use Rattle.whole.specs.Whole.{shape_fault, sum_fault, laws_fault}
 
@@ -94,11 +91,15 @@ stages e f a b c =
 abbrev pub layout : ℕ → ℕ → ℕ → Layout
 layout a b c = record { operators = a; atoms = b; nodes = c }
 
+-- what a file is read as: its layout, or a refusal
+abbrev pub Reading : Type 0
+Reading = Result Layout Refusal
+
 -- the first refusal of some stages, or the layout
-unfoldable pub answer : List Test → Layout → Reading
-answer [] l = Accepted l
-answer (Passed ∷ ts) l = answer ts l
-answer (Failed r ∷ ts) l = Refused r
+abbrev pub answer : List Test → Layout → Reading
+answer [] l = Ok l
+answer (Ok u ∷ ts) l = answer ts l
+answer (Err r ∷ ts) l = Err r
 
 -- WHAT READING ANSWERS, for each edition: the three counts are the words that stand in their places
 unfoldable pub read_as : Edition → List ℕ → Reading
@@ -114,5 +115,5 @@ read_of f = read_as latest f
 
 -- the number, place, law and actions of an answer: 0, 0, no law and three don't cares where the file is accepted
 abbrev pub read_refusal : Reading → Refusal
-read_refusal (Accepted l) = plain 0 0
-read_refusal (Refused r) = r
+read_refusal (Ok l) = plain 0 0
+read_refusal (Err r) = r

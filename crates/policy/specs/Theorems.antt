@@ -8,7 +8,7 @@
 --   RefusedPlain                           every other refusal names no law
 --   PartsAccepted, AcceptedParts           a file is accepted exactly when its parts are right and lawful
 --   PartsWhole, PartsRead                  a file is what its parts make, and has the parts that it is made of
-use Rattle.std.specs.Prelude.{ℕ, ◌≤◌, ◌<◌, ◌≡◌, true, List, ◌↔◌}
+use Rattle.std.specs.Prelude.{ℕ, ◌≤◌, ◌<◌, ◌≡◌, true, List, ◌↔◌, Ok, Err}
 use Rattle.theory.specs.Tree.{bare, ◌▸◌}
 use Rattle.theory.specs.Nodes.{plant, list_tree}
 use Rattle.action.specs.Laws.{Shows}
@@ -23,15 +23,14 @@ use Rattle.policy.specs.WellFormed.{OtherwiseIn, Otherwise, WellFormedIn, WellFo
 use Rattle.policy.specs.Parts.{Parts, file_words_in, parts_in, layout_of_parts, RightPartsIn, LawfulPartsIn}
 use Rattle.section.specs.declared.Edition.{Edition}
 use Rattle.policy.specs.declared.Layout.{Layout}
-use Rattle.policy.specs.declared.Reading.TheVariants.{Accepted, Refused}
 use Rattle.refusal.specs.declared.Refusal.{Refusal}
 
 -- a file is accepted exactly when it is well formed (accepted-as, accepted-exactly)
 abbrev pub AcceptedAs : Type 0
-AcceptedAs = (e : Edition) (f : List ℕ) (l : Layout) → (read_as e f ≡ Accepted l) ↔ WellFormedIn e f l
+AcceptedAs = (e : Edition) (f : List ℕ) (l : Layout) → (read_as e f ≡ Ok l) ↔ WellFormedIn e f l
 
 abbrev pub AcceptedExactly : Type 0
-AcceptedExactly = (f : List ℕ) (l : Layout) → (read_of f ≡ Accepted l) ↔ WellFormed f l
+AcceptedExactly = (f : List ℕ) (l : Layout) → (read_of f ≡ Ok l) ↔ WellFormed f l
 
 -- the nodes of an accepted file are one tree, and that tree's nodes in file order are the file's (accepted-tree)
 pub record FileTree (f : List ℕ) (l : Layout) : Type 0 where
@@ -40,12 +39,12 @@ pub record FileTree (f : List ℕ) (l : Layout) : Type 0 where
   pub shallow : depth (tree_of f l) ≤ deepest
 
 abbrev pub AcceptedTree : Type 0
-AcceptedTree = (f : List ℕ) (l : Layout) → read_of f ≡ Accepted l → FileTree f l
+AcceptedTree = (f : List ℕ) (l : Layout) → read_of f ≡ Ok l → FileTree f l
 
 -- every atom of an accepted file belongs to exactly one node: the nodes' atoms, one node's behind the other's, are the
 -- file's (accepted-atoms)
 abbrev pub AcceptedAtoms : Type 0
-AcceptedAtoms = (f : List ℕ) (l : Layout) → read_of f ≡ Accepted l → all_atoms (file_nodes f l) ≡ atoms_of f l
+AcceptedAtoms = (f : List ℕ) (l : Layout) → read_of f ≡ Ok l → all_atoms (file_nodes f l) ≡ atoms_of f l
 
 -- a file otherwise well formed, in which the operator that a refusal names by its place is used inside a node or
 -- between siblings and breaks the law that it names, at the actions that it shows; the operators before it that are
@@ -68,38 +67,38 @@ BrokenLaw f r = BrokenLawIn latest f r
 -- the refusal for a broken law says so (refused-law-as, refused-law), and is given wherever one is broken in a file
 -- otherwise well formed (broken-refused-as, broken-refused)
 abbrev pub RefusedLawAs : Type 0
-RefusedLawAs = (e : Edition) (f : List ℕ) (r : Refusal) → read_as e f ≡ Refused r → r.number ≡ law_broken
+RefusedLawAs = (e : Edition) (f : List ℕ) (r : Refusal) → read_as e f ≡ Err r → r.number ≡ law_broken
     → BrokenLawIn e f r
 
 abbrev pub RefusedLaw : Type 0
-RefusedLaw = (f : List ℕ) (r : Refusal) → read_of f ≡ Refused r → r.number ≡ law_broken → BrokenLaw f r
+RefusedLaw = (f : List ℕ) (r : Refusal) → read_of f ≡ Err r → r.number ≡ law_broken → BrokenLaw f r
 
 abbrev pub BrokenRefusedAs : Type 0
 BrokenRefusedAs = (e : Edition) (f : List ℕ) (a b c : ℕ) → OtherwiseIn e f a b c
     → ¬ LawsKept (operator_rows e (operators_in e f a)) (nodes_in e f a b c)
-    → (r : Refusal) × (read_as e f ≡ Refused r) × (r.number ≡ law_broken)
+    → (r : Refusal) × (read_as e f ≡ Err r) × (r.number ≡ law_broken)
 
 abbrev pub BrokenRefused : Type 0
 BrokenRefused = (f : List ℕ) (a b c : ℕ) → Otherwise f a b c → ¬ LawsKept (operator_records f a) (node_records f a b c)
-    → (r : Refusal) × (read_of f ≡ Refused r) × (r.number ≡ law_broken)
+    → (r : Refusal) × (read_of f ≡ Err r) × (r.number ≡ law_broken)
 
 -- every other refusal has a number below it, and names no law and three don't cares (refused-plain-as, refused-plain)
 abbrev pub RefusedPlainAs : Type 0
-RefusedPlainAs = (e : Edition) (f : List ℕ) (r : Refusal) → read_as e f ≡ Refused r → ¬ (r.number ≡ law_broken)
+RefusedPlainAs = (e : Edition) (f : List ℕ) (r : Refusal) → read_as e f ≡ Err r → ¬ (r.number ≡ law_broken)
     → (1 ≤ r.number) × (r.number < law_broken) × (r ≡ plain r.number r.place)
 
 abbrev pub RefusedPlain : Type 0
-RefusedPlain = (f : List ℕ) (r : Refusal) → read_of f ≡ Refused r → ¬ (r.number ≡ law_broken)
+RefusedPlain = (f : List ℕ) (r : Refusal) → read_of f ≡ Err r → ¬ (r.number ≡ law_broken)
     → (1 ≤ r.number) × (r.number < law_broken) × (r ≡ plain r.number r.place)
 
 -- the file that right and lawful parts make is accepted, with their layout (parts-accepted)
 abbrev pub PartsAccepted : Type 0
 PartsAccepted = (e : Edition) (P : Parts) → RightPartsIn e P → LawfulPartsIn e P
-    → read_as e (file_words_in e P) ≡ Accepted (layout_of_parts P)
+    → read_as e (file_words_in e P) ≡ Ok (layout_of_parts P)
 
 -- and an accepted file's parts are right and lawful (accepted-parts)
 abbrev pub AcceptedParts : Type 0
-AcceptedParts = (e : Edition) (f : List ℕ) (l : Layout) → read_as e f ≡ Accepted l
+AcceptedParts = (e : Edition) (f : List ℕ) (l : Layout) → read_as e f ≡ Ok l
     → RightPartsIn e (parts_in e f l) × LawfulPartsIn e (parts_in e f l)
 
 -- a file well formed but for the laws is what its parts make (parts-whole)

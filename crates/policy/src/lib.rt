@@ -10,7 +10,7 @@ ghost use Rattle.policy.specs.Steps.{with_whole, with_nodes, with_atoms, with_op
 
 use refusal::Refusal;
 use section::{
-    EXTRA_WORDS, Edition, LATEST, Section, Test, behind, header_fault, header_words, section_fault,
+    EXTRA_WORDS, Edition, LATEST, Section, behind, header_fault, header_words, section_fault,
     unless, wide,
 };
 use whole::{laws_fault, shape_fault, sum_fault};
@@ -24,14 +24,8 @@ pub struct Layout {
     pub nodes: usize,
 }
 
-#[derive(Clone, Copy)]
-pub enum Reading {
-    Accepted(Layout),
-    Refused(Refusal),
-}
-
 // Reads a policy file of the newest edition.
-pub fn read(file: &[u32]) -> Reading
+pub fn read(file: &[u32]) -> Result<Layout, Refusal>
     ensures { result ≡ read_of file.now }
 {
     read_as(file, LATEST)
@@ -39,57 +33,60 @@ pub fn read(file: &[u32]) -> Reading
 
 // Reads a policy file of an edition: its header, section by section, then words after the last
 // node, the tree, the own-atom counts and the laws.
-pub fn read_as(file: &[u32], edition: Edition) -> Reading
+#[tactic(auto, unfolding(crate::specs::Read::read_as, crate::specs::Read::stages))]
+pub fn read_as(file: &[u32], edition: Edition) -> Result<Layout, Refusal>
     ensures { result ≡ read_as edition file.now }
 {
-    let found = header_fault(file, edition);
-    if let Test::Failed(r) = found {
-        return Reading::Refused(r);
-    }
+    header_fault(file, edition)?;
     read_operators(file, edition, header_words(edition))
 }
 
 // The sections. The count of the operators stands at a place.
-fn read_operators(file: &[u32], edition: Edition, at: usize) -> Reading
+fn read_operators(file: &[u32], edition: Edition, at: usize) -> Result<Layout, Refusal>
     requires { at ≤ length file.now }
     ensures { result ≡ with_operators edition file.now at }
 {
     let section = Section::Operators(edition);
-    let found = section_fault(file, at, section);
-    if let Test::Failed(r) = found {
-        return Reading::Refused(r);
-    }
+    section_fault(file, at, section)?;
     let a = wide(word(file, at));
     read_atoms(file, edition, at, a, behind(at, section, a))
 }
 
 // The second section and what follows it, in a file of a operators, whose count stands at h.
-fn read_atoms(file: &[u32], edition: Edition, h: usize, a: usize, at: usize) -> Reading
+fn read_atoms(
+    file: &[u32],
+    edition: Edition,
+    h: usize,
+    a: usize,
+    at: usize,
+) -> Result<Layout, Refusal>
     requires { Reaches edition file.now h a at }
     ensures { result ≡ with_atoms edition file.now h a at }
 {
     let section = Section::Atoms(edition);
-    let found = section_fault(file, at, section);
-    if let Test::Failed(r) = found {
-        return Reading::Refused(r);
-    }
+    section_fault(file, at, section)?;
     let b = wide(word(file, at));
     read_nodes(file, edition, h, a, b, behind(at, section, b))
 }
 
 // The third section and what follows it, in a file of a operators and b atoms.
-fn read_nodes(file: &[u32], edition: Edition, h: usize, a: usize, b: usize, at: usize) -> Reading
+fn read_nodes(
+    file: &[u32],
+    edition: Edition,
+    h: usize,
+    a: usize,
+    b: usize,
+    at: usize,
+) -> Result<Layout, Refusal>
     requires { Reaches edition file.now h a at }
     ensures { result ≡ with_nodes edition file.now h a b at }
 {
-    let found = section_fault(file, at, Section::Nodes(a));
-    if let Test::Failed(r) = found {
-        return Reading::Refused(r);
-    }
+    section_fault(file, at, Section::Nodes(a))?;
     read_whole(file, edition, h, a, b, wide(word(file, at)), at)
 }
 
 // What is tested once all three sections are good.
+#[tactic(auto, unfolding(crate::specs::Read::whole_stages))]
 fn read_whole(
     file: &[u32],
     edition: Edition,
@@ -98,28 +95,16 @@ fn read_whole(
     b: usize,
     c: usize,
     at: usize,
-) -> Reading
+) -> Result<Layout, Refusal>
     requires { (c ≤ most_nodes) × Reaches edition file.now h a (behind at (Section.Nodes a) c) }
     ensures { result ≡ with_whole edition file.now h a b c at }
 {
     let first = at + 1;
-    let extra = extra_fault(file, at, a, c);
-    if let Test::Failed(r) = extra {
-        return Reading::Refused(r);
-    }
-    let tree = shape_fault(file, first, c);
-    if let Test::Failed(r) = tree {
-        return Reading::Refused(r);
-    }
-    let sum = sum_fault(file, first, c, b);
-    if let Test::Failed(r) = sum {
-        return Reading::Refused(r);
-    }
-    let law = laws_fault(file, edition, h, a, first, c);
-    if let Test::Failed(r) = law {
-        return Reading::Refused(r);
-    }
-    Reading::Accepted(Layout {
+    extra_fault(file, at, a, c)?;
+    shape_fault(file, first, c)?;
+    sum_fault(file, first, c, b)?;
+    laws_fault(file, edition, h, a, first, c)?;
+    Ok(Layout {
         operators: a,
         atoms: b,
         nodes: c,
@@ -127,7 +112,7 @@ fn read_whole(
 }
 
 // Words after the last of c nodes, in a file of a operators.
-fn extra_fault(file: &[u32], at: usize, a: usize, c: usize) -> Test
+fn extra_fault(file: &[u32], at: usize, a: usize, c: usize) -> Result<(), Refusal>
     requires { behind at (Section.Nodes a) c ≤ length file.now }
     ensures { result ≡ extra_fault file.now (behind at (Section.Nodes a) c) }
 {
