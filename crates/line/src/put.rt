@@ -87,9 +87,9 @@ pub(crate) fn put(out: &mut [u8], at: usize, text: &[u8]) -> usize
     ensures { Puts text.now out.old at out.new result }
 {
     let mut to = at;
-    // The first i bytes of the text are put, as far as they fit; to is where the next one goes.
-    for i in 0..text.len() {
-        to = put_byte(out, to, text[i]);
+    // The bytes before this one are put, as far as they fit; to is where it goes.
+    for &byte in text {
+        to = put_byte(out, to, byte);
     }
     to
 }

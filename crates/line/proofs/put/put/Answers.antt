@@ -3,11 +3,11 @@ use Rattle.std.proofs.Common.{arith}
 use Rattle.line.proofs.Digits.{text-start, text-turn, text-end}
 use Rattle.line.proofs.put.put.Goals as goal
 
-pub loop-i-init : goal.loop-i-init
-loop-i-init c = text-start _ _ _
+pub loop-byte-init : goal.loop-byte-init
+loop-byte-init c = text-start _ _ _
 
-pub loop-i-preserved : goal.loop-i-preserved
-loop-i-preserved c = text-turn c.loop-i.invariant c.put_byte-to.ensures (omega arith)
+pub loop-byte-preserved : goal.loop-byte-preserved
+loop-byte-preserved c = text-turn c.loop-byte.invariant c.put_byte-to.ensures (omega arith)
 
 pub returns : goal.returns
-returns c = text-end c.loop-i.invariant (omega arith)
+returns c = text-end c.loop-byte.invariant (omega arith)

@@ -2,5 +2,5 @@
 use Rattle.line.proofs.Digits.{TextAhead}
 use Rattle.line.proofs.put.put.Given as goal
 
-abbrev pub invariant-loop-i : goal.invariant-loop-i
-invariant-loop-i l = TextAhead l.text l.i l.out l.to l.initial.out l.at
+abbrev pub invariant-loop-byte : goal.invariant-loop-byte
+invariant-loop-byte l = TextAhead l.text l.byte-index l.out l.to l.initial.out l.at
