@@ -4,27 +4,24 @@ use native.Mathlib.Omega.{arith}
 use mathlib.Core.Path.{◌≡◌, refl, sym, ap, ap₂, subst, ◌∙◌}
 use mathlib.Core.List.{List}
 use lib.ListN.{length}
+use Rattle.std.specs.Prelude.{Option, Some, None}
 use Rattle.words.proofs.Laid.{length-laid}
 use Rattle.theory.specs.Tree.{Forest, ◌▸◌, table}
 use Rattle.flow.specs.Match.{is_empty, common}
 use Rattle.action.specs.Operator as operator
 use Rattle.policy.specs.File.{PolicyNode, PolicyTree}
 use Rattle.nodes.specs.Nodes.{node_at, cells_at, atom_words_at}
-use Rattle.nodes.specs.Walk.{next_spot, Reached, tree_at, children_at, AfterTree}
+use Rattle.nodes.specs.Walk.{next_spot, Reached, tree_at, children_at}
 use Rattle.nodes.specs.declared.NodeWords.{NodeWords}
 use Rattle.nodes.specs.declared.Spot.{Spot}
 use Rattle.nodes.proofs.Walk.{tree-here, after-tree, children-more, children-here, after-children, NoChild}
 use Rattle.common.specs.Lays.{Lays}
-use Rattle.common.specs.declared.Made.{Made}
-use Rattle.common.specs.declared.Made.TheVariants.{Words, Full}
 use Rattle.common.proofs.Going.{Fitted, made-words, lays-none, lays-case, lays-ends, too_long}
 use Rattle.rows.specs.Places.{part}
 use Rattle.rows.specs.Tables.{join_words, own_words}
 use Rattle.rows.proofs.Grow.{join-flat, join-length, joins}
 use Rattle.build.specs.Build.{compile_tree, compile_trees, own_at, tree_words, children_words, BuildsBy, Builds, NodeBuilt}
-use Rattle.build.specs.Build.{TreeBuilt, ChildrenBuilt, Within, Joined, JoinBuilt}
-use Rattle.build.specs.declared.Built.{Built}
-use Rattle.build.specs.declared.Built.TheVariants as built
+use Rattle.build.specs.Build.{TreeBuilt, ChildrenBuilt, JoinBuilt}
 use Rattle.build.specs.declared.Part.{Part}
 use Rattle.row.specs.Row.{rows_in, words_of}
 
@@ -34,65 +31,50 @@ join-holds o A B = omega (arith, join-length o A B)
 
 module _ {a : ℕ} {F old new : List ℕ} {P : Spot → Type 0} where
   -- what is known once the case is
-  built-done : {r : Built} {p : Part} → Builds a F old new P r → r ≡ built.Done p → Lays a F old new (Words p.end) × P p.next
+  built-done : {r : Option Part} {p : Part} → Builds a F old new P r → r ≡ Some p → Lays a F old new (Some p.end) × P p.next
   built-done h q = subst (BuildsBy a F old new P) q h.is
 
-  pub built-told : {r : Built} {p : Part} → Builds a F old new P r → r ≡ built.Done p → (a ≤ p.end) × (p.end ≤ length old) × P p.next
+  pub built-told : {r : Option Part} {p : Part} → Builds a F old new P r → r ≡ Some p → (a ≤ p.end) × (p.end ≤ length old) × P p.next
   built-told h q = let d = built-done h q in let e = lays-ends d.0 refl in (e.0, e.1, d.1)
 
-  pub built-within : (r : Built) → Builds a F old new P r → Within a (length old) r
-  built-within (built.Done p) h = lays-ends h.is.0 refl
-  built-within built.Full h = tt
-
   -- what does not fit does not fit with more
-  part-full : {r : Built} (last o D : List ℕ) {Q : Spot → Type 0} → Builds a F old new P r → r ≡ built.Full
-      → Builds a (join_words o F D) old last Q built.Full
+  part-full : {r : Option Part} (last o D : List ℕ) {Q : Spot → Type 0} → Builds a F old new P r → r ≡ None
+      → Builds a (join_words o F D) old last Q None
   part-full last o D h q =
-      let l : Lays a F old new Full = subst (BuildsBy a F old new P) q h.is in
+      let l : Lays a F old new None = subst (BuildsBy a F old new P) q h.is in
       record { is = too_long last l refl refl (omega (arith, join-holds o F D)) }
 
-pub within-done : {b limit : ℕ} {r : Built} {p : Part} → r ≡ built.Done p → Within b limit r → (b ≤ p.end) × (p.end ≤ limit)
-within-done {b} {limit} q h = subst (Within b limit) q h
+-- the two answers of `join_built`
+module _ (o : List ℕ) (a b : ℕ) (p : Part) (old new : List ℕ) {r : Option ℕ} {x : List ℕ} (i : x ≡ o)
+    (l : Lays a (join_words x (part a b old) (part b p.end old)) old new r) where
+  joined : Lays a (join_words o (part a b old) (part b p.end old)) old new r
+  joined = subst (λ y. Lays a (join_words y (part a b old) (part b p.end old)) old new r) i l
 
--- the three answers of `join_built`
-module _ (o : List ℕ) (a b : ℕ) (old new : List ℕ) where
-  pub joined-full : {m : Built} → m ≡ built.Full → JoinBuilt o a b old new m built.Full
-  joined-full q = record { is = subst (λ m. Joined o a b old new m built.Full) (sym q) refl }
+  pub joined-none : r ≡ None → JoinBuilt o a b p old new None
+  joined-none e = record { is = lays-case e joined }
 
-  pub joined-none : {m : Built} {p : Part} {r : Made} {x : List ℕ} → m ≡ built.Done p → x ≡ o
-      → Lays a (join_words x (part a b old) (part b p.end old)) old new r → r ≡ Full
-      → JoinBuilt o a b old new m built.Full
-  joined-none {m} {p} {r} {x} q i l e =
-      record {
-        is = subst (λ m. Joined o a b old new m built.Full) (sym q)
-            (subst (λ y. Lays a (join_words y (part a b old) (part b p.end old)) old new Full) i (lays-case e l));
-      }
+  pub joined-some : {e : ℕ} → r ≡ Some e → JoinBuilt o a b p old new (Some (record { end = e; next = p.next }))
+  joined-some w = record { is = (lays-case w joined, refl) }
 
-  pub joined-some : {m : Built} {p : Part} {r : Made} {e : ℕ} {x : List ℕ} → m ≡ built.Done p → x ≡ o
-      → Lays a (join_words x (part a b old) (part b p.end old)) old new r → r ≡ Words e
-      → JoinBuilt o a b old new m (built.Done (record { end = e; next = p.next }))
-  joined-some {m} {p} {r} {e} {x} q i l w =
-      record {
-        is = subst (λ m. Joined o a b old new m (built.Done (record { end = e; next = p.next }))) (sym q)
-            (subst (λ y. Lays a (join_words y (part a b old) (part b p.end old)) old new (Words e)) i (lays-case w l), refl);
-      }
+-- two tables built one behind the other: there is no room for the second, and both are joined
+module _ {a : ℕ} {C D old mid here new : List ℕ} {N P Q : Spot → Type 0} {x m : Option Part} {p : Part} (o : List ℕ)
+    (g : Builds a C old mid N x) (q : x ≡ Some p) (k : Builds p.end D mid here P m) where
+  rest-full : m ≡ None → Builds a (join_words o C D) old new Q None
+  rest-full e =
+      let l : Lays a C old mid (Some p.end) = (built-done g q).0 in
+      let f : Fitted a C (length old) p.end = made-words a C (length old) p.end l.answer in
+      let same : length mid ≡ length old = ap length (l.words f.fits) ∙ length-laid a C old in
+      let t : Lays p.end D mid here None = subst (BuildsBy p.end D mid here P) e k.is in
+      record { is = too_long new t refl same (omega (arith, f.end, join-holds o C D)) }
 
--- two tables built one behind the other and joined
-join-built : {a b : ℕ} {C old mid : List ℕ} (o D here new : List ℕ) (P Q : Spot → Type 0)
-    → Lays a C old mid (Words b) → (m r : Built) → BuildsBy b D mid here P m → Joined o a b here new m r → ((s : Spot) → P s → Q s)
-    → BuildsBy a (join_words o C D) old new Q r
-join-built o D here new P Q l (built.Done p) (built.Done q) k j f = (joins o l k.0 j.0, subst Q (sym j.1) (f p.next k.1))
-join-built o D here new P Q l (built.Done p) built.Full k j f = joins o l k.0 j
-join-built {a} {b} {C} {old} {mid} o D here new P Q l built.Full r k j f =
-    let e : Fitted a C (length old) b = made-words a C (length old) b l.answer in
-    let same : length mid ≡ length old = ap length (l.words e.fits) ∙ length-laid a C old in
-    let s : length C + length D ≤ length (join_words o C D) = join-holds o C D in
-    subst (BuildsBy a (join_words o C D) old new Q) (sym j) (too_long new k refl same (omega (arith, e.end)))
-
-both-built : {a : ℕ} {C D o old mid here new : List ℕ} {N P Q : Spot → Type 0} {x m r : Built} {p : Part} → Builds a C old mid N x → x ≡ built.Done p
-    → Builds p.end D mid here P m → JoinBuilt o a p.end here new m r → ((s : Spot) → P s → Q s) → Builds a (join_words o C D) old new Q r
-both-built {a} {C} {D} {o} {old} {mid} {here} {new} {N} {P} {Q} {x} {m} {r} g q k j f =
-    record { is = join-built o D here new P Q (built-done g q).0 m r k.is j.is f }
+  both-built : {n : Part} (r : Option Part) → m ≡ Some n → JoinBuilt o a p.end n here new r → ((s : Spot) → P s → Q s) → Builds a (join_words o C D) old new Q r
+  both-built {n} (Some t) e j f =
+      let l : Lays a C old mid (Some p.end) = (built-done g q).0 in
+      let d = built-done k e in
+      record { is = (joins o l d.0 j.is.0, subst Q (sym j.is.1) (f n.next d.1)) }
+  both-built {n} None e j f =
+      let l : Lays a C old mid (Some p.end) = (built-done g q).0 in
+      record { is = joins o l (built-done k e).0 j.is }
 
 -- a subtree's words: its own rows, joined with its children's
 tree-words : (f : List ℕ) (s : Spot) → Reached f s → 0 < s.left
@@ -114,7 +96,7 @@ children-words f s k o ts e =
     ap (λ us. words_of (compile_trees us (cells_at f o))) e ∙ sym (join-flat (cells_at f o) (compile_tree (tree_at f s)) (compile_trees ts (cells_at f o)))
 
 -- THE ANSWERS OF THE WALK: a node's own rows
-module _ (f : List ℕ) (s : Spot) {a : ℕ} {old new : List ℕ} (n : NodeWords) {o atoms : List ℕ} {m : Made}
+module _ (f : List ℕ) (s : Spot) {a : ℕ} {old new : List ℕ} (n : NodeWords) {o atoms : List ℕ} {m : Option ℕ}
     (e : n ≡ node_at f s.left) (u : o ≡ cells_at f n.inner) (v : atoms ≡ atom_words_at f s.atom n.own) (l : Lays a (own_words o atoms) old new m) where
   own-lays : Lays a (own_at f s) old new m
   own-lays =
@@ -122,37 +104,45 @@ module _ (f : List ℕ) (s : Spot) {a : ℕ} {old new : List ℕ} (n : NodeWords
       ap₂ own_words (u ∙ ap (λ (z : NodeWords). cells_at f z.inner) e) (v ∙ ap (λ (z : NodeWords). atom_words_at f s.atom z.own) e) in
       subst (λ x. Lays a x old new m) words l
 
-  pub node-full : m ≡ Full → NodeBuilt f s a old new built.Full
+  pub node-full : m ≡ None → NodeBuilt f s a old new None
   node-full q = record { is = lays-case q own-lays }
 
-  pub node_done : {end : ℕ} {next : Spot} → m ≡ Words end → next ≡ next_spot f s → NodeBuilt f s a old new (built.Done (record { end = end; next = next }))
+  pub node_done : {end : ℕ} {next : Spot} → m ≡ Some end → next ≡ next_spot f s → NodeBuilt f s a old new (Some (record { end = end; next = next }))
   node_done q p = record { is = (lays-case q own-lays, p) }
 
 module _ {f : List ℕ} {s : Spot} {a : ℕ} {old : List ℕ} where
-  -- a subtree: no room for its own rows; its own rows joined with those of its children
-  pub tree-full : {mid : List ℕ} (last : List ℕ) {o : Built} → NodeBuilt f s a old mid o → o ≡ built.Full → Reached f s → 0 < s.left
-      → TreeBuilt f s a old last built.Full
+  -- a subtree: no room for its own rows, or for those of its children; both joined
+  pub tree-full : {mid : List ℕ} (last : List ℕ) {o : Option Part} → NodeBuilt f s a old mid o → o ≡ None → Reached f s → 0 < s.left
+      → TreeBuilt f s a old last None
   tree-full last g q r h = rw (tree-words f s r h) (part-full last _ _ g q)
 
-  pub tree-done : {mid here new : List ℕ} {n : NodeWords} {o m r : Built} {p : Part} → NodeBuilt f s a old mid o → o ≡ built.Done p
-      → ChildrenBuilt f p.next n.sibling n.children p.end mid here m → JoinBuilt (cells_at f n.parent) a p.end here new m r
-      → n ≡ node_at f s.left → Reached f s → 0 < s.left → TreeBuilt f s a old new r
-  tree-done g q k j e reached h =
-      rw (tree-words f s reached h) (both-built g q (rw ((built-done g q).1, e) at k) (rw e at j) (λ x u. after-tree f s reached h u))
+  module _ {mid here : List ℕ} {n : NodeWords} {o m : Option Part} {p : Part} (g : NodeBuilt f s a old mid o) (q : o ≡ Some p)
+      (k : ChildrenBuilt f p.next n.sibling n.children p.end mid here m) (e : n ≡ node_at f s.left) (reached : Reached f s) (h : 0 < s.left) where
+    pub tree-rest : (last : List ℕ) → m ≡ None → TreeBuilt f s a old last None
+    tree-rest last w = rw (tree-words f s reached h) (rest-full _ g q (rw ((built-done g q).1, e) at k) w)
 
-  -- children: none; no room for the first; the first joined with the others
-  pub children-none : {k : ℕ} (o : ℕ) → NoChild f s k → a ≤ length old → ChildrenBuilt f s o k a old old (built.Done (record { end = a; next = s }))
+    pub tree-done : {new : List ℕ} {c : Part} (r : Option Part) → m ≡ Some c → JoinBuilt (cells_at f n.parent) a p.end c here new r → TreeBuilt f s a old new r
+    tree-done r w j =
+        rw (tree-words f s reached h) (both-built _ g q (rw ((built-done g q).1, e) at k) r w (rw e at j) (λ x u. after-tree f s reached h u))
+
+  -- children: none; no room for the first, or for the others; the first joined with the others
+  pub children-none : {k : ℕ} (o : ℕ) → NoChild f s k → a ≤ length old → ChildrenBuilt f s o k a old old (Some (record { end = a; next = s }))
   unfolding children_words
   children-none o n h = record { is = (lays-none (ap (λ ts. words_of (compile_trees ts (cells_at f o))) n.none) h, n.after) }
 
-  pub children-full : {mid : List ℕ} (last : List ℕ) (k o : ℕ) {m : Built} → TreeBuilt f s a old mid m → m ≡ built.Full → Reached f s → 0 < k → 0 < s.left
-      → ChildrenBuilt f s o k a old last built.Full
-  children-full last k o g q r some more = rw (children-words f s k o _ (children-more f s r more k some)) (part-full last _ _ g q)
+  module _ (k o : ℕ) {mid : List ℕ} {x : Option Part} (g : TreeBuilt f s a old mid x) (reached : Reached f s) (some : 0 < k) (more : 0 < s.left) where
+    pub children-full : (last : List ℕ) → x ≡ None → ChildrenBuilt f s o k a old last None
+    children-full last q = rw (children-words f s k o _ (children-more f s reached more k some)) (part-full last _ _ g q)
 
-  pub children-done : {mid here new : List ℕ} (k o : ℕ) {x m r : Built} {p : Part} → TreeBuilt f s a old mid x → x ≡ built.Done p
-      → ChildrenBuilt f p.next o (k - 1) p.end mid here m → JoinBuilt (cells_at f o) a p.end here new m r
-      → Reached f s → 0 < k → 0 < s.left → ChildrenBuilt f s o k a old new r
-  unfolding children_words
-  children-done k o g q kb j reached some more =
-      let a : AfterTree f s _ = (built-done g q).1 in
-      rw (children-words f s k o _ (children-here f s reached more k some a)) (both-built g q kb j (λ x u. after-children f s reached more k some a u))
+    module _ {p : Part} {here : List ℕ} {m : Option Part} (q : x ≡ Some p) (kb : ChildrenBuilt f p.next o (k - 1) p.end mid here m) where
+      is_more : children_words f s k o ≡ join_words (cells_at f o) (tree_words f s) (children_words f p.next (k - 1) o)
+      unfolding children_words
+      is_more = children-words f s k o _ (children-here f s reached more k some (built-done g q).1)
+
+      pub children-rest : (last : List ℕ) → m ≡ None → ChildrenBuilt f s o k a old last None
+      children-rest last w = rw is_more (rest-full _ g q kb w)
+
+      pub children-done : {new : List ℕ} {c : Part} (r : Option Part) → m ≡ Some c → JoinBuilt (cells_at f o) a p.end c here new r
+          → ChildrenBuilt f s o k a old new r
+      children-done r w j =
+          rw is_more (both-built _ g q kb r w j (λ x u. after-children f s reached more k some (built-done g q).1 u))

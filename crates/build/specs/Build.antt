@@ -6,7 +6,7 @@
 --   BuildsBy, Builds           a table was built at a place, and the next place is as told; or there was no room
 --   NodeBuilt, TreeBuilt, ChildrenBuilt, JoinBuilt   what each step leaves
 --   AtNode, AtPlace, OfNode, OfBuilt                 what each step asks
-use Rattle.std.specs.Prelude.{ℕ, ◌≤◌, ◌<◌, ◌≡◌, List, length}
+use Rattle.std.specs.Prelude.{ℕ, ◌≤◌, ◌<◌, ◌≡◌, List, length, Option, Some, None}
 use Rattle.theory.specs.Rows.{Row}
 use Rattle.theory.specs.Tree.{Forest, compile, compiles}
 use Rattle.flow.specs.Match.{is_empty, common}
@@ -19,11 +19,9 @@ use Rattle.nodes.specs.Walk.{next_spot, Reached, tree_at, children_at, AfterTree
 use Rattle.nodes.specs.declared.NodeWords.{NodeWords}
 use Rattle.nodes.specs.declared.Spot.{Spot}
 use Rattle.common.specs.Lays.{Lays}
-use Rattle.common.specs.declared.Made.TheVariants.{Words, Full}
 use Rattle.rows.specs.Places.{part}
 use Rattle.rows.specs.Tables.{join_words, own_words}
-use Rattle.build.specs.declared.Built.{Built}
-use Rattle.build.specs.declared.Built.TheVariants as built
+use Rattle.build.specs.declared.Part.{Part}
 use Rattle.row.specs.Row.{words_of}
 
 -- the table of a tree
@@ -47,39 +45,34 @@ unfoldable pub children_words : List ℕ → Spot → ℕ → ℕ → List ℕ
 children_words f s k o = words_of (compile_trees (children_at f s k) (cells_at f o))
 
 -- by the answer: F was laid at a place, and the next place is as told; or there was no room
-abbrev pub BuildsBy : ℕ → List ℕ → List ℕ → List ℕ → (Spot → Type 0) → Built → Type 0
-BuildsBy a F old new told (built.Done p) = Lays a F old new (Words p.end) × told p.next
-BuildsBy a F old new told built.Full = Lays a F old new Full
+abbrev pub BuildsBy : ℕ → List ℕ → List ℕ → List ℕ → (Spot → Type 0) → Option Part → Type 0
+BuildsBy a F old new told (Some p) = Lays a F old new (Some p.end) × told p.next
+BuildsBy a F old new told None = Lays a F old new None
 
 -- the same, with its parts named
-pub record Builds (a : ℕ) (F old new : List ℕ) (told : Spot → Type 0) (r : Built) : Type 0 where
+pub record Builds (a : ℕ) (F old new : List ℕ) (told : Spot → Type 0) (r : Option Part) : Type 0 where
   pub is : BuildsBy a F old new told r
 
 -- a node's own rows
-abbrev pub NodeBuilt : List ℕ → Spot → ℕ → List ℕ → List ℕ → Built → Type 0
+abbrev pub NodeBuilt : List ℕ → Spot → ℕ → List ℕ → List ℕ → Option Part → Type 0
 NodeBuilt f s a old new r = Builds a (own_at f s) old new (λ next. next ≡ next_spot f s) r
 
 -- a subtree's rows
-abbrev pub TreeBuilt : List ℕ → Spot → ℕ → List ℕ → List ℕ → Built → Type 0
+abbrev pub TreeBuilt : List ℕ → Spot → ℕ → List ℕ → List ℕ → Option Part → Type 0
 TreeBuilt f s a old new r = Builds a (tree_words f s) old new (AfterTree f s) r
 
 -- the rows of some children
-abbrev pub ChildrenBuilt : List ℕ → Spot → ℕ → ℕ → ℕ → List ℕ → List ℕ → Built → Type 0
+abbrev pub ChildrenBuilt : List ℕ → Spot → ℕ → ℕ → ℕ → List ℕ → List ℕ → Option Part → Type 0
 ChildrenBuilt f s sibling k a old new r = Builds a (children_words f s k sibling) old new (AfterChildren f s k) r
 
 -- what was built from a place on ends below a limit
-abbrev pub Within : ℕ → ℕ → Built → Type 0
-Within b limit (built.Done p) = (b ≤ p.end) × (p.end ≤ limit)
-Within b limit built.Full = Unit {0}
+abbrev pub Within : ℕ → ℕ → Option Part → Type 0
+Within b limit (Some p) = (b ≤ p.end) × (p.end ≤ limit)
+Within b limit None = Unit {0}
 
--- what was built from b on is joined with what stands from a up to b
-abbrev pub Joined : List ℕ → ℕ → ℕ → List ℕ → List ℕ → Built → Built → Type 0
-Joined o a b old new (built.Done p) r =
-    BuildsBy a (join_words o (part a b old) (part b p.end old)) old new (λ s. s ≡ p.next) r
-Joined o a b old new built.Full r = r ≡ built.Full
-
-pub record JoinBuilt (o : List ℕ) (a b : ℕ) (old new : List ℕ) (m r : Built) : Type 0 where
-  pub is : Joined o a b old new m r
+-- a part that was built from b on, joined with what stands from a up to b
+abbrev pub JoinBuilt : List ℕ → ℕ → ℕ → Part → List ℕ → List ℕ → Option Part → Type 0
+JoinBuilt o a b p old new r = Builds a (join_words o (part a b old) (part b p.end old)) old new (λ next. next ≡ p.next) r
 
 -- a place that the walk reached, a start in a buffer, and the other buffer as long
 abbrev pub AtPlace : List ℕ → Spot → ℕ → List ℕ → List ℕ → Type 0
@@ -94,7 +87,7 @@ abbrev pub OfNode : List ℕ → Spot → NodeWords → ℕ → List ℕ → Lis
 OfNode f s n start table scratch =
     Reached f s × (0 < s.left) × (n ≡ node_at f s.left) × (start ≤ length table) × (length scratch ≡ length table)
 
--- what was built from a middle on, behind a start, and the other buffer as long
-abbrev pub OfBuilt : ℕ → ℕ → Built → List ℕ → List ℕ → Type 0
-OfBuilt start middle b table scratch =
-    (start ≤ middle) × Within middle (length table) b × (length scratch ≡ length table)
+-- a part that was built from a middle on, behind a start, and the other buffer as long
+abbrev pub OfBuilt : ℕ → ℕ → Part → List ℕ → List ℕ → Type 0
+OfBuilt start middle p table scratch =
+    (start ≤ middle) × (middle ≤ p.end) × (p.end ≤ length table) × (length scratch ≡ length table)

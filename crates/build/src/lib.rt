@@ -8,7 +8,6 @@ ghost use Rattle.nodes.specs.Nodes.{cells_at};
 ghost use Rattle.build.specs.Build.{AtNode, AtPlace, OfNode, OfBuilt};
 ghost use Rattle.build.specs.Build.{NodeBuilt, TreeBuilt, ChildrenBuilt, JoinBuilt};
 
-use common::Made;
 use nodes::{NodeWords, Spot, atoms_at, node_at, operator_at};
 use rows::{join, own_rows};
 use section::ATOM_WORDS;
@@ -18,12 +17,6 @@ use section::ATOM_WORDS;
 pub struct Part {
     pub end: usize,
     pub next: Spot,
-}
-
-#[derive(Clone, Copy)]
-pub enum Built {
-    Done(Part),
-    Full,
 }
 
 // The table of the subtree at a place: the node's own rows, joined with its children's. It and
@@ -36,26 +29,22 @@ pub fn subtree(
     table: &mut [u32],
     scratch: &mut [u32],
     start: usize,
-) -> Built
+) -> Option<Part>
     requires { AtNode file.now at start table.old scratch.old }
     ensures { TreeBuilt file.now at start table.old table.new result }
 {
     let node = node_at(file, at.left);
-    let own = node_rows(file, at, node, table, scratch, start);
-    let Built::Done(part) = own else {
-        return Built::Full;
-    };
-    let middle = part.end;
-    let next = part.next;
+    let own = node_rows(file, at, node, table, scratch, start)?;
+    let middle = own.end;
     let rest = children(
         file,
-        next,
+        own.next,
         node.sibling,
         node.children,
         table,
         scratch,
         middle,
-    );
+    )?;
     join_built(file, node.parent, table, scratch, start, middle, rest)
 }
 
@@ -69,24 +58,20 @@ fn children(
     table: &mut [u32],
     scratch: &mut [u32],
     start: usize,
-) -> Built
+) -> Option<Part>
     requires { AtPlace file.now at start table.old scratch.old }
     ensures { ChildrenBuilt file.now at sibling count start table.old
         table.new result }
 {
     if (count == 0) | (at.left == 0) {
-        return Built::Done(Part {
+        return Some(Part {
             end: start,
             next: at,
         });
     }
-    let first = subtree(file, at, table, scratch, start);
-    let Built::Done(part) = first else {
-        return Built::Full;
-    };
-    let middle = part.end;
-    let next = part.next;
-    let rest = children(file, next, sibling, count - 1, table, scratch, middle);
+    let first = subtree(file, at, table, scratch, start)?;
+    let middle = first.end;
+    let rest = children(file, first.next, sibling, count - 1, table, scratch, middle)?;
     join_built(file, sibling, table, scratch, start, middle, rest)
 }
 
@@ -98,29 +83,27 @@ fn node_rows(
     table: &mut [u32],
     scratch: &mut [u32],
     start: usize,
-) -> Built
+) -> Option<Part>
     requires { OfNode file.now at node start table.old scratch.old }
     ensures { NodeBuilt file.now at start table.old table.new result }
 {
     let from = at.atom;
-    let made = own_rows(
+    let end = own_rows(
         operator_at(file, node.inner),
         atoms_at(file, from, node.own),
         table,
         scratch,
         start,
-    );
-    let Made::Words(end) = made else {
-        return Built::Full;
-    };
+    )?;
     let next = Spot {
         left: at.left - 1,
         atom: from + ATOM_WORDS * (node.own as usize),
     };
-    Built::Done(Part { end, next })
+    Some(Part { end, next })
 }
 
-// Joins what was built from the middle on with the table that stands from the start up to there.
+// Joins a part that was built from the middle on with the table that stands from the start up to
+// there.
 fn join_built(
     file: &[u32],
     index: u32,
@@ -128,20 +111,16 @@ fn join_built(
     scratch: &mut [u32],
     start: usize,
     middle: usize,
-    built: Built,
-) -> Built
-    requires { OfBuilt start middle built table.old scratch.old }
-    ensures { JoinBuilt (cells_at file.now index) start middle table.old
-        table.new built result }
+    part: Part,
+) -> Option<Part>
+    requires { OfBuilt start middle part table.old scratch.old }
+    ensures { JoinBuilt (cells_at file.now index) start middle part table.old
+        table.new result }
 {
-    let Built::Done(part) = built else {
-        return Built::Full;
-    };
-    let end = part.end;
-    let next = part.next;
-    let made = join(operator_at(file, index), table, scratch, start, middle, end);
-    let Made::Words(e) = made else {
-        return Built::Full;
-    };
-    Built::Done(Part { end: e, next })
+    let operator = operator_at(file, index);
+    let end = join(operator, table, scratch, start, middle, part.end)?;
+    Some(Part {
+        end,
+        next: part.next,
+    })
 }

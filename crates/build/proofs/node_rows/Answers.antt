@@ -4,17 +4,18 @@ use Rattle.nodes.proofs.Places.{atoms-rows, atoms-within, next-spot}
 use Rattle.build.proofs.Building.{node-full, node_done}
 use Rattle.build.proofs.node_rows.Goals as goal
 
-pub own_rows-made-requires : goal.own_rows-made-requires
-own_rows-made-requires c = (rw c.atoms_at.ensures (atoms-rows _ _ _), omega (arith, c.requires.3), c.requires.4)
+pub own_rows-requires : goal.own_rows-requires
+own_rows-requires c = (rw c.atoms_at.ensures (atoms-rows _ _ _), omega (arith, c.requires.3), c.requires.4)
 
-pub returns-in_default : goal.returns-in_default
-returns-in_default c =
-    node-full _ _ _ c.requires.2 c.operator_at.ensures c.atoms_at.ensures c.own_rows-made.ensures c.in_default.is
+pub returns-in_err-end : goal.returns-in_err-end
+returns-in_err-end c =
+    rw c.from_residual.ensures
+    (node-full _ _ _ c.requires.2 c.operator_at.ensures c.atoms_at.ensures c.own_rows.ensures c.in_err-end.was)
 
 pub overflow_add-next : goal.overflow_add-next
 overflow_add-next c = omega (arith, atoms-within _ _ c.requires.0 c.requires.1 _ c.requires.2)
 
 pub returns : goal.returns
 returns c =
-    node_done _ _ _ c.requires.2 c.operator_at.ensures c.atoms_at.ensures c.own_rows-made.ensures c.in-Words.is
+    node_done _ _ _ c.requires.2 c.operator_at.ensures c.atoms_at.ensures c.own_rows.ensures c.in_ok-end.was
     (next-spot _ _ c.requires.0 c.requires.1 _ c.requires.2)

@@ -47,4 +47,5 @@ loop-atom-preserved c =
 pub returns : goal.returns
 returns c =
     let l = c.loop-atom.invariant in
-    own-whole _ (all-given row_length c.args.atoms.now c.loop-atom.atom-iterator c.next.new.self l.atoms c.in-None.ensures.steps) l.table l.grown c.append.ensures
+    let e = all-given row_length c.args.atoms.now c.loop-atom.atom-iterator c.next.new.self l.atoms c.in-None.ensures.steps in
+    own-whole _ e l.table l.grown c.append.ensures
