@@ -14,7 +14,7 @@ use Rattle.section.specs.Sections.{unless}
 use Rattle.whole.specs.Whole.{waiting_nodes, one_less, shape}
 use Rattle.section.specs.Due.{FirstWrong}
 use Rattle.whole.specs.Meaning.{lacking, ended, nodes_above, HasPlace}
-use Rattle.section.specs.declared.Test.TheVariants.{Failed}
+use Rattle.std.specs.Prelude.{Err}
 use Rattle.logic.proofs.Tests.{by-test, by_le, and_left, and_right}
 
 -- how many nodes the entries of a stack lack together
@@ -110,7 +110,7 @@ enter-less k (n ∷ st) h = refl
 
 -- the first node without a place is named
 shape_at : (ks st : List ℕ) (i m : ℕ) → m < length ks → ((j : ℕ) → j < m → Fits (length (run st (take j ks)))) → ¬ Fits (length (run st (take m ks)))
-    → shape ks st i ≡ Failed (plain no_tree (i + m))
+    → shape ks st i ≡ Err (plain no_tree (i + m))
 shape_at [] st i m h b w = absurd (omega arith)
 shape_at (k ∷ ks) st i zero h b w =
     let n : ℕ = length (waiting_nodes st) in
@@ -150,7 +150,7 @@ module _ (ks : List ℕ) where
       record { awaited = t; shallow = omega (arith, f.few) })
 
   -- THE FIRST NODE WITHOUT A PLACE is what the shape test names
-  pub shape-first : (i : ℕ) → FirstWrong (HasPlace ks) (length ks) i → shape ks (1 ∷ []) 0 ≡ Failed (plain no_tree i)
+  pub shape-first : (i : ℕ) → FirstWrong (HasPlace ks) (length ks) i → shape ks (1 ∷ []) 0 ≡ Err (plain no_tree i)
   shape-first i w =
       let z : 0 + i ≡ i = omega arith in
       shape_at ks (1 ∷ []) 0 i w.within (λ j l. place-fits j (w.before j l)) (λ f. w.wrong (fits-place i f)) ∙ rw z

@@ -22,7 +22,7 @@ use Rattle.whole.specs.Meaning.{operator_at, KeepsLaws, LawsKept}
 use Rattle.section.specs.Due.{RightNode}
 use Rattle.section.specs.declared.Edition.{Edition}
 use Rattle.section.specs.declared.Edition.TheVariants.{First}
-use Rattle.section.specs.declared.Test.TheVariants.{Passed}
+use Rattle.std.specs.Prelude.{Ok}
 use Rattle.section.proofs.Each.{each-passed, passed-each}
 use Rattle.logic.proofs.Tests.{by-test, or_split}
 
@@ -46,16 +46,16 @@ named_by i (r ∷ ns) zero h e = rw e
 named_by i (r ∷ ns) (suc n) h e =
     by-test (names i r) (λ t. rw t) (λ t. rw t (named_by i ns n (omega arith) e))
 
-unbroken : (i : ℕ) (x : Lawful) → broken i x ≡ Passed → x ≡ Yes
+unbroken : (i : ℕ) (x : Lawful) → broken i x ≡ Ok tt → x ≡ Yes
 unbroken i Yes g = refl
 unbroken i (Broken l a b c) g = let w : ◌≡◌ {A = ℕ} 0 1 = cc in absurd (omega arith)
 
 -- an operator passes exactly when the search of it, if it is named, finds nothing
-pub passed-search : (ns : List (List ℕ)) (i : ℕ) (o : List ℕ) → operator_fault ns i o ≡ Passed → named i ns ≡ true → law_search (cells_of o) ≡ Yes
+pub passed-search : (ns : List (List ℕ)) (i : ℕ) (o : List ℕ) → operator_fault ns i o ≡ Ok tt → named i ns ≡ true → law_search (cells_of o) ≡ Yes
 unfolding operator_fault
 passed-search ns i o e n = unbroken i (law_search (cells_of o)) (rw n at e)
 
-search-passed : (ns : List (List ℕ)) (i : ℕ) (o : List ℕ) → (named i ns ≡ true → law_search (cells_of o) ≡ Yes) → operator_fault ns i o ≡ Passed
+search-passed : (ns : List (List ℕ)) (i : ℕ) (o : List ℕ) → (named i ns ≡ true → law_search (cells_of o) ≡ Yes) → operator_fault ns i o ≡ Ok tt
 unfolding operator_fault
 search-passed ns i o h = by-test (named i ns) (λ t. rw (t, h t)) (λ t. rw t)
 
@@ -86,7 +86,7 @@ right-operators e os a many cells i l =
 module _ (a : ℕ) (os ns : List (List ℕ)) (many : length os ≡ a)
     (codes : (i : ℕ) → i < a → RightCodes (operator_at os i))
     (nodes : (i : ℕ) → i < length ns → RightNode a (get_or ns i [])) where
-  pub laws-kept : laws_fault ns os ≡ Passed → LawsKept os ns
+  pub laws-kept : laws_fault ns os ≡ Ok tt → LawsKept os ns
   unfolding laws_fault
   laws-kept e n h =
       let r : List ℕ = get_or ns n [] in
@@ -102,7 +102,7 @@ module _ (a : ℕ) (os ns : List (List ℕ)) (many : length os ≡ a)
           (search-exact (operator_at os i) (codes i l)).0
           (passed-search ns i (get_or os i []) (each-passed [] (operator_fault ns) 1 0 os e i (omega arith) i (omega arith)) t)
 
-  pub kept_laws : LawsKept os ns → laws_fault ns os ≡ Passed
+  pub kept_laws : LawsKept os ns → laws_fault ns os ≡ Ok tt
   unfolding laws_fault
   kept_laws keeps =
       passed-each [] (operator_fault ns) 1 0 os

@@ -13,16 +13,16 @@ use Rattle.theory.specs.Nodes.{Listed, take_trees, drop_trees, count_trees, plan
 use Rattle.theory.proofs.Nodes.{◌⧺◌, list-plant, plants-before, plant-list}
 use Rattle.section.specs.Numbers.{deepest, no_tree}
 use Rattle.refusal.specs.Plain.{plain}
+use Rattle.section.specs.Sections.{Test}
 use Rattle.whole.specs.Whole.{waiting_nodes, one_less, shape}
 use Rattle.whole.specs.Meaning.{depth, depths, OneTree}
 use Rattle.refusal.specs.declared.Refusal.{Refusal}
-use Rattle.section.specs.declared.Test.{Test}
-use Rattle.section.specs.declared.Test.TheVariants.{Passed, Failed}
+use Rattle.std.specs.Prelude.{Ok, Err}
 use Rattle.section.proofs.Records.{unless-true}
 use Rattle.logic.proofs.Tests.{and_left, and_right}
 
 -- a test that guards a refusal was passed
-guarded : (b : Bool) (v : Test) (x : Refusal) → cond b v (Failed x) ≡ Passed → (b ≡ true) × (v ≡ Passed)
+guarded : (b : Bool) (v : Test) (x : Refusal) → cond b v (Err x) ≡ Ok tt → (b ≡ true) × (v ≡ Ok tt)
 guarded true v x e = (refl, e)
 guarded false v x e = (cc, cc)
 
@@ -62,7 +62,7 @@ module _ {X : Type 0} where
   entered (suc m ∷ st) t us a = (omega arith, omega (arith, a.1), (omega (arith, a.0), omega (arith, a.1), a.2))
 
   -- what passes has its trees
-  pub shape-trees : (ns : List (Listed X)) (st : List ℕ) (i : ℕ) → shape (map (λ n. n.child_count) ns) st i ≡ Passed → ChildrenFound ns × Awaited st (plant ns)
+  pub shape-trees : (ns : List (Listed X)) (st : List ℕ) (i : ℕ) → shape (map (λ n. n.child_count) ns) st i ≡ Ok tt → ChildrenFound ns × Awaited st (plant ns)
   shape-trees [] st i e =
       (tt, bare-awaited st bare refl (none_left (waiting_nodes st) (eqb-true _ _ (unless-true (eqb (length (waiting_nodes st)) 0) no_tree i e))))
     where
@@ -73,7 +73,7 @@ module _ {X : Type 0} where
       let s : List ℕ = waiting_nodes st in
       let k : ℕ = n.child_count in
       let rest : Test = shape (map (λ n. n.child_count) ns) (k ∷ one_less s) (suc i) in
-      let g : ((leb 1 (length s) && leb (length s) deepest) ≡ true) × (rest ≡ Passed) =
+      let g : ((leb 1 (length s) && leb (length s) deepest) ≡ true) × (rest ≡ Ok tt) =
       guarded (leb 1 (length s) && leb (length s) deepest) rest (plain no_tree i) e in
       let waits : 1 ≤ length s = leb-true 1 (length s) (and_left (leb 1 (length s)) (leb (length s) deepest) g.0) in
       let few : length s ≤ deepest = leb-true (length s) deepest (and_right (leb 1 (length s)) (leb (length s) deepest) g.0) in
@@ -82,7 +82,7 @@ module _ {X : Type 0} where
       ((ih.1.0, ih.0), enters st (node n.what (take_trees k (plant ns))) (drop_trees k (plant ns)) waits (omega (arith, ih.1.1)) ih.1.2)
 
   -- and what has its trees passes
-  pub trees-shape : (ns : List (Listed X)) (st : List ℕ) (i : ℕ) → ChildrenFound ns → Awaited st (plant ns) → shape (map (λ n. n.child_count) ns) st i ≡ Passed
+  pub trees-shape : (ns : List (Listed X)) (st : List ℕ) (i : ℕ) → ChildrenFound ns → Awaited st (plant ns) → shape (map (λ n. n.child_count) ns) st i ≡ Ok tt
   trees-shape [] st i f a = rw (awaited-bare st bare refl a)
   trees-shape (n ∷ ns) st i f a =
       let s : List ℕ = waiting_nodes st in
@@ -115,13 +115,13 @@ module _ {X : Type 0} where
   only (t ▸ us) h d e = (t, ap (λ (vs : Forest X). t ▸ vs) e, omega arith)
 
   -- ONE TREE exactly where the shape test passes
-  pub shape-one-tree : (ns : List (Listed X)) → shape (map (λ n. n.child_count) ns) (1 ∷ []) 0 ≡ Passed → OneTree ns
+  pub shape-one-tree : (ns : List (Listed X)) → shape (map (λ n. n.child_count) ns) (1 ∷ []) 0 ≡ Ok tt → OneTree ns
   shape-one-tree ns e =
       let h : ChildrenFound ns × Awaited (1 ∷ []) (plant ns) = shape-trees ns (1 ∷ []) 0 e in
       let o : (t : Tree X) × (plant ns ≡ t ▸ bare) × (depth t ≤ deepest) = only (plant ns) h.1.0 h.1.1 h.1.2 in
       record { tree = o.0; lists = sym (append-nil (list_tree o.0)) ∙ ap list_trees (sym o.1) ∙ list-plant ns h.0; shallow = o.2 }
 
-  pub one-tree-shape : (ns : List (Listed X)) → OneTree ns → shape (map (λ n. n.child_count) ns) (1 ∷ []) 0 ≡ Passed
+  pub one-tree-shape : (ns : List (Listed X)) → OneTree ns → shape (map (λ n. n.child_count) ns) (1 ∷ []) 0 ≡ Ok tt
   one-tree-shape ns o =
       let t : Tree X = o.tree in
       let p : plant ns ≡ t ▸ bare = ap plant (sym o.lists) ∙ plant-list t in

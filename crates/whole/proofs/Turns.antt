@@ -1,47 +1,48 @@
 -- One turn of the shape test. Assumes nothing.
-use Prim.Native.Nat.{ℕ, zero, suc, ◌+◌, ◌-◌, ◌≤◌, ◌<◌}
+use Prim.Native.Nat.{ℕ, suc, ◌+◌, ◌-◌, ◌≤◌, ◌<◌}
 use native.Mathlib.Omega.{arith}
 use native.Mathlib.Numerals.{add-one}
 use mathlib.Core.Path.{◌≡◌, sym, ◌∙◌}
-use mathlib.Core.Bool.{cond, ◌&&◌}
-use mathlib.Core.List.{List, ◌∷◌, map}
-use lib.ListN.{get_or, length, drop, set}
-use lib.Dec.{eqb, leb}
-use borrow.Author.Tests.{le-leb, lt-leb}
-use Rattle.words.specs.Records.{records}
-use Rattle.words.proofs.Records.{records-next, record-word}
+use mathlib.Core.Bool.{true, false, cond, ◌&&◌, ◌||◌}
+use mathlib.Core.List.{List, [], ◌∷◌, map}
+use lib.ListN.{get_or, length, set}
+use lib.Dec.{eqb, leb, ltb}
+use borrow.Author.Tests.{eqb-true, ltb-true, le-leb, lt-leb}
+use mathlib.Core.Logic.{⊎_elim}
+use Rattle.std.proofs.lemmas.Bool.Decides.{nat_tests}
+use Rattle.logic.proofs.Tests.{or_split}
 use Rattle.refusal.specs.Plain.{plain}
-use Rattle.section.specs.Sections.{unless, children_of}
+use Rattle.section.specs.Sections.{Test, unless, children_of}
 use Rattle.whole.specs.Whole.{waiting_nodes, one_less, shape, stacked}
-use Rattle.section.specs.declared.Test.{Test}
-use Rattle.section.specs.declared.Test.TheVariants.{Failed}
+use Rattle.std.specs.Prelude.{Err}
 use Rattle.whole.proofs.Stack.{stacked-length, enter}
 
-module _ (f : List ℕ) (from left i : ℕ) (w : List ℕ) (h d : ℕ) (v : Test)
-    (inv : shape (map children_of (records left 5 (drop from f))) (stacked w h) i ≡ v) (s : stacked w d ≡ waiting_nodes (stacked w h)) where
+-- a node that is awaited, and not too deep
+pub going : (d : ℕ) → (eqb d 0 || ltb 16 d) ≡ false → (0 < d) × (d ≤ 16)
+going d t = (grind (arith, nat_tests), grind (arith, nat_tests))
+
+module _ (ys : List (List ℕ)) (i : ℕ) (w : List ℕ) (h d : ℕ) (v : Test)
+    (inv : shape (map children_of ys) (stacked w h) i ≡ v) (s : stacked w d ≡ waiting_nodes (stacked w h)) where
   -- the number of open nodes is the height
   opened : length (waiting_nodes (stacked w h)) ≡ d
   opened = rw (← s) (stacked-length w d)
 
-  turn : 0 < left → v ≡ cond (leb 1 d && leb d 16)
-      (shape (map children_of (records (left - 1) 5 (drop (from + 5) f))) (get_or f (from + 4) 0 ∷ one_less (stacked w d)) (suc i))
-      (Failed (plain 8 i))
-  turn m = sym inv ∙ rw (records-next 5 from left f m, opened, ← s, record-word 5 from 4 f (omega arith))
+  -- the node x is next, and those behind it
+  module _ (x : List ℕ) (xs : List (List ℕ)) (e : ys ≡ x ∷ xs) where
+    turn : v ≡ cond (leb 1 d && leb d 16) (shape (map children_of xs) (get_or x 4 0 ∷ one_less (stacked w d)) (suc i)) (Err (plain 8 i))
+    turn = sym inv ∙ rw (e, opened, ← s)
 
-  pub ended : 0 < left → d ≡ 0 → Failed (plain 8 i) ≡ v
-  ended m e = sym (turn m ∙ rw e)
+    -- the tree had ended, or is too deep here
+    pub stopped : (eqb d 0 || ltb 16 d) ≡ true → Err (plain 8 i) ≡ v
+    stopped t =
+        ⊎_elim
+        (λ h. let z : d ≡ 0 = eqb-true d 0 h in sym (turn ∙ rw z))
+        (λ h. let g : 16 < d = ltb-true 16 d h in sym (turn ∙ rw (le-leb 1 d (omega arith), lt-leb d 16 g)))
+        (or_split (eqb d 0) (ltb 16 d) t)
 
-  pub too-deep : 0 < left → 16 < d → Failed (plain 8 i) ≡ v
-  too-deep m g = sym (turn m ∙ rw (le-leb 1 d (omega arith), lt-leb d 16 g))
+    pub on : 0 < d → d ≤ 16 → length w ≡ 17
+        → shape (map children_of xs) (stacked (set (set w (d - 1) (get_or w (d - 1) 0 - 1)) d (get_or x 4 0)) (d + 1)) (i + 1) ≡ v
+    on p q n = rw (add-one i, enter w d (get_or x 4 0) p (omega arith)) (sym (turn ∙ rw (le-leb 1 d p, le-leb d 16 q)))
 
-  pub on : 0 < left → 0 < d → d ≤ 16 → length w ≡ 17
-      → shape (map children_of (records (left - 1) 5 (drop (from + 5) f)))
-      (stacked (set (set w (d - 1) (get_or w (d - 1) 0 - 1)) d (get_or f (from + 4) 0)) (d + 1)) (i + 1) ≡ v
-  on m p q n = rw (add-one i, enter w d (get_or f (from + 4) 0) p (omega arith)) (sym (turn m ∙ rw (le-leb 1 d p, le-leb d 16 q)))
-
-  pub finished : left ≤ 0 → unless (eqb d 0) 8 i ≡ v
-  finished m = none_left left m inv
-    where
-      none_left : (n : ℕ) → n ≤ 0 → shape (map children_of (records n 5 (drop from f))) (stacked w h) i ≡ v → unless (eqb d 0) 8 i ≡ v
-      none_left zero g e = rw opened at e
-      none_left (suc n) g e = absurd (omega arith)
+  pub finished : ys ≡ [] → unless (eqb d 0) 8 i ≡ v
+  finished e = let g : shape [] (stacked w h) i ≡ v = rw e at inv in rw opened at g

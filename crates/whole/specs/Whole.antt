@@ -1,21 +1,25 @@
 -- What a file is refused with once its sections are good, by its nodes and operators: the tree, the own-atom counts and
 -- the laws. See docs/FORMAT.md, "The policy file" and "Numbers a caller can get back".
 --
+--   node_records            the nodes that a list of words holds
 --   shape_fault             the nodes are one tree, no deeper than allowed (8)
 --   own_atoms, sum_fault     the own-atom counts add up to the atoms (9)
 --   names, named           a node, or some node, names an operator as inner or sibling
 --   laws_fault              the operators that some node names so keep the laws (10)
 --   stacked                the stack that an array is
-use Rattle.std.specs.Prelude.{ℕ, zero, suc, ◌+◌, pred, Bool, false, cond, ◌&&◌, ◌||◌, List, [], ◌∷◌, map, eqb, leb, get_or, length}
+use Rattle.std.specs.Prelude.{ℕ, zero, suc, ◌+◌, ◌/◌, pred, Bool, false, cond, ◌&&◌, ◌||◌, List, [], ◌∷◌, Ok, Err, map, eqb, leb, get_or, length}
 use Rattle.action.specs.Operator.{cells_of}
 use Rattle.action.specs.Laws.{law_search}
 use Rattle.action.specs.declared.Lawful.{Lawful}
 use Rattle.action.specs.declared.Lawful.TheVariants.{Yes, Broken}
+use Rattle.words.specs.Records.{records}
 use Rattle.refusal.specs.Plain.{plain}
-use Rattle.section.specs.Numbers.{deepest, no_tree, wrong_sum, law_broken}
-use Rattle.section.specs.Sections.{unless, each, inner_of, sibling_of, own_of, children_of}
-use Rattle.section.specs.declared.Test.{Test}
-use Rattle.section.specs.declared.Test.TheVariants.{Passed, Failed}
+use Rattle.section.specs.Numbers.{node_length, deepest, no_tree, wrong_sum, law_broken}
+use Rattle.section.specs.Sections.{Test, unless, each, inner_of, sibling_of, own_of, children_of}
+
+-- the nodes that a list of words holds
+abbrev pub node_records : List ℕ → List (List ℕ)
+node_records ws = records (length ws / node_length) node_length ws
 
 -- of the children still to come of each open node, the innermost first: those that wait for one
 abbrev pub waiting_nodes : List ℕ → List ℕ
@@ -35,7 +39,7 @@ shape [] st i = unless (eqb (length (waiting_nodes st)) 0) no_tree i
 shape (k ∷ ks) st i =
     cond (leb 1 (length (waiting_nodes st)) && leb (length (waiting_nodes st)) deepest)
     (shape ks (k ∷ one_less (waiting_nodes st)) (suc i))
-    (Failed (plain no_tree i))
+    (Err (plain no_tree i))
 
 -- the nodes are one tree, no deeper than allowed: one node is awaited, the root
 unfoldable pub shape_fault : List (List ℕ) → Test
@@ -61,12 +65,12 @@ named i (r ∷ rs) = names i r || named i rs
 
 -- the refusal for the operator i where the search found a broken law
 abbrev pub broken : ℕ → Lawful → Test
-broken i Yes = Passed
-broken i (Broken l a b c) = Failed (record { number = law_broken; place = i; law = l; first = a; second = b; third = c })
+broken i Yes = Ok tt
+broken i (Broken l a b c) = Err (record { number = law_broken; place = i; law = l; first = a; second = b; third = c })
 
 -- the operator i keeps the laws, if some node names it
 unfoldable pub operator_fault : List (List ℕ) → ℕ → List ℕ → Test
-operator_fault ns i o = cond (named i ns) (broken i (law_search (cells_of o))) Passed
+operator_fault ns i o = cond (named i ns) (broken i (law_search (cells_of o))) (Ok tt)
 
 -- all operators, by index
 unfoldable pub laws_fault : List (List ℕ) → List (List ℕ) → Test

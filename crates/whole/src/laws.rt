@@ -1,15 +1,17 @@
 // The laws of the operators that some node names as inner or sibling.
-ghost use Rattle.std.specs.Prelude.{◌≡◌, ◌+◌, ◌*◌, ◌≤◌, length, drop};
+ghost use Rattle.std.specs.Prelude.{◌≡◌, ◌+◌, ◌*◌, drop};
 ghost use Rattle.words.specs.Records.{records};
 ghost use Rattle.section.specs.Numbers.{operator_length_in, node_length};
 ghost use Rattle.section.specs.Cells.{operator_row, operator_rows};
-ghost use Rattle.whole.specs.Whole.{names, named, broken, operator_fault, laws_fault};
+ghost use Rattle.whole.specs.Whole.{node_records, names, named, broken, operator_fault, laws_fault};
 ghost use Rattle.section.specs.Sections.{Reaches};
 
+use crate::node_words;
 use action::Lawful;
 use refusal::Refusal;
 use section::{
-    Edition, INNER, LAW_BROKEN, NODE_WORDS, SIBLING, Test, operator_in, operator_words, wide,
+    Edition, INNER, LAW_BROKEN, NODE_WORDS, SIBLING, Section, behind, operator_in, operator_words,
+    wide,
 };
 use words::word;
 
@@ -22,54 +24,39 @@ pub fn laws_fault(
     operators: usize,
     at: usize,
     count: usize,
-) -> Test
+) -> Result<(), Refusal>
     requires { Reaches edition file.now h operators (at + node_length * count) }
     ensures { result ≡ laws_fault (records count node_length (drop at file.now))
         (operator_rows edition
         (records operators (operator_length_in edition) (drop (h + 1) file.now))) }
 {
-    let step = operator_words(edition);
-    let mut from = h + 1;
-    // The first i operators keep the laws or are not named; the others stand from from on.
-    for i in 0..operators {
-        let end = from + step;
-        let found = operator_fault(&file[from..end], i, edition, file, at, count);
-        if let Test::Failed(_) = found {
-            return found;
-        }
-        from = end;
+    let nodes = node_words(file, at, count);
+    let end = behind(h, Section::Operators(edition), operators);
+    let cells = &file[h + 1..end];
+    // The operators before operator i keep the laws or are not named.
+    for (i, operator) in cells.chunks_exact(operator_words(edition)).enumerate() {
+        operator_fault(operator, i, edition, nodes)?;
     }
-    Test::Passed
+    Ok(())
 }
 
-fn operator_fault(
-    words: &[u32],
-    i: usize,
-    edition: Edition,
-    file: &[u32],
-    at: usize,
-    count: usize,
-) -> Test
-    requires { at + node_length * count ≤ length file.now }
-    ensures { result ≡ operator_fault (records count node_length (drop at file.now)) i
-        (operator_row edition words.now) }
+fn operator_fault(words: &[u32], i: usize, edition: Edition, nodes: &[u32]) -> Result<(), Refusal>
+    ensures { result ≡ operator_fault (node_records nodes.now) i (operator_row edition words.now) }
 {
-    if is_named(file, at, count, i) {
+    if is_named(nodes, i) {
         broken(operator_in(words, edition).law_search(), i)
     } else {
-        Test::Passed
+        Ok(())
     }
 }
 
 // Whether some node names an operator as inner or sibling.
-fn is_named(file: &[u32], at: usize, count: usize, operator: usize) -> bool
-    requires { at + node_length * count ≤ length file.now }
-    ensures { result ≡ named operator (records count node_length (drop at file.now)) }
+fn is_named(nodes: &[u32], operator: usize) -> bool
+    ensures { result ≡ named operator (node_records nodes.now) }
 {
-    // None of the first i nodes names the operator.
-    for i in 0..count {
-        let from = at + NODE_WORDS * i;
-        if names(&file[from..from + NODE_WORDS], operator) {
+    // None of the nodes before names the operator.
+    for node in nodes.chunks_exact(NODE_WORDS) {
+        if names(node, operator) {
             return true;
         }
     }
@@ -86,12 +73,12 @@ fn names(node: &[u32], operator: usize) -> bool
 }
 
 // The refusal for a broken law of the operator at an index.
-fn broken(found: Lawful, place: usize) -> Test
+fn broken(found: Lawful, place: usize) -> Result<(), Refusal>
     ensures { result ≡ broken place found }
 {
     match found {
-        Lawful::Yes => Test::Passed,
-        Lawful::Broken(law, first, second, third) => Test::Failed(Refusal {
+        Lawful::Yes => Ok(()),
+        Lawful::Broken(law, first, second, third) => Err(Refusal {
             number: LAW_BROKEN,
             place,
             law,

@@ -2,34 +2,36 @@
 ghost use Rattle.std.specs.Prelude.{◌≡◌, ◌+◌, ◌-◌, ◌*◌, ◌≤◌, ◌<◌, length, get_or, drop, set};
 ghost use Rattle.words.specs.Records.{records};
 ghost use Rattle.section.specs.Numbers.{node_length, most_nodes, deepest};
-ghost use Rattle.whole.specs.Whole.{waiting_nodes, shape_fault, own_atoms, sum_fault, stacked};
+ghost use Rattle.whole.specs.Whole.{node_records, waiting_nodes, stacked};
+ghost use Rattle.whole.specs.Whole.{shape_fault, own_atoms, sum_fault};
 
-use section::{CHILDREN, NO_TREE, NODE_WORDS, OWN, Test, WRONG_SUM, unless, wide};
+use crate::node_words;
+use refusal::{Refusal, plain};
+use section::{CHILDREN, NO_TREE, NODE_WORDS, OWN, WRONG_SUM, unless, wide};
+use words::word;
 
 // The root has depth 1.
 const DEEPEST: usize = 16;
 
 // The first node that the tree has no place for: it had ended, or the node is too deep; or the node
 // count, if children are missing.
-pub fn shape_fault(file: &[u32], at: usize, count: usize) -> Test
+pub fn shape_fault(file: &[u32], at: usize, count: usize) -> Result<(), Refusal>
     requires { at + node_length * count ≤ length file.now }
     ensures { result ≡ shape_fault (records count node_length (drop at file.now)) }
 {
+    let nodes = node_words(file, at, count);
     let mut waiting = [0u32; DEEPEST + 1];
     waiting[0] = 1;
     let mut height = 1;
-    // The first i nodes have a place; the first height words of waiting are the children still to
-    // come of each node that is open behind them.
-    for i in 0..count {
+    // The nodes before node i have a place; the first height words of waiting are the children
+    // still to come of each node that is open behind them.
+    for (i, node) in nodes.chunks_exact(NODE_WORDS).enumerate() {
         let d = settled(waiting, height);
-        if d == 0 {
-            return unless(false, NO_TREE, i);
-        }
-        if DEEPEST < d {
-            return unless(false, NO_TREE, i);
+        if (d == 0) | (DEEPEST < d) {
+            return Err(plain(NO_TREE, i));
         }
         waiting[d - 1] -= 1;
-        waiting[d] = file[at + NODE_WORDS * i + CHILDREN];
+        waiting[d] = node[CHILDREN];
         height = d + 1;
     }
     let d = settled(waiting, height);
@@ -43,36 +45,33 @@ fn settled(waiting: [u32; DEEPEST + 1], height: usize) -> usize
     ensures low { result ≤ height }
     ensures waits { 0 < result → 0 < get_or waiting (result - 1) 0 }
 {
-    let mut d = height;
-    // The nodes from d on have all their children.
-    while 0 < d {
-        let top = d - 1;
+    // The nodes above top have all their children.
+    for top in (0..height).rev() {
         if waiting[top] != 0 {
-            return d;
+            return top + 1;
         }
-        d = top;
     }
-    d
+    0
 }
 
 // Whether the own-atom counts add up to the atoms.
-pub fn sum_fault(file: &[u32], at: usize, count: usize, atoms: usize) -> Test
+pub fn sum_fault(file: &[u32], at: usize, count: usize, atoms: usize) -> Result<(), Refusal>
     requires { (at + node_length * count ≤ length file.now) × (count ≤ most_nodes) }
     ensures { result ≡ sum_fault (records count node_length (drop at file.now)) atoms }
 {
-    let sum = own_atoms(file, at, count);
+    let sum = own_atoms(node_words(file, at, count));
     unless(sum == atoms, WRONG_SUM, 0)
 }
 
 // How many atoms the nodes take together.
-fn own_atoms(file: &[u32], at: usize, count: usize) -> usize
-    requires { (at + node_length * count ≤ length file.now) × (count ≤ most_nodes) }
-    ensures { result ≡ own_atoms (records count node_length (drop at file.now)) }
+fn own_atoms(nodes: &[u32]) -> usize
+    requires { length (node_records nodes.now) ≤ most_nodes }
+    ensures { result ≡ own_atoms (node_records nodes.now) }
 {
     let mut sum = 0;
-    // sum is what the first i nodes take.
-    for i in 0..count {
-        sum += wide(file[at + NODE_WORDS * i + OWN]);
+    // sum is what the nodes before take.
+    for node in nodes.chunks_exact(NODE_WORDS) {
+        sum += wide(word(node, OWN));
     }
     sum
 }

@@ -1,5 +1,5 @@
 -- Records as the chunks that an iterator gives: at each turn those that are left are the next and those behind it.
-use Prim.Native.Nat.{ℕ, zero, suc, ◌+◌, ◌*◌, ◌/◌, ◌%◌, ◌≤◌, ◌<◌}
+use Prim.Native.Nat.{ℕ, zero, suc, ◌+◌, ◌-◌, ◌*◌, ◌/◌, ◌%◌, ◌≤◌, ◌<◌}
 use native.Mathlib.Omega.{arith}
 use native.Mathlib.Numerals.{add-one}
 use native.Mathlib.Nat.{add-div_right, div-eq_of_lt, add-mod_right, mod-eq_of_lt}
@@ -50,6 +50,11 @@ whole-part k (suc n) ws pos h =
     ∙ ap (whole k) (take-add k (k * n) ws)
     ∙ whole-next k (take k ws) (take (k * n) (drop k ws)) pos (length-take-le k ws (omega arith))
     ∙ ap (λ rs. take k ws ∷ rs) (whole-part k n (drop k ws) pos l)
+
+pub whole-range : (k n from to : ℕ) (ws : List ℕ) → 0 < k → to ≡ from + k * n → to ≤ length ws → whole k (take (to - from) (drop from ws)) ≡ records n k (drop from ws)
+whole-range k n from to ws pos e h =
+    let d : to - from ≡ k * n = omega arith in
+    ap (λ m. whole k (take m (drop from ws))) d ∙ whole-part k n (drop from ws) pos (rw length-drop (omega arith))
 
 -- a turn of a loop over chunks, and its end
 pub left-next : (k : ℕ) (s t : ChunksExact ℕ) (x : Bor (List ℕ)) → 0 < k → s.size ≡ k → chunks_exact_steps s (Some x) t → left k s ≡ x.now ∷ left k t

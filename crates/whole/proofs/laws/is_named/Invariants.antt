@@ -1,11 +1,12 @@
 -- Of the nodes that are left some node names the operator exactly if some node of all does.
-use Rattle.std.proofs.Common.{◌≡◌, ◌+◌, ◌*◌, ◌-◌, drop}
-use Rattle.words.specs.Records.{records}
+use Rattle.std.proofs.Common.{◌≡◌}
+use Rattle.words.proofs.Chunks.{left}
 use Rattle.section.specs.Numbers.{node_length}
-use Rattle.whole.specs.Whole.{named}
+use Rattle.whole.specs.Whole.{node_records, named}
 use Rattle.whole.proofs.laws.is_named.Given as goal
 
-abbrev pub invariant-loop-i : goal.invariant-loop-i
-invariant-loop-i l =
-    named l.operator (records (l.count - l.i) node_length (drop (l.at + node_length * l.i) l.file))
-    ≡ named l.operator (records l.count node_length (drop l.at l.file))
+abbrev pub invariant-loop-node : goal.invariant-loop-node
+invariant-loop-node l = record {
+  size : l.node-iterator.size ≡ node_length;
+  same : named l.operator (left node_length l.node-iterator) ≡ named l.operator (node_records l.nodes);
+}

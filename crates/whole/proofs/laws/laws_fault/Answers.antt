@@ -1,38 +1,52 @@
 -- A turn tries one operator.
-use Rattle.std.proofs.Common.{◌≡◌, ◌+◌, ◌-◌, refl, ap, ◌∙◌, length, drop, arith}
+use Rattle.std.proofs.Common.{◌+◌, ap, ◌∙◌, drop, arith}
+use Rattle.std.proofs.lemmas.Result.{err_from_is_err_and}
 use Rattle.words.specs.Records.{records}
-use Rattle.section.specs.Numbers.{node_length}
+use Rattle.words.proofs.Chunks.{started, left-next, whole-range}
+use Rattle.section.specs.Numbers.{operator_length_in}
 use Rattle.section.specs.Cells.{operator_rows}
 use Rattle.section.proofs.Each.{hit, miss}
-use Rattle.section.proofs.Records.{fits}
-use Rattle.whole.specs.Whole.{operator_fault, laws_fault}
-use Rattle.whole.proofs.Nodes.{operators-next}
+use Rattle.whole.specs.Whole.{node_records, operator_fault, laws_fault}
+use Rattle.whole.proofs.Nodes.{operator-long, operators-next}
 use Rattle.whole.proofs.laws.laws_fault.Goals as goal
 
 pub loop-i-init : goal.loop-i-init
 unfolding laws_fault
 loop-i-init c =
-    let all : c.args.operators - 0 ≡ c.args.operators = omega arith in
-    rw (all, c.operator_words-step.ensures) (record { within = c.requires.1; same = refl })
+    let g = c.args in
+    let k = operator_length_in g.edition in
+    let s = started k _ _ _ _ c.chunks_exact.ensures.rest (c.chunks_exact.ensures.size ∙ c.operator_words.ensures) c.enumerate-i-items.ensures.source
+    c.enumerate-i-items.ensures.count c.into_iter-i-iterator.ensures.into_iter_gives in
+    let w = whole-range k g.operators (g.h + 1) c.behind-end.result g.file.now (operator-long g.edition) (omega (arith, c.behind-end.ensures))
+    (omega (arith, c.behind-end.ensures, c.requires.1)) in
+    record {
+      size = s.going.size;
+      same = rw (s.none, s.left, w);
+    }
 
-pub returns-in-Failed : goal.returns-in-Failed
-returns-in-Failed c =
+pub returns-in_err-operator_fault : goal.returns-in_err-operator_fault
+returns-in_err-operator_fault c =
     let l = c.loop-i in
     let g = c.args in
-    let nodes = records g.count node_length (drop g.at g.file.now) in
-    hit (operator_fault nodes) l.i 1 l.invariant.same (operators-next g.edition _ l.from (g.operators - l.i) g.file.now (omega arith))
-    c.operator_fault-found.ensures c.in-Failed.is
-    ∙ ap (λ k. laws_fault nodes (operator_rows g.edition (records g.operators k (drop (g.h + 1) g.file.now)))) c.operator_words-step.ensures
+    let k = operator_length_in g.edition in
+    let more = left-next k l.i-iterator.iter c.next.new.self.iter c.in-Some.operator (operator-long g.edition) l.invariant.size c.in-Some.ensures.steps.0 in
+    let p = err_from_is_err_and c.from_residual.result c.from_residual.ensures.1 in
+    rw (p.1, p.2, ← c.in_err-operator_fault.was)
+    (hit (operator_fault (node_records c.node_words-nodes.result.now)) l.i-iterator.count 1 l.invariant.same
+    (ap (operator_rows g.edition) more ∙ operators-next g.edition _ _) (rw c.in-Some.ensures.steps.1 at c.operator_fault.ensures)
+    c.in_err-operator_fault.was
+    ∙ ap (λ ns. laws_fault ns (operator_rows g.edition (records g.operators k (drop (g.h + 1) g.file.now)))) c.node_words-nodes.ensures)
 
 pub loop-i-preserved : goal.loop-i-preserved
 loop-i-preserved c =
     let l = c.loop-i in
     let g = c.args in
-    let left : g.operators - (l.i + 1) ≡ g.operators - l.i - 1 = omega arith in
-    let m = fits c.operator_words-step.result l.from (g.operators - l.i) (length g.file.now) (omega arith) l.invariant.within in
-    rw left
-    (record {
-      within = m.others;
-      same = miss (operator_fault (records g.count node_length (drop g.at g.file.now))) l.i 1 l.invariant.same
-          (operators-next g.edition _ l.from (g.operators - l.i) g.file.now (omega arith)) c.operator_fault-found.ensures c.in_default.is;
-    })
+    let k = operator_length_in g.edition in
+    let more = left-next k l.i-iterator.iter c.next.new.self.iter c.in-Some.operator (operator-long g.edition) l.invariant.size c.in-Some.ensures.steps.0 in
+    record {
+      size = c.in-Some.ensures.steps.0.0 ∙ l.invariant.size;
+      same = rw c.in-Some.ensures.steps.2
+          (miss (operator_fault (node_records c.node_words-nodes.result.now)) l.i-iterator.count 1 l.invariant.same
+          (ap (operator_rows g.edition) more ∙ operators-next g.edition _ _)
+          (rw c.in-Some.ensures.steps.1 at c.operator_fault.ensures) c.in_ok-operator_fault.was);
+    }

@@ -1,6 +1,7 @@
 -- The nodes that are left, from the stack on, come to what all nodes come to.
-use Rattle.std.proofs.Common.{◌≡◌, ◌+◌, ◌*◌, ◌-◌, ◌≤◌, suc, length, drop, map}
+use Rattle.std.proofs.Common.{◌≡◌, ◌+◌, ◌≤◌, suc, length, drop, map}
 use Rattle.words.specs.Records.{records}
+use Rattle.words.proofs.Chunks.{left}
 use Rattle.section.specs.Numbers.{node_length, deepest}
 use Rattle.section.specs.Sections.{children_of}
 use Rattle.whole.specs.Whole.{shape, shape_fault, stacked}
@@ -10,6 +11,8 @@ abbrev pub invariant-loop-i : goal.invariant-loop-i
 invariant-loop-i l = record {
   room : length l.waiting ≡ suc deepest;
   low : l.height ≤ suc deepest;
-  same : shape (map children_of (records (l.count - l.i) node_length (drop (l.at + node_length * l.i) l.file))) (stacked l.waiting l.height) l.i
+  size : l.i-iterator.iter.size ≡ node_length;
+  all : l.i-iterator.count + length (left node_length l.i-iterator.iter) ≡ l.count;
+  same : shape (map children_of (left node_length l.i-iterator.iter)) (stacked l.waiting l.height) l.i-iterator.count
       ≡ shape_fault (records l.count node_length (drop l.at l.file));
 }
