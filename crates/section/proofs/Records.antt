@@ -1,5 +1,5 @@
--- A section: the records and the cells that a loop has left, and what a passed section shows. Assumes nothing.
-use Prim.Native.Nat.{ℕ, zero, suc, ◌+◌, ◌*◌, ◌-◌, ◌≤◌, ◌<◌}
+-- A section: what a passed one shows, and what it comes to by its records. Assumes nothing.
+use Prim.Native.Nat.{ℕ, ◌+◌, ◌*◌, ◌-◌, ◌≤◌, ◌<◌}
 use native.Mathlib.Omega.{arith}
 use mathlib.Core.Path.{◌≡◌, refl, sym, ◌∙◌}
 use mathlib.Core.Bool.{Bool, true, false, ◌&&◌}
@@ -16,18 +16,6 @@ use Rattle.section.specs.declared.Section.{Section}
 use Rattle.section.proofs.Each.{else-both}
 use Rattle.section.proofs.Lengths.{record-some}
 use Rattle.logic.proofs.Tests.{and_left, and_right}
-
--- where one record at least is left, it fits, and so do the others
-pub record Fits (k from left n : ℕ) : Type 0 where
-  pub one : from + k ≤ n
-  pub others : from + k + k * (left - 1) ≤ n
-
-pub fits : (k from left n : ℕ) → 0 < left → from + k * left ≤ n → Fits k from left n
-fits k from zero n h g = absurd (omega arith)
-fits k from (suc m) n h g =
-    let d : suc m - 1 ≡ m = omega arith in
-    let e : k * suc m ≡ k + k * m = omega arith in
-    record { one = omega arith; others = rw d (omega arith) }
 
 -- what a passed test shows
 pub unless-true : (b : Bool) (n at : ℕ) → unless b n at ≡ Ok tt → b ≡ true
