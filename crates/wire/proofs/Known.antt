@@ -1,8 +1,6 @@
 -- Known bytes that are read, and that are written, one part after the other. Assumes nothing.
-use Rattle.std.proofs.Common.{◌≡◌, refl, sym, ap, ◌∙◌, List, ◌++◌, ℕ, append_assoc, None, Some, Ok, Err, Bool, true, false, ◌&&◌}
+use Rattle.std.proofs.Common.{◌≡◌, refl, sym, ap, ◌∙◌, List, ◌++◌, ℕ, append_assoc, None, Some, Bool, true, false, ◌&&◌}
 use Rattle.std.specs.declared.option.Option.{Option}
-use Rattle.std.specs.declared.result.Result.{Result}
-use Rattle.std.specs.Result.{is_ok, OnOk}
 use Rattle.std.specs.Io.KnownBytes.{Appends, Consumes}
 
 pub consumes_then : (a b c : Option (List ℕ)) (xs ys : List ℕ) → Consumes a b xs → Consumes b c ys → Consumes a c (xs ++ ys)
@@ -23,8 +21,3 @@ pub both_written : (a b c : Option (List ℕ)) (p q : Bool) (xs ys : List ℕ) �
 both_written a b c true true xs ys f g h = appends_then a b c xs ys (f refl) (g refl)
 both_written a b c true false xs ys f g h = cc
 both_written a b c false q xs ys f g h = cc
-
--- what a success says holds where one was found
-pub on_ok : {T E P : Type 0} → (r : Result T E) → is_ok r ≡ true → OnOk r P → P
-on_ok (Ok x) h p = p
-on_ok (Err e) h p = cc

@@ -1,13 +1,19 @@
--- A turn writes the bytes of one more block.
-use Rattle.std.proofs.Common.{rules, arith, ◌+◌}
-use Rattle.wire.proofs.Blocks.{block_more}
+-- A turn writes the bytes of the next block.
+use Rattle.std.proofs.Common.{◌++◌, ap, sym, ◌∙◌, append_assoc, rules}
+use Rattle.words.specs.Bytes.{bytes_of}
+use Rattle.words.proofs.Records.{flat_append}
 use Rattle.wire.proofs.Known.{appends_then}
 use Rattle.wire.proofs.give.Goals as goal
 
-pub loop-at-preserved : goal.loop-at-preserved
-loop-at-preserved g c = record {
-  within = search rules;
-  written =
-      rw (block_more c.loop-at.at (c.loop-at.at + c.min.result) c.args.words.now (omega arith) (omega arith))
-      (appends_then _ _ _ _ _ c.loop-at.invariant.written (c.give_block.ensures c.if-not-give_block.false));
-}
+pub loop-block-preserved : goal.loop-block-preserved
+loop-block-preserved g c =
+    let h = c.loop-block.invariant.written in
+    let block = c.in-Some.block.now in
+    record {
+      size = search rules;
+      written = (
+        h.0 ++ block,
+        h.1 ∙ ap (λ r. h.0 ++ r) c.in-Some.ensures.steps.1.0 ∙ sym (append_assoc h.0 block c.next.new.self.rest.now),
+        rw (flat_append bytes_of h.0 block) (appends_then _ _ _ _ _ h.2 c.in_ok-give_block.ensures),
+      );
+    }

@@ -10,5 +10,5 @@ loop-at-preserved g c = record {
   same_length = search rules;
   read =
       rw (block_read c.loop-at.at (c.loop-at.at + c.min.result) c.loop-at.out c.take_block.new.out (omega arith) c.loop-at.invariant.within)
-      (consumes_then _ _ _ _ _ c.loop-at.invariant.read (c.take_block.ensures c.if-not-take_block.false));
+      (consumes_then _ _ _ _ _ c.loop-at.invariant.read c.in_ok-take_block.ensures);
 }
