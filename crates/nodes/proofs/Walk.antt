@@ -15,7 +15,7 @@ use Rattle.policy.specs.Read as read
 use Rattle.policy.specs.File.{PolicyNode, first_tree, tree_of}
 use Rattle.policy.specs.WellFormed.{Otherwise}
 use Rattle.policy.specs.declared.Layout.{Layout}
-use Rattle.policy.specs.declared.Reading.TheVariants.{Accepted}
+use Rattle.std.specs.Prelude.{Ok}
 use Rattle.policy.proofs.Accepted.{accepted-exactly}
 use Rattle.logic.proofs.Tests.{by-test}
 use Rattle.nodes.specs.Nodes.{node_at, first_atom, root_spot}
@@ -24,7 +24,7 @@ use Rattle.nodes.specs.declared.Spot.{Spot}
 use Rattle.nodes.proofs.Places.{node_here, here, listed-many}
 
 -- THE START: the root, with all nodes left
-module _ (f : List ℕ) (l : Layout) (e : read_of f ≡ Accepted l) (s : Spot) (start : s ≡ root_spot l) where
+module _ (f : List ℕ) (l : Layout) (e : read_of f ≡ Ok l) (s : Spot) (start : s ≡ root_spot l) where
   o : Otherwise f l.operators l.atoms l.nodes
   o = ((accepted-exactly f l).0 e).otherwise
 

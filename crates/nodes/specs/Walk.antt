@@ -11,7 +11,7 @@
 --   tree_at, children_at         the first of them, and the first k of them
 --   After        a place behind some trees
 --   AfterTree, AfterChildren   a place behind the tree at a place, and behind k children
-use Rattle.std.specs.Prelude.{ℕ, ◌+◌, ◌*◌, ◌-◌, ◌≤◌, ◌≡◌, List, get_or, take, drop}
+use Rattle.std.specs.Prelude.{ℕ, ◌+◌, ◌*◌, ◌-◌, ◌≤◌, ◌≡◌, List, Ok, get_or, take, drop}
 use Rattle.theory.specs.Tree.{Forest}
 use Rattle.theory.specs.Nodes.{Listed, take_trees, drop_trees, plant}
 use Rattle.section.specs.Numbers.{header_length, atom_length}
@@ -20,7 +20,6 @@ use Rattle.policy.specs.Read.{nodes_at, node_records, layout, read_of}
 use Rattle.policy.specs.Read as read
 use Rattle.policy.specs.File.{PolicyNode, PolicyTree, file_nodes, first_tree}
 use Rattle.policy.specs.declared.Layout.{Layout}
-use Rattle.policy.specs.declared.Reading.TheVariants.{Accepted}
 use Rattle.nodes.specs.Nodes.{node_at}
 use Rattle.nodes.specs.declared.Spot.{Spot}
 
@@ -49,7 +48,7 @@ atoms_from f i = read.atoms_at (layout_of f).operators + 1 + atom_length * own_a
 
 -- a place that a walk over an accepted file reaches: its atoms start where those of the nodes before it end
 pub record Reached (f : List ℕ) (s : Spot) : Type 0 where
-  pub accepted : read_of f ≡ Accepted (layout_of f)
+  pub accepted : read_of f ≡ Ok (layout_of f)
   pub left : s.left ≤ (layout_of f).nodes
   pub atom : s.atom ≡ atoms_from f (node_index f s)
 
