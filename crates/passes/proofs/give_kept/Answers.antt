@@ -2,10 +2,10 @@
 use Rattle.passes.specs.Replies.{answer_words}
 use Rattle.passes.proofs.give_kept.Goals as goal
 
-pub returns-in-Rows : goal.returns-in-Rows
+pub returns-in-Ok : goal.returns-in-Ok
 unfolding answer_words
-returns-in-Rows g c = rw c.in-Rows.is (rw c.low.ensures at c.give.ensures)
+returns-in-Ok g c = rw c.in-Ok.is (rw c.low.ensures at c.give.ensures)
 
-pub returns-in-Refused : goal.returns-in-Refused
+pub returns-in-Err : goal.returns-in-Err
 unfolding answer_words
-returns-in-Refused g c = rw c.in-Refused.is (rw c.low-in-Refused.ensures at c.give-in-Refused.ensures)
+returns-in-Err g c = rw c.in-Err.is (rw c.low-in-Err.ensures at c.give-in-Err.ensures)
