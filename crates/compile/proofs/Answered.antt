@@ -22,7 +22,8 @@ use Rattle.action.specs.declared.Action.{Action}
 use Rattle.row.specs.Row.{row_length, row_of, right_row_match, RightRow, words_of, InRange, table_rows}
 use Rattle.section.specs.Numbers.{atom_length, node_length}
 use Rattle.refusal.specs.Plain.{plain}
-use Rattle.policy.specs.Read.{read_of, nodes_at, operator_records, atom_records, node_records}
+use Rattle.std.specs.Prelude.{Ok, Err}
+use Rattle.policy.specs.Read.{Reading, read_of, nodes_at, operator_records, atom_records, node_records}
 use Rattle.section.specs.Sections.{own_of}
 use Rattle.policy.specs.Read as read
 use Rattle.whole.specs.Meaning.{operator_at}
@@ -30,15 +31,11 @@ use Rattle.policy.specs.File.{held, tree_of, atoms_of}
 use Rattle.section.specs.Due.{RightNode}
 use Rattle.policy.specs.declared.Layout.{Layout}
 use Rattle.refusal.specs.declared.Refusal.{Refusal}
-use Rattle.policy.specs.declared.Reading.{Reading}
-use Rattle.policy.specs.declared.Reading.TheVariants as reading
 use Rattle.policy.proofs.Accepted.{accepted-exactly, accepted-tree}
 use Rattle.words.specs.Words.{zeros}
 use Rattle.compile.specs.Compile.{no_room, no_scratch, wrong_rate, room, compiled_rows, fine, accepted_answer, after_reading, answer_of, table_after}
-use Rattle.compile.specs.Compile.{scratch_after, compile_refusal}
+use Rattle.compile.specs.Compile.{Compiled, scratch_after, compile_refusal}
 use Rattle.compile.specs.Theorems.{RoomExactly, RowsAnswered, AnswerTells, AnswersRows}
-use Rattle.compile.specs.declared.Compiled.{Compiled}
-use Rattle.compile.specs.declared.Compiled.TheVariants.{Rows, Refused}
 use Rattle.row.proofs.Rows.{words_count}
 use Rattle.logic.specs.Lists.{All}
 use Rattle.logic.proofs.Lists.{all_take, all_drop, all_map}
@@ -59,7 +56,7 @@ module _ (K : List ℕ → Type 0) (T : Row Match Action → Type 0) where
       )
 
   -- where the operators and the atoms of an accepted file have them, so do the nodes of its tree
-  pub accepted-good : (f : List ℕ) (l : Layout) → read_of f ≡ reading.Accepted l
+  pub accepted-good : (f : List ℕ) (l : Layout) → read_of f ≡ Ok l
       → ((i : ℕ) → i < l.operators → K (operator_at (operator_records f l.operators) i))
       → ((i : ℕ) → i < l.atoms → T (row_of (get_or (atom_records f l.operators l.atoms) i []))) → EveryNode (GoodNode K T) (tree_of f l)
   accepted-good f l e k t =
@@ -85,7 +82,7 @@ pub every-fine : (N : List (Row Match Action)) → All InRange N → fine N ≡ 
 every-fine [] f = refl
 every-fine (r ∷ N) f = and_both f.0 (every-fine N f.1)
 
-module _ (f : List ℕ) (l : Layout) (e : read_of f ≡ reading.Accepted l) where
+module _ (f : List ℕ) (l : Layout) (e : read_of f ≡ Ok l) where
   -- every row has a right match, and none is empty
   every-compiled : All (λ r. RightMatch r × (is_empty r.match ≡ false)) (compiled_rows f l)
   unfolding RightMatch compiled_rows right_row_match
@@ -97,21 +94,21 @@ module _ (f : List ℕ) (l : Layout) (e : read_of f ≡ reading.Accepted l) wher
   front : (zs : List ℕ) → table_rows (length (compiled_rows f l)) (words_of (compiled_rows f l) ++ zs) ≡ words_of (compiled_rows f l)
   front zs = take_at (words_of (compiled_rows f l)) zs (length (compiled_rows f l) * row_length) (words_count (compiled_rows f l))
 
-no_rows : {X : Type 0} {n : ℕ} {r : Refusal} → Refused r ≡ Rows n → X
+no_rows : {X : Type 0} {n : ℕ} {r : Refusal} → Err r ≡ Ok n → X
 no_rows q = let z : ◌≡◌ {A = ℕ} 0 1 = cc in absurd (omega arith)
 
 -- of an accepted file
-accepted-rows : (f t s : List ℕ) (n : ℕ) (l : Layout) → read_of f ≡ reading.Accepted l → accepted_answer (compiled_rows f l) t s ≡ Rows n → AnswerTells f t s n
+accepted-rows : (f t s : List ℕ) (n : ℕ) (l : Layout) → read_of f ≡ Ok l → accepted_answer (compiled_rows f l) t s ≡ Ok n → AnswerTells f t s n
 unfolding table_after
 accepted-rows f t s n l e =
     let N : List (Row Match Action) = compiled_rows f l in
     by-test (ltb (length s) (row_length * room (length t)))
-    (λ a q. let q' : Refused (plain no_scratch 0) ≡ Rows n = rw a at q in no_rows q')
+    (λ a q. let q' : Err (plain no_scratch 0) ≡ Ok n = rw a at q in no_rows q')
     (λ a. by-test (ltb (room (length t)) (length N))
-    (λ b q. let q' : Refused (plain no_room 0) ≡ Rows n = rw (a, b) at q in no_rows q')
+    (λ b q. let q' : Err (plain no_room 0) ≡ Ok n = rw (a, b) at q in no_rows q')
     (λ b. by-test (fine N)
     (λ c q.
-    let q' : Rows (length N) ≡ Rows n = rw (a, b, c) at q in
+    let q' : Ok (length N) ≡ Ok n = rw (a, b, c) at q in
     let m : length N ≡ n = cc in
     record {
       layout = l;
@@ -122,15 +119,15 @@ accepted-rows f t s n l e =
       stands = rw (e, a, b, c)
           (ap (λ k. table_rows k (words_of N ++ zeros (length t - length (words_of N)))) (sym m) ∙ front f l e (zeros (length t - length (words_of N))));
     })
-    (λ c q. let q' : Refused (plain wrong_rate 0) ≡ Rows n = rw (a, b, c) at q in no_rows q')))
+    (λ c q. let q' : Err (plain wrong_rate 0) ≡ Ok n = rw (a, b, c) at q in no_rows q')))
 
 pub answers-rows : AnswersRows
 unfolding answer_of
 answers-rows f t s n = from (read_of f) refl
   where
-    from : (x : Reading) → read_of f ≡ x → after_reading x (λ r. Refused r) (λ l. accepted_answer (compiled_rows f l) t s) ≡ Rows n → AnswerTells f t s n
-    from (reading.Accepted l) e q = accepted-rows f t s n l e q
-    from (reading.Refused r) e q = no_rows q
+    from : (x : Reading) → read_of f ≡ x → after_reading x (λ r. Err r) (λ l. accepted_answer (compiled_rows f l) t s) ≡ Ok n → AnswerTells f t s n
+    from (Ok l) e q = accepted-rows f t s n l e q
+    from (Err r) e q = no_rows q
 
 pub rows-answered : RowsAnswered
 unfolding answer_of table_after scratch_after
@@ -146,11 +143,11 @@ room-exactly f t s l e enough =
     let N : List (Row Match Action) = compiled_rows f l in
     let no-13 : ltb (length s) (row_length * room (length t)) ≡ false = le-ltb _ _ enough in (
       (λ q. by-test (ltb (room (length t)) (length N)) (λ b. ltb-true _ _ b) (λ b.
-          let q' : cond (fine N) (Rows (length N)) (Refused (plain wrong_rate 0)) ≡ Refused (plain no_room 0) = rw (e, no-13, b) at q in absurd
+          let q' : cond (fine N) (Ok (length N)) (Err (plain wrong_rate 0)) ≡ Err (plain no_room 0) = rw (e, no-13, b) at q in absurd
           (other (fine N) (length N) q'))),
       (λ h. rw (e, no-13, lt-ltb _ _ h)),
     )
   where
-    other : (x : Bool) (n : ℕ) → cond x (Rows n) (Refused (plain wrong_rate 0)) ≡ Refused (plain no_room 0) → ⊥
+    other : (x : Bool) (n : ℕ) → cond x (Ok n) (Err (plain wrong_rate 0)) ≡ Err (plain no_room 0) → ⊥
     other true n q = let z : ◌≡◌ {A = ℕ} 0 1 = cc in absurd (omega arith)
     other false n q = let z : wrong_rate ≡ no_room = ap (λ (c : Compiled). (compile_refusal c).number) q in absurd (omega arith)

@@ -11,7 +11,12 @@ use borrow.Author.Tests.{lt-ltb, le-ltb}
 use Rattle.words.specs.Records.{rows_of}
 use Rattle.words.specs.Words.{laid, cleared, zeros}
 use Rattle.words.proofs.Laid.{laid-is}
-use Rattle.words.proofs.Records.{rows_at, rows_end, rows_more, rows_none}
+use Rattle.words.proofs.Records.{rows_more, rows_none}
+use Rattle.words.proofs.Chunks.{rows-next, rows-none}
+use Rattle.std.specs.Prelude.{Ok, Err, Option, Some, None}
+use Rattle.std.specs.Borrow.{Bor}
+use Rattle.std.specs.Slice.Iter.{chunks_exact_steps}
+use Rattle.std.specs.declared.slice.ChunksExact.{ChunksExact}
 use Rattle.theory.specs.Rows.{Row}
 use Rattle.flow.specs.declared.Match.{Match}
 use Rattle.action.specs.declared.Action.{Action}
@@ -19,11 +24,9 @@ use Rattle.action.proofs.Words.{right-words}
 use Rattle.row.specs.Row.{row_length, row_words, right_row_action, words_of}
 use Rattle.row.proofs.Rows.{row-long, words_count}
 use Rattle.refusal.specs.Plain.{plain}
-use Rattle.policy.specs.Read.{read_of}
+use Rattle.policy.specs.Read.{Reading, read_of}
 use Rattle.policy.specs.File.{PolicyTree}
 use Rattle.policy.specs.declared.Layout.{Layout}
-use Rattle.policy.specs.declared.Reading.{Reading}
-use Rattle.policy.specs.declared.Reading.TheVariants as reading
 use Rattle.refusal.specs.declared.Refusal.{Refusal}
 use Rattle.nodes.specs.Nodes.{root_spot}
 use Rattle.nodes.specs.declared.Spot.{Spot}
@@ -31,36 +34,36 @@ use Rattle.nodes.proofs.Walk.{root-tree}
 use Rattle.common.specs.Lays.{Lays}
 use Rattle.build.specs.Build.{compile_tree, tree_words, Builds, TreeBuilt, Within}
 use Rattle.compile.specs.Compile.{no_room, no_scratch, wrong_rate, room, compiled_rows, fine, all_right, fine_words, answer_of, table_after, scratch_after}
-use Rattle.compile.specs.Compile.{Compiles, AcceptedCompiles, Settled, Settles}
-use Rattle.compile.specs.declared.Compiled.{Compiled}
-use Rattle.compile.specs.declared.Compiled.TheVariants.{Rows, Refused}
-use Rattle.build.specs.declared.Built.{Built}
-use Rattle.build.specs.declared.Built.TheVariants as built
+use Rattle.compile.specs.Compile.{Compiled, Compiles, AcceptedCompiles, Settled, Settles}
 use Rattle.build.specs.declared.Part.{Part}
-use Rattle.common.specs.declared.Made.TheVariants.{Words, Full}
 use Rattle.common.proofs.Turns.{some_words}
 use Rattle.common.proofs.Going.{Fitted, made-words, made-full, lays-ends}
 
+-- the answer where so many rows stand in the table, and a refusal
+abbrev counted : ℕ → Compiled
+counted n = Ok n
+
+abbrev refused : Refusal → Compiled
+refused r = Err r
+
 -- the loop over the rates: a turn, a wrong one, the end
-module _ (ws : List ℕ) (i : ℕ) {W : Bool} (e : fine_words (drop i ws) ≡ W) where
-  pub rates-more : {t : Bool} → t ≡ right_row_action (take (i + row_length - i) (drop i ws)) → t ≡ true → i + row_length ≤ length ws
-      → fine_words (drop (i + row_length) ws) ≡ W
-  unfolding fine_words
-  rates-more {t} q p h =
-      let n : i + row_length - i ≡ row_length = omega arith in
-      let r : right_row_action (take row_length (drop i ws)) ≡ true = rw n at (sym q ∙ p) in
-      sym (ap all_right (rows_at row_length (λ w. w) some_words ws i h) ∙ rw r) ∙ e
+module _ (s t : ChunksExact ℕ) {W : Bool} (e : fine_words s.rest.now ≡ W) (z : s.size ≡ row_length) where
+  module _ (x : Bor (List ℕ)) (g : chunks_exact_steps s (Some x) t) {b : Bool} (q : b ≡ right_row_action x.now) where
+    pub rates-more : b ≡ true → fine_words t.rest.now ≡ W
+    unfolding fine_words
+    rates-more p =
+        let r : right_row_action x.now ≡ true = sym q ∙ p in
+        sym (ap all_right (rows-next row_length (λ w. w) s t x some_words z g) ∙ rw r) ∙ e
 
-  pub rates-wrong : {t : Bool} → t ≡ right_row_action (take (i + row_length - i) (drop i ws)) → t ≡ false → i + row_length ≤ length ws → false ≡ W
-  unfolding fine_words
-  rates-wrong {t} q p h =
-      let n : i + row_length - i ≡ row_length = omega arith in
-      let r : right_row_action (take row_length (drop i ws)) ≡ false = rw n at (sym q ∙ p) in
-      sym (ap all_right (rows_at row_length (λ w. w) some_words ws i h) ∙ rw r) ∙ e
+    pub rates-wrong : b ≡ false → false ≡ W
+    unfolding fine_words
+    rates-wrong p =
+        let r : right_row_action x.now ≡ false = sym q ∙ p in
+        sym (ap all_right (rows-next row_length (λ w. w) s t x some_words z g) ∙ rw r) ∙ e
 
-  pub rates-end : length ws < i + row_length → true ≡ W
+  pub rates-end : chunks_exact_steps s None t → true ≡ W
   unfolding fine_words
-  rates-end h = sym (ap all_right (rows_end row_length (λ w. w) some_words ws i h)) ∙ e
+  rates-end g = sym (ap all_right (rows-none row_length (λ w. w) s t z g)) ∙ e
 
 -- the words of rows, row by row
 rows_words : (N : List (Row Match Action)) → rows_of row_length (λ w. w) (words_of N) ≡ map row_words N
@@ -82,7 +85,7 @@ unfolding fine_words
 fine-words N = ap all_right (rows_words N) ∙ all_right-rows N
 
 -- the tree that the walk starts at is the file's
-root-words : (f : List ℕ) (l : Layout) → read_of f ≡ reading.Accepted l → (at : Spot) → at ≡ root_spot l → tree_words f at ≡ words_of (compiled_rows f l)
+root-words : (f : List ℕ) (l : Layout) → read_of f ≡ Ok l → (at : Spot) → at ≡ root_spot l → tree_words f at ≡ words_of (compiled_rows f l)
 unfolding tree_words compiled_rows
 root-words f l e at start = ap (λ (t : PolicyTree). words_of (compile_tree t)) (root-tree f l e at start)
 
@@ -92,25 +95,24 @@ unfolding cleared
 cleared-all l = let q : length l - 0 ≡ length l = omega arith in ap zeros q
 
 -- the three answers of `settle`
-module _ {t s t' s' : List ℕ} {b : Built} (k : s' ≡ cleared 0 s) where
-  pub settles-full : {r : Compiled} → b ≡ built.Full → t' ≡ cleared 0 t → r ≡ Refused (plain no_room 0) → Settles t s t' s' b r
-  settles-full {r} e h q = record { is = subst (Settled t t' r) (sym e) (q, h ∙ cleared-all t); scratch = k ∙ cleared-all s }
+module _ {t s t' s' : List ℕ} {b : Option Part} (k : s' ≡ cleared 0 s) where
+  pub settles-full : {r : Refusal} → b ≡ None → t' ≡ cleared 0 t → r ≡ plain no_room 0 → Settles t s t' s' b (Err r)
+  settles-full {r} e h q = record { is = subst (Settled t t' (Err r)) (sym e) (ap refused q, h ∙ cleared-all t); scratch = k ∙ cleared-all s }
 
-  pub settles-rows : {p : Part} {x : Bool} → b ≡ built.Done p → x ≡ fine_words (take p.end t) → x ≡ true → t' ≡ cleared p.end t
-      → Settles t s t' s' b (Rows (p.end / row_length))
+  pub settles-rows : {p : Part} {x : Bool} → b ≡ Some p → x ≡ fine_words (take p.end t) → x ≡ true → t' ≡ cleared p.end t
+      → Settles t s t' s' b (Ok (p.end / row_length))
   unfolding cleared
   settles-rows {p} {x} e q h g =
       let i : fine_words (take p.end t) ≡ true = sym q ∙ h in
-      record { is = subst (Settled t t' (Rows (p.end / row_length))) (sym e) (rw i, rw i g); scratch = k ∙ cleared-all s }
+      record { is = subst (Settled t t' (Ok (p.end / row_length))) (sym e) (rw i, rw i g); scratch = k ∙ cleared-all s }
 
-  pub settles-wrong : {p : Part} {x : Bool} {r : Compiled} → b ≡ built.Done p → x ≡ fine_words (take p.end t) → x ≡ false → t' ≡ cleared 0 t
-      → r ≡ Refused (plain wrong_rate 0)
-      → Settles t s t' s' b r
+  pub settles-wrong : {p : Part} {x : Bool} {r : Refusal} → b ≡ Some p → x ≡ fine_words (take p.end t) → x ≡ false → t' ≡ cleared 0 t
+      → r ≡ plain wrong_rate 0 → Settles t s t' s' b (Err r)
   settles-wrong {p} {x} {r} e q h g a =
       let i : fine_words (take p.end t) ≡ false = sym q ∙ h in
-      record { is = subst (Settled t t' r) (sym e) (rw i a, rw i (g ∙ cleared-all t)); scratch = k ∙ cleared-all s }
+      record { is = subst (Settled t t' (Err r)) (sym e) (rw i (ap refused a), rw i (g ∙ cleared-all t)); scratch = k ∙ cleared-all s }
 
-pub within_end : {n : ℕ} {b : Built} {p : Part} → b ≡ built.Done p → Within 0 n b → p.end ≤ n
+pub within_end : {n : ℕ} {b : Option Part} {p : Part} → b ≡ Some p → Within 0 n b → p.end ≤ n
 within_end {n} e h = (subst (Within 0 n) e h).1
 
 -- the words that were laid from the first word on, and what is behind them
@@ -121,14 +123,14 @@ laid-first-words F X E h =
     ∙ take_at F (drop (0 + length F) X ++ E) (0 + length F) (omega arith)
 
 -- THE ANSWER OF AN ACCEPTED FILE: no scratch
-pub no-scratch : (f : List ℕ) (l : Layout) {t s : List ℕ} {n : ℕ} {r : Compiled} → n ≡ room (length t) → length s < row_length * n
-    → r ≡ Refused (plain no_scratch 0) → AcceptedCompiles f l t s t s r
+pub no-scratch : (f : List ℕ) (l : Layout) {t s : List ℕ} {n : ℕ} {r : Refusal} → n ≡ room (length t) → length s < row_length * n
+    → r ≡ plain no_scratch 0 → AcceptedCompiles f l t s t s (Err r)
 no-scratch f l {t} {s} {n} {r} q h a =
     let c : ltb (length s) (row_length * room (length t)) ≡ true = lt-ltb _ _ (subst (λ x. length s < row_length * x) q h) in
-    record { answer = rw c a; table = rw c; scratch = rw c }
+    record { answer = rw c (ap refused a); table = rw c; scratch = rw c }
 
 -- and from what was built in the room of the table, and settled
-module _ (f : List ℕ) (l : Layout) (e : read_of f ≡ reading.Accepted l) (root : Spot) (start : root ≡ root_spot l) (t s : List ℕ) (n : ℕ)
+module _ (f : List ℕ) (l : Layout) (e : read_of f ≡ Ok l) (root : Spot) (start : root ≡ root_spot l) (t s : List ℕ) (n : ℕ)
     (is : n ≡ room (length t)) (enough : row_length * n ≤ length s)
     (new mid clean t' s' : List ℕ) (r : Compiled) (at : mid ≡ new ++ drop (row_length * n) t) (same : length new ≡ length (take (row_length * n) t))
     (alike : length clean ≡ length s) where
@@ -159,7 +161,7 @@ module _ (f : List ℕ) (l : Layout) (e : read_of f ≡ reading.Accepted l) (roo
   no-13 = le-ltb _ _ (subst (λ x. row_length * x ≤ length s) is enough)
 
   -- there was no room
-  too_many : Lays 0 F (take (row_length * n) t) new Full → (r ≡ Refused (plain no_room 0)) × (t' ≡ zeros (length mid)) → s' ≡ zeros (length clean)
+  too_many : Lays 0 F (take (row_length * n) t) new None → (r ≡ Err (plain no_room 0)) × (t' ≡ zeros (length mid)) → s' ≡ zeros (length clean)
       → AcceptedCompiles f l t s t' s' r
   unfolding N
   too_many k b c =
@@ -168,8 +170,8 @@ module _ (f : List ℕ) (l : Layout) (e : read_of f ≡ reading.Accepted l) (roo
       record { answer = rw (no-13, yes-12) b.0; table = rw (no-13, yes-12) (b.1 ∙ ap zeros whole); scratch = rw (no-13, yes-12) (c ∙ ap zeros alike) }
 
   -- the rows stand there
-  some : {end : ℕ} → Lays 0 F (take (row_length * n) t) new (Words end)
-      → (r ≡ cond (fine_words (take end mid)) (Rows (end / row_length)) (Refused (plain wrong_rate 0)))
+  some : {end : ℕ} → Lays 0 F (take (row_length * n) t) new (Some end)
+      → (r ≡ cond (fine_words (take end mid)) (Ok (end / row_length)) (Err (plain wrong_rate 0)))
       × (t' ≡ cond (fine_words (take end mid)) (take end mid ++ zeros (length mid - end)) (zeros (length mid)))
       → s' ≡ zeros (length clean) → AcceptedCompiles f l t s t' s' r
   unfolding N
@@ -183,7 +185,7 @@ module _ (f : List ℕ) (l : Layout) (e : read_of f ≡ reading.Accepted l) (roo
       let many : end / row_length ≡ length N = omega (arith, m.end, count) in
       let last : length mid - end ≡ length t - length (words_of N) = omega (arith, whole, m.end, ap length are) in
       record {
-        answer = rw (no-13, no-12) (b.0 ∙ ap₂ (λ x k. cond x (Rows k) (Refused (plain wrong_rate 0))) right many);
+        answer = rw (no-13, no-12) (b.0 ∙ ap₂ (λ x k. cond x (counted k) (Err (plain wrong_rate 0))) right many);
         table = rw (no-13, no-12)
             (b.1 ∙ ap₂ (λ x y. cond x (y ++ zeros (length mid - end)) (zeros (length mid))) right front
             ∙ ap₂ (λ x y. cond (fine N) (words_of N ++ zeros x) (zeros y)) last whole);
@@ -194,33 +196,33 @@ module _ (f : List ℕ) (l : Layout) (e : read_of f ≡ reading.Accepted l) (roo
       either true = refl
       either false = refl
 
-  pub accepted-settles : (b : Built) → TreeBuilt f root 0 (take (row_length * n) t) new b
+  pub accepted-settles : (b : Option Part) → TreeBuilt f root 0 (take (row_length * n) t) new b
       → Settles mid clean t' s' b r → AcceptedCompiles f l t s t' s' r
   unfolding F
-  accepted-settles (built.Done p) k g = some k.is.0 g.is g.scratch
-  accepted-settles built.Full k g = too_many k.is g.is g.scratch
+  accepted-settles (Some p) k g = some k.is.0 g.is g.scratch
+  accepted-settles None k g = too_many k.is g.is g.scratch
 
 -- what was built stands within the table
-pub built-inside : {a : ℕ} {F old new mid : List ℕ} {P : Spot → Type 0} (rest : List ℕ) (b : Built) → Builds a F old new P b → length new ≡ length old
+pub built-inside : {a : ℕ} {F old new mid : List ℕ} {P : Spot → Type 0} (rest : List ℕ) (b : Option Part) → Builds a F old new P b → length new ≡ length old
     → mid ≡ new ++ rest → Within a (length mid) b
-built-inside {a} {F} {old} {new} {mid} rest (built.Done p) k same at =
+built-inside {a} {F} {old} {new} {mid} rest (Some p) k same at =
     let n = lays-ends k.is.0 refl in
     let m : length mid ≡ length new + length rest = ap length at ∙ length-append new rest in
     (n.0, omega (arith, n.1))
-built-inside rest built.Full k same at = tt
+built-inside rest None k same at = tt
 
 -- THE ANSWER: a file that is refused, and one that is accepted
-pub compiles-refused : {f t s : List ℕ} {r : Refusal} {x : Reading} → x ≡ read_of f → x ≡ reading.Refused r → Compiles f t s t s (Refused r)
+pub compiles-refused : {f t s : List ℕ} {r : Refusal} {x : Reading} → x ≡ read_of f → x ≡ Err r → Compiles f t s t s (Err r)
 unfolding answer_of table_after scratch_after
 compiles-refused {f} {t} {s} {r} {x} q h =
-    let e : read_of f ≡ reading.Refused r = sym q ∙ h in
+    let e : read_of f ≡ Err r = sym q ∙ h in
     record { answer = rw e; table = rw e; scratch = rw e }
 
-pub compiles-accepted : {f t s t' s' : List ℕ} {l : Layout} {r : Compiled} {x : Reading} → x ≡ read_of f → x ≡ reading.Accepted l
+pub compiles-accepted : {f t s t' s' : List ℕ} {l : Layout} {r : Compiled} {x : Reading} → x ≡ read_of f → x ≡ Ok l
     → AcceptedCompiles f l t s t' s' r → Compiles f t s t' s' r
 unfolding answer_of table_after scratch_after
 compiles-accepted {f} {t} {s} {t'} {s'} {l} {r} {x} q h c =
-    let e : read_of f ≡ reading.Accepted l = sym q ∙ h in
+    let e : read_of f ≡ Ok l = sym q ∙ h in
     record { answer = rw e c.answer; table = rw e c.table; scratch = rw e c.scratch }
 
 -- the first words of two buffers are as many

@@ -4,11 +4,13 @@
 --   room words           the rows that a buffer has room for
 --   compiled_rows f l     the rows of an accepted file
 --   fine N               the rate of every row lies in its range; fine_words says it of rows in words
+--   Compiled             what the compile answers
 --   accepted_answer, accepted_table, accepted_scratch   the answer and the buffers for an accepted file
 --   answer_of, table_after, scratch_after               the same for every file
 --   Compiles             all three
 --   compile_refusal, compile_count   the number, place, law and actions of an answer, and its row count
 use Rattle.std.specs.Prelude.{ℕ, ◌*◌, ◌-◌, ◌/◌, min, ◌≡◌, Bool, true, cond, ◌&&◌, List, [], ◌∷◌, ◌++◌, ltb, length, take}
+use Rattle.std.specs.Prelude.{Result, Ok, Err, Option, Some, None}
 use Rattle.theory.specs.Rows.{Row}
 use Rattle.flow.specs.declared.Match.{Match}
 use Rattle.action.specs.Action.{in_range}
@@ -16,18 +18,13 @@ use Rattle.action.specs.declared.Action.{Action}
 use Rattle.words.specs.Records.{rows_of}
 use Rattle.row.specs.Row.{row_length, most_rows, right_row_action, words_of}
 use Rattle.refusal.specs.Plain.{plain}
-use Rattle.policy.specs.Read.{read_of}
+use Rattle.policy.specs.Read.{Reading, read_of}
 use Rattle.policy.specs.File.{tree_of}
 use Rattle.policy.specs.declared.Layout.{Layout}
-use Rattle.policy.specs.declared.Reading.{Reading}
-use Rattle.policy.specs.declared.Reading.TheVariants as reading
 use Rattle.refusal.specs.declared.Refusal.{Refusal}
 use Rattle.build.specs.Build.{compile_tree}
+use Rattle.build.specs.declared.Part.{Part}
 use Rattle.words.specs.Words.{zeros}
-use Rattle.compile.specs.declared.Compiled.{Compiled}
-use Rattle.compile.specs.declared.Compiled.TheVariants.{Rows, Refused}
-use Rattle.build.specs.declared.Built.{Built}
-use Rattle.build.specs.declared.Built.TheVariants as built
 
 -- more rows than room
 abbrev pub no_room : ℕ
@@ -70,11 +67,15 @@ by_case N t s scratch-short too_many rate-wrong success =
     (cond (ltb (room (length t)) (length N)) too_many
     (cond (fine N) success rate-wrong))
 
+-- what the compile answers: the row count, or a refusal
+abbrev pub Compiled : Type 0
+Compiled = Result ℕ Refusal
+
 -- the answer for an accepted file with the rows N: 13, then 12, then 14, else the row count
 abbrev pub accepted_answer : List (Row Match Action) → List ℕ → List ℕ → Compiled
 accepted_answer N t s =
-    by_case N t s (Refused (plain no_scratch 0)) (Refused (plain no_room 0)) (Refused (plain wrong_rate 0))
-    (Rows (length N))
+    by_case N t s (Err (plain no_scratch 0)) (Err (plain no_room 0)) (Err (plain wrong_rate 0))
+    (Ok (length N))
 
 -- the table after it: unchanged after 13, all zero after 12 and 14, else the rows and then zeros
 abbrev pub accepted_table : List (Row Match Action) → List ℕ → List ℕ → List ℕ
@@ -87,12 +88,12 @@ accepted_scratch N t s = by_case N t s s (zeros (length s)) (zeros (length s)) (
 
 -- what reading answered, carried on
 abbrev pub after_reading : {X : Type 0} → Reading → (Refusal → X) → (Layout → X) → X
-after_reading (reading.Accepted l) refused accepted = accepted l
-after_reading (reading.Refused r) refused accepted = refused r
+after_reading (Ok l) refused accepted = accepted l
+after_reading (Err r) refused accepted = refused r
 
 -- THE ANSWER, for every file and every pair of buffers
 unfoldable pub answer_of : List ℕ → List ℕ → List ℕ → Compiled
-answer_of f t s = after_reading (read_of f) (λ r. Refused r) (λ l. accepted_answer (compiled_rows f l) t s)
+answer_of f t s = after_reading (read_of f) (λ r. Err r) (λ l. accepted_answer (compiled_rows f l) t s)
 
 -- THE TABLE after it: unchanged where the file is refused
 unfoldable pub table_after : List ℕ → List ℕ → List ℕ → List ℕ
@@ -115,22 +116,22 @@ pub record AcceptedCompiles (f : List ℕ) (l : Layout) (t s t' s' : List ℕ) (
   pub scratch : s' ≡ accepted_scratch (compiled_rows f l) t s
 
 -- what settling a build leaves: its answer and the table, by the words that were built
-abbrev pub Settled : List ℕ → List ℕ → Compiled → Built → Type 0
-Settled t t' r (built.Done p) =
-    (r ≡ cond (fine_words (take p.end t)) (Rows (p.end / row_length)) (Refused (plain wrong_rate 0)))
+abbrev pub Settled : List ℕ → List ℕ → Compiled → Option Part → Type 0
+Settled t t' r (Some p) =
+    (r ≡ cond (fine_words (take p.end t)) (Ok (p.end / row_length)) (Err (plain wrong_rate 0)))
     × (t' ≡ cond (fine_words (take p.end t)) (take p.end t ++ zeros (length t - p.end)) (zeros (length t)))
-Settled t t' r built.Full = (r ≡ Refused (plain no_room 0)) × (t' ≡ zeros (length t))
+Settled t t' r None = (r ≡ Err (plain no_room 0)) × (t' ≡ zeros (length t))
 
-pub record Settles (t s t' s' : List ℕ) (b : Built) (r : Compiled) : Type 0 where
+pub record Settles (t s t' s' : List ℕ) (b : Option Part) (r : Compiled) : Type 0 where
   pub is : Settled t t' r b
   pub scratch : s' ≡ zeros (length s)
 
 -- the number, place, law and actions of an answer: 0, 0, no law and three don't cares where there are rows
 abbrev pub compile_refusal : Compiled → Refusal
-compile_refusal (Rows n) = plain 0 0
-compile_refusal (Refused r) = r
+compile_refusal (Ok n) = plain 0 0
+compile_refusal (Err r) = r
 
 -- the row count of an answer: 0 where it is a refusal
 abbrev pub compile_count : Compiled → ℕ
-compile_count (Rows n) = n
-compile_count (Refused r) = 0
+compile_count (Ok n) = n
+compile_count (Err r) = 0

@@ -2,16 +2,14 @@
 // exactly when they must be.
 #![tactic(auto)]
 
-ghost use Rattle.std.specs.Prelude.{◌≡◌, length};
+ghost use Rattle.std.specs.Prelude.{◌≡◌, Ok, length};
 ghost use Rattle.policy.specs.Read.{read_of};
-ghost use Rattle.refusal.specs.Plain.{plain};
-ghost use Rattle.policy.specs.declared.Reading.TheVariants.{Accepted};
 ghost use Rattle.build.specs.Build.{Within};
 ghost use Rattle.compile.specs.Compile.{room, fine_words, Compiles, AcceptedCompiles, Settles};
 
-use build::{Built, subtree};
+use build::{Part, subtree};
 use nodes::root;
-use policy::{Layout, Reading, read};
+use policy::{Layout, read};
 use refusal::{Refusal, plain};
 use row::{MOST_ROWS, ROW_WORDS, right_row_action};
 use words::clear_from;
@@ -23,23 +21,14 @@ pub const NO_SCRATCH: u32 = 13;
 
 pub const WRONG_RATE: u32 = 14;
 
-// The row count, or the refusal.
-#[derive(Clone, Copy)]
-pub enum Compiled {
-    Rows(usize),
-    Refused(Refusal),
-}
-
-// Compiles the policy in a file into a table, within the table and the scratch.
-pub fn compile(file: &[u32], table: &mut [u32], scratch: &mut [u32]) -> Compiled
+// Compiles the policy in a file into a table, within the table and the scratch. Answers how many
+// rows the table has.
+pub fn compile(file: &[u32], table: &mut [u32], scratch: &mut [u32]) -> Result<usize, Refusal>
     ensures { Compiles file.now table.old scratch.old table.new
         scratch.new result }
 {
-    let reading = read(file);
-    match reading {
-        Reading::Accepted(layout) => compile_accepted(file, layout, table, scratch),
-        Reading::Refused(refusal) => Compiled::Refused(refusal),
-    }
+    let layout = read(file)?;
+    compile_accepted(file, layout, table, scratch)
 }
 
 // The same of an accepted file: the scratch is tested, and the walk starts at the root.
@@ -48,14 +37,14 @@ fn compile_accepted(
     layout: Layout,
     table: &mut [u32],
     scratch: &mut [u32],
-) -> Compiled
-    requires { read_of file.now ≡ Accepted layout }
+) -> Result<usize, Refusal>
+    requires { read_of file.now ≡ Ok layout }
     ensures { AcceptedCompiles file.now layout table.old scratch.old
         table.new scratch.new result }
 {
     let words = ROW_WORDS * room_of(table.len());
     if scratch.len() < words {
-        return refused(NO_SCRATCH);
+        return Err(plain(NO_SCRATCH, 0));
     }
     let start = root(layout);
     let built = subtree(file, start, &mut table[..words], &mut scratch[..words], 0);
@@ -63,36 +52,31 @@ fn compile_accepted(
 }
 
 // The answer of a build, with clean buffers.
-fn settle(table: &mut [u32], scratch: &mut [u32], built: Built) -> Compiled
+fn settle(table: &mut [u32], scratch: &mut [u32], built: Option<Part>) -> Result<usize, Refusal>
     requires { Within 0 (length table.old) built }
     ensures { Settles table.old scratch.old table.new
         scratch.new built result }
 {
     clear_from(scratch, 0);
-    let Built::Done(part) = built else {
+    let Some(part) = built else {
         clear_from(table, 0);
-        return refused(NO_ROOM);
+        return Err(plain(NO_ROOM, 0));
     };
     let end = part.end;
-    if rates_right(&table[..end]) {
-        clear_from(table, end);
-        Compiled::Rows(end / ROW_WORDS)
-    } else {
+    if !rates_right(&table[..end]) {
         clear_from(table, 0);
-        refused(WRONG_RATE)
+        return Err(plain(WRONG_RATE, 0));
     }
+    clear_from(table, end);
+    Ok(end / ROW_WORDS)
 }
 
 // Whether the rate of every row lies in its range.
 fn rates_right(rows: &[u32]) -> bool
     ensures { result ≡ fine_words rows.now }
 {
-    let mut i = 0;
-    // The first i words are rows, and the rate of each lies in its range.
-    while i + ROW_WORDS <= rows.len() {
-        if right_row_action(&rows[i..i + ROW_WORDS]) {
-            i += ROW_WORDS;
-        } else {
+    for row in rows.chunks_exact(ROW_WORDS) {
+        if !right_row_action(row) {
             return false;
         }
     }
@@ -105,11 +89,4 @@ fn room_of(words: usize) -> usize
 {
     let rows = words / ROW_WORDS;
     if rows <= MOST_ROWS { rows } else { MOST_ROWS }
-}
-
-// A refusal that names no place and no law.
-fn refused(number: u32) -> Compiled
-    ensures { result ≡ Compiled.Refused (plain number 0) }
-{
-    Compiled::Refused(plain(number, 0))
 }

@@ -1,20 +1,22 @@
 -- One turn of the loop is one row.
-use Rattle.std.proofs.Common.{refl, arith}
 use Rattle.compile.proofs.Settling.{rates-more, rates-wrong, rates-end}
 use Rattle.compile.proofs.rates_right.Goals as goal
 
-pub loop-i-init : goal.loop-i-init
-loop-i-init c = (omega arith, refl)
+pub loop-row-preserved : goal.loop-row-preserved
+loop-row-preserved c =
+    let i = c.loop-row.invariant in
+    let g = c.in-Some.ensures.steps in
+    record {
+      size = rw g.0 i.size;
+      rest = rates-more c.loop-row.row-iterator c.next.new.self i.rest i.size c.in-Some.row g c.right_row_action.ensures c.if-not-right_row_action.false;
+    }
 
-pub loop-i-preserved : goal.loop-i-preserved
-loop-i-preserved c = (
-  omega arith,
-  rates-more _ _ c.loop-i.invariant.1 c.right_row_action.ensures c.if-right_row_action.true c.loop-i-test.true,
-)
-
-pub returns-else-right_row_action : goal.returns-else-right_row_action
-returns-else-right_row_action c =
-    rates-wrong _ _ c.loop-i.invariant.1 c.right_row_action.ensures c.if-right_row_action.false c.loop-i-test.true
+pub returns-then-not-right_row_action : goal.returns-then-not-right_row_action
+returns-then-not-right_row_action c =
+    let i = c.loop-row.invariant in
+    rates-wrong c.loop-row.row-iterator c.next.new.self i.rest i.size c.in-Some.row c.in-Some.ensures.steps c.right_row_action.ensures
+    c.if-not-right_row_action.true
 
 pub returns : goal.returns
-returns c = rates-end _ _ c.loop-i.invariant.1 c.loop-i-test.false
+returns c =
+    let i = c.loop-row.invariant in rates-end c.loop-row.row-iterator c.next.new.self i.rest i.size c.in-None.ensures.steps

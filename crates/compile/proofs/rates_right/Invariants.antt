@@ -1,10 +1,11 @@
--- The first i words are rows with right rates: the rest decides.
-use Rattle.std.proofs.Common.{◌≡◌, ◌-◌, ◌≤◌, length, drop}
+-- The rows so far have right rates: the rest decides.
+use Rattle.std.proofs.Common.{◌≡◌}
+use Rattle.row.specs.Row.{row_length}
 use Rattle.compile.specs.Compile.{fine_words}
 use Rattle.compile.proofs.rates_right.Given as goal
 
-abbrev pub invariant-loop-i : goal.invariant-loop-i
-invariant-loop-i l = (l.i ≤ length l.rows) × (fine_words (drop l.i l.rows) ≡ fine_words l.rows)
-
-abbrev pub decreases-loop-i : goal.decreases-loop-i
-decreases-loop-i l = length l.rows - l.i
+abbrev pub invariant-loop-row : goal.invariant-loop-row
+invariant-loop-row l = record {
+  size : l.row-iterator.size ≡ row_length;
+  rest : fine_words l.row-iterator.rest.now ≡ fine_words l.rows;
+}

@@ -4,16 +4,16 @@ use Rattle.compile.proofs.settle.Goals as goal
 
 pub returns-in_default : goal.returns-in_default
 returns-in_default c =
-    settles-full c.clear_from.ensures c.in_default.is c.clear_from-in_default.ensures c.refused.ensures
+    settles-full c.clear_from.ensures c.in_default.is c.clear_from-in_default.ensures c.plain.ensures
 
 pub slice_bounds-rates_right-end : goal.slice_bounds-rates_right-end
-slice_bounds-rates_right-end c = within_end c.in-Done.is c.requires
+slice_bounds-rates_right-end c = within_end c.in-Some.is c.requires
 
-pub returns-then-rates_right : goal.returns-then-rates_right
-returns-then-rates_right c =
-    settles-rows c.clear_from.ensures c.in-Done.is c.rates_right.ensures c.if-rates_right.true c.clear_from-then-rates_right.ensures
+pub returns-then-not-rates_right : goal.returns-then-not-rates_right
+returns-then-not-rates_right c =
+    settles-wrong c.clear_from.ensures c.in-Some.is c.rates_right.ensures c.if-not-rates_right.true
+    c.clear_from-then-not-rates_right.ensures c.plain-then-not-rates_right.ensures
 
-pub returns-else-rates_right : goal.returns-else-rates_right
-returns-else-rates_right c =
-    settles-wrong c.clear_from.ensures c.in-Done.is c.rates_right.ensures c.if-rates_right.false
-    c.clear_from-else-rates_right.ensures c.refused-else-rates_right.ensures
+pub returns : goal.returns
+returns c =
+    settles-rows c.clear_from.ensures c.in-Some.is c.rates_right.ensures c.if-not-rates_right.false c.clear_from-2.ensures
