@@ -9,8 +9,8 @@ use Rattle.words.proofs.Laid.{length-laid, take-laid}
 use Rattle.row.specs.Row.{rows_in}
 use Rattle.table.specs.Table.{row_count}
 use Rattle.priority.specs.Numbering.{priorities_of, number_of, Answered, Ready}
-use Rattle.priority.specs.declared.Numbered.{Numbered}
-use Rattle.priority.specs.declared.Numbered.TheVariants as numbered
+use Rattle.std.specs.Prelude.{Result, Ok, Err}
+use Rattle.refusal.specs.declared.Fault.{Fault}
 use Rattle.priority.proofs.After.{number-ready, priorities-left}
 use Rattle.priority.proofs.Whole.{priorities-many}
 use Rattle.line.specs.Text.{head, refusal}
@@ -19,8 +19,8 @@ use Rattle.line.proofs.Putting.{◌then◌}
 use Rattle.sheet.specs.Sheet.{listing_room, lines, table_text}
 
 -- the rows of a table, where the numbering answers a count
-module _ (t ps cs : List ℕ) {ps' cs' : List ℕ} {r : Numbered} (c : Answered t ps cs r ps' cs') where
-  module _ {l : ℕ} (e : r ≡ numbered.Priorities l) where
+module _ (t ps cs : List ℕ) {ps' cs' : List ℕ} {r : Result ℕ Fault} (c : Answered t ps cs r ps' cs') where
+  module _ {l : ℕ} (e : r ≡ Ok l) where
     ready : Ready t ps cs
     ready = number-ready t ps cs l (sym c.0 ∙ e)
 
@@ -39,14 +39,14 @@ module _ (t ps cs : List ℕ) {ps' cs' : List ℕ} {r : Numbered} (c : Answered 
     answer-room : r ≡ number_of t listing_room listing_room
     answer-room = c.0 ∙ ap₂ (number_of t) np nc
 
-    pub table-listed : {l : ℕ} {o o₁ o₂ : List ℕ} {a b : ℕ} → r ≡ numbered.Priorities l → Puts (head (row_count t) l) o 0 o₁ a
+    pub table-listed : {l : ℕ} {o o₁ o₂ : List ℕ} {a b : ℕ} → r ≡ Ok l → Puts (head (row_count t) l) o 0 o₁ a
         → Puts (lines (take (row_count t) ps') (rows_in t)) o₁ a o₂ b
         → Puts (table_text t) o 0 o₂ b
     unfolding table_text
     table-listed {l} {o} {o₁} {o₂} {a} {b} e p q =
-        let k : number_of t listing_room listing_room ≡ numbered.Priorities l = sym answer-room ∙ e in
+        let k : number_of t listing_room listing_room ≡ Ok l = sym answer-room ∙ e in
         rw k (p then subst (λ x. Puts (lines x (rows_in t)) o₁ a o₂ b) (table-numbers e) q)
 
-    pub table-refused : {n i : ℕ} {o o₁ : List ℕ} {a : ℕ} → r ≡ numbered.Refused n i → Puts (refusal n i) o 0 o₁ a → Puts (table_text t) o 0 o₁ a
+    pub table-refused : {f : Fault} {o o₁ : List ℕ} {a : ℕ} → r ≡ Err f → Puts (refusal f.number f.place) o 0 o₁ a → Puts (table_text t) o 0 o₁ a
     unfolding table_text
-    table-refused {n} {i} e p = let k : number_of t listing_room listing_room ≡ numbered.Refused n i = sym answer-room ∙ e in rw k p
+    table-refused {f} e p = let k : number_of t listing_room listing_room ≡ Err f = sym answer-room ∙ e in rw k p

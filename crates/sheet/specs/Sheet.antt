@@ -5,7 +5,7 @@
 --   lines ps rs         rows, each with its priority
 --   table_text t         the text of a table: its rows, or the refusal of the numbering
 --   rows_text n t        the text of a table t of n rows that is not refused: the head, and a line for each row
-use Rattle.std.specs.Prelude.{ℕ, List, [], ◌∷◌, ◌++◌}
+use Rattle.std.specs.Prelude.{ℕ, List, [], ◌∷◌, ◌++◌, Result, Ok, Err}
 use Rattle.theory.specs.Rows.{Row}
 use Rattle.theory.specs.Number.{level_count}
 use Rattle.flow.specs.declared.Match.{Match}
@@ -13,8 +13,7 @@ use Rattle.action.specs.declared.Action.{Action}
 use Rattle.row.specs.Row.{rows_in}
 use Rattle.table.specs.Table.{row_count}
 use Rattle.priority.specs.Numbering.{levels_of, number_of, priorities_of}
-use Rattle.priority.specs.declared.Numbered.{Numbered}
-use Rattle.priority.specs.declared.Numbered.TheVariants as numbered
+use Rattle.refusal.specs.declared.Fault.{Fault}
 use Rattle.line.specs.Text.{line, head, refusal}
 
 -- the rows that a listing has room for
@@ -28,9 +27,9 @@ lines (p ∷ ps) [] = []
 lines (p ∷ ps) (r ∷ rs) = line p r ++ lines ps rs
 
 -- what is shown of a table, by what the numbering answers
-abbrev pub numbered_text : List ℕ → Numbered → List ℕ
-numbered_text t (numbered.Priorities l) = head (row_count t) l ++ lines (priorities_of t) (rows_in t)
-numbered_text t (numbered.Refused n i) = refusal n i
+abbrev pub numbered_text : List ℕ → Result ℕ Fault → List ℕ
+numbered_text t (Ok l) = head (row_count t) l ++ lines (priorities_of t) (rows_in t)
+numbered_text t (Err f) = refusal f.number f.place
 
 -- THE TEXT OF A TABLE
 unfoldable pub table_text : List ℕ → List ℕ

@@ -1,14 +1,12 @@
 // A table as text: how many rows and priorities it has, and a line for each row with its priority.
 #![tactic(auto)]
 
-ghost use Rattle.std.specs.Prelude.{◌≡◌, length};
 ghost use Rattle.row.specs.Row.{rows_in};
-ghost use Rattle.table.specs.Table.{row_count};
 ghost use Rattle.line.specs.Puts.{Puts};
 ghost use Rattle.sheet.specs.Sheet.{lines, table_text};
 
 use line::{put_head, put_line, put_refusal};
-use priority::{Numbered, number};
+use priority::number;
 use row::ROW_WORDS;
 
 // The rows that a listing has room for.
@@ -22,27 +20,23 @@ pub fn list_table(table: &[u32], out: &mut [u8]) -> usize
     let mut chain = [0u32; ROOM];
     let rows = table.len() / ROW_WORDS;
     match number(table, &mut priorities, &mut chain) {
-        Numbered::Priorities(count) => {
+        Ok(count) => {
             let at = put_head(out, rows, count);
             put_lines(out, at, &priorities[..rows], table)
         }
-        Numbered::Refused { number, place } => put_refusal(out, number, place),
+        Err(fault) => put_refusal(out, fault.number, fault.place),
     }
 }
 
 // A line for each row, with its priority.
 fn put_lines(out: &mut [u8], at: usize, priorities: &[u32], table: &[u32]) -> usize
-    requires { length priorities.now ≡ row_count table.now }
     ensures { Puts (lines priorities.now (rows_in table.now)) out.old at
         out.new result }
 {
     let mut to = at;
-    let mut from = 0;
-    // The lines of the first i rows are put, as far as they fit; to is where the next one goes, from where its row is.
-    for i in 0..priorities.len() {
-        let end = from + ROW_WORDS;
-        to = put_line(out, to, priorities[i], &table[from..end]);
-        from = end;
+    // The lines of the rows before this one are put, as far as they fit; to is where the next one goes.
+    for (priority, row) in priorities.iter().zip(table.chunks_exact(ROW_WORDS)) {
+        to = put_line(out, to, *priority, row);
     }
     to
 }

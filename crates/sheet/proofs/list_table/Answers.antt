@@ -10,20 +10,16 @@ abbrev none : List ℕ
 none = replicate listing_room 0
 
 pub slice_bounds-priorities-end : goal.slice_bounds-priorities-end
-slice_bounds-priorities-end c = omega (arith, table-within c.args.table.now none none c.number.ensures c.in-Priorities.is)
+slice_bounds-priorities-end c = omega (arith, table-within c.args.table.now none none c.number.ensures c.in-Ok.is)
 
 pub slice_bounds-put_lines-end : goal.slice_bounds-put_lines-end
 slice_bounds-put_lines-end c =
-    sym (length-take-le _ _ (omega (arith, table-within c.args.table.now none none c.number.ensures c.in-Priorities.is)))
+    sym (length-take-le _ _ (omega (arith, table-within c.args.table.now none none c.number.ensures c.in-Ok.is)))
 
-pub put_lines-requires : goal.put_lines-requires
-put_lines-requires c =
-    length-take-le _ _ (omega (arith, table-within c.args.table.now none none c.number.ensures c.in-Priorities.is))
+pub returns-in-Ok : goal.returns-in-Ok
+returns-in-Ok c =
+    table-listed c.args.table.now none none c.number.ensures refl refl c.in-Ok.is c.put_head-at.ensures c.put_lines.ensures
 
-pub returns-in-Priorities : goal.returns-in-Priorities
-returns-in-Priorities c =
-    table-listed c.args.table.now none none c.number.ensures refl refl c.in-Priorities.is c.put_head-at.ensures c.put_lines.ensures
-
-pub returns-in-Refused : goal.returns-in-Refused
-returns-in-Refused c =
-    table-refused c.args.table.now none none c.number.ensures refl refl c.in-Refused.is c.put_refusal.ensures
+pub returns-in-Err : goal.returns-in-Err
+returns-in-Err c =
+    table-refused c.args.table.now none none c.number.ensures refl refl c.in-Err.is c.put_refusal.ensures
