@@ -87,6 +87,5 @@ fn rates_right(rows: &[u32]) -> bool
 fn room_of(words: usize) -> usize
     ensures { result ≡ room words }
 {
-    let rows = words / ROW_WORDS;
-    if rows <= MOST_ROWS { rows } else { MOST_ROWS }
+    (words / ROW_WORDS).min(MOST_ROWS)
 }
