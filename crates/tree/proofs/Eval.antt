@@ -3,6 +3,7 @@ use Prim.Native.Nat.{ℕ}
 use mathlib.Core.Path.{◌≡◌, ap₂, ◌∙◌}
 use mathlib.Core.Bool.{Bool, true, false}
 use mathlib.Core.List.{List}
+use Rattle.std.specs.Prelude.{Ok, Err}
 use Rattle.flow.specs.Packet.{packet_of, right_packet_words, wrong_packet}
 use Rattle.flow.specs.declared.Packet.{Packet}
 use Rattle.action.specs.declared.Action.{Action}
@@ -10,43 +11,28 @@ use Rattle.refusal.specs.Plain.{plain}
 use Rattle.policy.specs.Read.{read_of}
 use Rattle.policy.specs.File.{tree_of}
 use Rattle.policy.specs.declared.Layout.{Layout}
-use Rattle.policy.specs.declared.Reading.{Reading}
-use Rattle.policy.specs.declared.Reading.TheVariants.{Accepted, Refused}
-use Rattle.refusal.specs.declared.Refusal.{Refusal}
 use Rattle.nodes.specs.Nodes.{root_spot}
 use Rattle.nodes.specs.declared.Spot.{Spot}
 use Rattle.nodes.proofs.Walk.{root-tree}
 use Rattle.tree.specs.Action.{eval_tree, accepted_action, tree_action_of}
 use Rattle.tree.specs.Steps.{TreeGave}
 use Rattle.tree.specs.Theorems.{ActionEval, ActionRefused, ActionPacket}
-use Rattle.tree.specs.declared.Evaluated.{Evaluated}
-use Rattle.tree.specs.declared.Evaluated.TheVariants as evaluated
 use Rattle.tree.specs.declared.Gave.{Gave}
 
 -- what the walk from the root gives
-pub root-gave : (f : List ℕ) (l : Layout) → read_of f ≡ Accepted l → (at : Spot) → at ≡ root_spot l → (p : Packet) {q : Packet} {r : Gave} → q ≡ p
+pub root-gave : (f : List ℕ) (l : Layout) → read_of f ≡ Ok l → (at : Spot) → at ≡ root_spot l → (p : Packet) {q : Packet} {r : Gave} → q ≡ p
     → TreeGave f at q r → r.action ≡ eval_tree (tree_of f l) p
 root-gave f l e at start p same t = t.action ∙ ap₂ eval_tree (root-tree f l e at start) same
 
 -- the packet's test, as the code has it
 module _ (f : List ℕ) (l : Layout) (p : List ℕ) (t : Bool) (q : t ≡ right_packet_words p) where
-  pub accepted-gives : {x : Action} → t ≡ true → x ≡ eval_tree (tree_of f l) (packet_of p) → evaluated.Gives x ≡ accepted_action f l p
+  pub accepted-gives : {x : Action} → t ≡ true → x ≡ eval_tree (tree_of f l) (packet_of p) → Ok x ≡ accepted_action f l p
   unfolding accepted_action
   accepted-gives {x} h e = rw (← q, h, e)
 
-  pub accepted-refuses : t ≡ false → evaluated.Refused (plain wrong_packet 0) ≡ accepted_action f l p
+  pub accepted-refuses : t ≡ false → Err (plain wrong_packet 0) ≡ accepted_action f l p
   unfolding accepted_action
   accepted-refuses h = rw (← q, h)
-
--- what reading answered picks the case
-pub read-accepted : (f p : List ℕ) {r : Reading} (l : Layout) {x : Evaluated} → r ≡ read_of f → r ≡ Accepted l → x ≡ accepted_action f l p
-    → x ≡ tree_action_of f p
-unfolding tree_action_of
-read-accepted f p l e g h = rw (← e, g) h
-
-pub read-refused : (f p : List ℕ) {r : Reading} (x : Refusal) → r ≡ read_of f → r ≡ Refused x → evaluated.Refused x ≡ tree_action_of f p
-unfolding tree_action_of
-read-refused f p x e g = rw (← e, g)
 
 pub action-eval : ActionEval
 unfolding tree_action_of accepted_action

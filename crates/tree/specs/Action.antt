@@ -6,7 +6,7 @@
 --   action_after         what reading answered, carried on
 --   tree_action_of         the tree's action
 --   tree_refusal, given   the refusal and the action of an answer
-use Rattle.std.specs.Prelude.{ℕ, cond, List}
+use Rattle.std.specs.Prelude.{ℕ, cond, List, Result, Ok, Err}
 use Rattle.theory.specs.Tree.{eval}
 use Rattle.flow.specs.Packet.{packet_of, right_packet_words, wrong_packet}
 use Rattle.flow.specs.Match.{meets}
@@ -18,37 +18,33 @@ use Rattle.refusal.specs.Plain.{plain}
 use Rattle.policy.specs.Read.{read_of}
 use Rattle.policy.specs.File.{PolicyTree, tree_of}
 use Rattle.policy.specs.declared.Layout.{Layout}
-use Rattle.policy.specs.declared.Reading.{Reading}
-use Rattle.policy.specs.declared.Reading.TheVariants.{Accepted, Refused}
 use Rattle.refusal.specs.declared.Refusal.{Refusal}
-use Rattle.tree.specs.declared.Evaluated.{Evaluated}
-use Rattle.tree.specs.declared.Evaluated.TheVariants as evaluated
 
 -- eval of Figure 1, at the matches, actions and operators of a policy file
 abbrev pub eval_tree : PolicyTree → Packet → Action
 eval_tree t p = eval meets DontCare join t p
 
 -- an accepted file's tree and a right packet: eval of the tree
-unfoldable pub accepted_action : List ℕ → Layout → List ℕ → Evaluated
+unfoldable pub accepted_action : List ℕ → Layout → List ℕ → Result Action Refusal
 accepted_action f l p =
-    cond (right_packet_words p) (evaluated.Gives (eval_tree (tree_of f l) (packet_of p)))
-    (evaluated.Refused (plain wrong_packet 0))
+    cond (right_packet_words p) (Ok (eval_tree (tree_of f l) (packet_of p)))
+    (Err (plain wrong_packet 0))
 
 -- what reading answered, carried on
-abbrev pub action_after : List ℕ → List ℕ → Reading → Evaluated
-action_after f p (Accepted l) = accepted_action f l p
-action_after f p (Refused r) = evaluated.Refused r
+abbrev pub action_after : List ℕ → List ℕ → Result Layout Refusal → Result Action Refusal
+action_after f p (Ok l) = accepted_action f l p
+action_after f p (Err r) = Err r
 
 -- THE TREE'S ACTION
-unfoldable pub tree_action_of : List ℕ → List ℕ → Evaluated
+unfoldable pub tree_action_of : List ℕ → List ℕ → Result Action Refusal
 tree_action_of f p = action_after f p (read_of f)
 
 -- the number, place, law and actions of an answer: 0, 0, no law and three don't cares where an action is given
-abbrev pub tree_refusal : Evaluated → Refusal
-tree_refusal (evaluated.Gives a) = plain 0 0
-tree_refusal (evaluated.Refused r) = r
+abbrev pub tree_refusal : Result Action Refusal → Refusal
+tree_refusal (Ok a) = plain 0 0
+tree_refusal (Err r) = r
 
 -- the action of an answer: don't care where it is a refusal
-abbrev pub given : Evaluated → Action
-given (evaluated.Gives a) = a
-given (evaluated.Refused r) = DontCare
+abbrev pub given : Result Action Refusal → Action
+given (Ok a) = a
+given (Err r) = DontCare

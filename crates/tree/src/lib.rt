@@ -1,9 +1,8 @@
 // The tree's action: what a policy file says of a packet.
 #![tactic(auto)]
 
-ghost use Rattle.std.specs.Prelude.{◌≡◌, ◌<◌, ◌%◌, length};
+ghost use Rattle.std.specs.Prelude.{◌≡◌, ◌<◌, ◌%◌, Ok, length};
 ghost use Rattle.policy.specs.Read.{read_of};
-ghost use Rattle.policy.specs.declared.Reading.TheVariants.{Accepted};
 ghost use Rattle.nodes.specs.Nodes.{cells_at};
 ghost use Rattle.nodes.specs.Walk.{Reached};
 ghost use Rattle.row.specs.Row.{row_length};
@@ -13,16 +12,10 @@ ghost use Rattle.tree.specs.Steps.{own_action, with_atom, TreeGave, ChildrenGave
 use action::Action;
 use flow::{Packet, WRONG_PACKET, meets, read_match, read_packet, right_packet_words};
 use nodes::{Spot, atoms_at, join_at, node_at, root};
-use policy::{Layout, Reading, read};
+use policy::{Layout, read};
 use refusal::{Refusal, plain};
 use row::{ROW_WORDS, row_action};
 use section::ATOM_WORDS;
-
-#[derive(Clone, Copy)]
-pub enum Evaluated {
-    Gives(Action),
-    Refused(Refusal),
-}
 
 // What was found of a subtree or of some children, and the place of the nodes behind them.
 #[derive(Clone, Copy)]
@@ -32,28 +25,24 @@ pub struct Gave {
 }
 
 // What the policy in a file says of a packet.
-pub fn tree_action(file: &[u32], packet: &[u32]) -> Evaluated
+#[tactic(auto, unfolding(crate::specs::Action::tree_action_of))]
+pub fn tree_action(file: &[u32], packet: &[u32]) -> Result<Action, Refusal>
     ensures { result ≡ tree_action_of file.now packet.now }
 {
-    let reading = read(file);
-    match reading {
-        Reading::Accepted(layout) => accepted_action(file, layout, packet),
-        Reading::Refused(refusal) => Evaluated::Refused(refusal),
-    }
+    let layout = read(file)?;
+    accepted_action(file, layout, packet)
 }
 
 // The same of an accepted file: the packet is tested, and the walk starts at the root.
-fn accepted_action(file: &[u32], layout: Layout, packet: &[u32]) -> Evaluated
-    requires { read_of file.now ≡ Accepted layout }
+fn accepted_action(file: &[u32], layout: Layout, packet: &[u32]) -> Result<Action, Refusal>
+    requires { read_of file.now ≡ Ok layout }
     ensures { result ≡ accepted_action file.now layout packet.now }
 {
-    if right_packet_words(packet) {
-        let gave = subtree(file, root(layout), read_packet(packet));
-        let action = gave.action;
-        Evaluated::Gives(action)
-    } else {
-        Evaluated::Refused(plain(WRONG_PACKET, 0))
+    if !right_packet_words(packet) {
+        return Err(plain(WRONG_PACKET, 0));
     }
+    let gave = subtree(file, root(layout), read_packet(packet));
+    Ok(gave.action)
 }
 
 // The action of the subtree at a place: the node's own on the left, its children's on the right. It
@@ -72,12 +61,9 @@ fn subtree(file: &[u32], at: Spot, packet: Packet) -> Gave
         atom: from + ATOM_WORDS * (node.own as usize),
     };
     let below = children(file, next, node.sibling, node.children, packet);
-    let theirs = below.action;
-    let behind = below.next;
-    let action = join_at(file, node.parent, own, theirs);
     Gave {
-        action,
-        next: behind,
+        action: join_at(file, node.parent, own, below.action),
+        next: below.next,
     }
 }
 
@@ -94,15 +80,10 @@ fn children(file: &[u32], at: Spot, sibling: u32, count: u32, packet: Packet) ->
         };
     }
     let first = subtree(file, at, packet);
-    let one = first.action;
-    let next = first.next;
-    let rest = children(file, next, sibling, count - 1, packet);
-    let others = rest.action;
-    let behind = rest.next;
-    let action = join_at(file, sibling, one, others);
+    let rest = children(file, first.next, sibling, count - 1, packet);
     Gave {
-        action,
-        next: behind,
+        action: join_at(file, sibling, first.action, rest.action),
+        next: rest.next,
     }
 }
 
@@ -111,13 +92,10 @@ fn own_action(file: &[u32], inner: u32, atoms: &[u32], packet: Packet) -> Action
     requires { length atoms.now % row_length ≡ 0 }
     ensures { result ≡ own_action (cells_at file.now inner) atoms.now packet }
 {
-    let mut i = atoms.len();
     let mut given = Action::DONT_CARE;
-    // The first i words are whole atoms, and given is the action of those behind them.
-    while ROW_WORDS <= i {
-        let from = i - ROW_WORDS;
-        given = with_atom(file, inner, &atoms[from..i], packet, given);
-        i = from;
+    // given is the action of the atoms gone over, which stand behind those that are left.
+    for atom in atoms.rchunks_exact(ROW_WORDS) {
+        given = with_atom(file, inner, atom, packet, given);
     }
     given
 }

@@ -11,7 +11,7 @@ children-returns-then-count-at t c = children-none _ (none-taken _ c.requires c.
 pub children-returns : goal.children-returns
 children-returns t c =
     let some = some-taken c.args.count c.args.at.left c.if-count-at.false in
-    children-gave _ _ c.requires some.1 some.0 c.subtree-first.ensures c.children-rest.ensures c.join_at-action.ensures
+    children-gave _ _ c.requires some.1 some.0 c.subtree-first.ensures c.children-rest.ensures c.join_at.ensures
 
 pub subtree-own_action-own-requires : goal.subtree-own_action-own-requires
 subtree-own_action-own-requires t c = rw c.atoms_at.ensures (atoms-rows _ _ _)
@@ -25,4 +25,4 @@ subtree-children-below-requires t c = (omega arith, next-reached _ _ c.requires.
 pub subtree-returns : goal.subtree-returns
 subtree-returns t c =
     tree-gave c.requires.0 c.requires.1 c.node_at-node.ensures c.atoms_at.ensures c.own_action-own.ensures c.children-below.ensures
-    c.join_at-action.ensures
+    c.join_at.ensures

@@ -6,11 +6,11 @@ use Rattle.tree.proofs.accepted_action.Goals as goal
 pub subtree-gave-requires : goal.subtree-gave-requires
 subtree-gave-requires c = start-reached _ _ c.requires _ c.root.ensures
 
-pub returns-then-right_packet_words : goal.returns-then-right_packet_words
-returns-then-right_packet_words c =
-    accepted-gives _ _ _ _ c.right_packet_words.ensures c.if-right_packet_words.true
-    (root-gave _ _ c.requires _ c.root.ensures _ c.read_packet.ensures c.subtree-gave.ensures)
+pub returns-then-not-right_packet_words : goal.returns-then-not-right_packet_words
+returns-then-not-right_packet_words c =
+    rw c.plain.ensures (accepted-refuses _ _ _ _ c.right_packet_words.ensures c.if-not-right_packet_words.true)
 
-pub returns-else-right_packet_words : goal.returns-else-right_packet_words
-returns-else-right_packet_words c =
-    rw c.plain.ensures (accepted-refuses _ _ _ _ c.right_packet_words.ensures c.if-right_packet_words.false)
+pub returns : goal.returns
+returns c =
+    accepted-gives _ _ _ _ c.right_packet_words.ensures c.if-not-right_packet_words.false
+    (root-gave _ _ c.requires _ c.root.ensures _ c.read_packet.ensures c.subtree-gave.ensures)
