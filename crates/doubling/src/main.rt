@@ -3,9 +3,10 @@
 // the refusal of 13.
 #![tactic(auto)]
 
-use compile::{Compiled, compile};
+use compile::compile;
 use row::{MOST_ROWS, ROW_WORDS};
 use section::{ATOM_WORDS, FIRST_OPERATOR, NODE_WORDS, OPERATOR_WORDS};
+use std::io;
 use words::copy;
 
 // The words before the first atom: the operator count, an operator and the atom count.
@@ -18,33 +19,27 @@ const FEW: usize = 12;
 
 const MANY: usize = 13;
 
-fn main(rt: HostRuntime) {
-    show(&rt, FEW);
-    let _ = print!(rt; " ");
-    show(&rt, MANY);
-    let _ = println!(rt; "");
+fn main(rt: HostRuntime) -> io::Result<()> {
+    show(&rt, FEW)?;
+    print!(rt; " ")?;
+    show(&rt, MANY)?;
+    println!(rt; "")
 }
 
 // Writes the answer for the file with so many atoms: the row count, or the refusal's number.
-fn show(rt: &impl Print, atoms: usize) {
+fn show(rt: &impl Print, atoms: usize) -> io::Result<()> {
     let mut file = [0u32; BEFORE + ATOM_WORDS * MANY + BEHIND];
     let mut table = [0u32; ROW_WORDS * MOST_ROWS];
     let mut scratch = [0u32; ROW_WORDS * MOST_ROWS];
     if MANY < atoms {
-        return;
+        return Ok(());
     }
     let behind = BEFORE + ATOM_WORDS * atoms;
     let count = atoms as u32;
     copy(&mut file, 0, &[1, 1, 1, 1, 1, 1, 1, 1, 1, 1, count]);
     copy(&mut file, behind, &[1, 0, 0, 0, count, 0]);
-    let answer = compile(&file[..behind + BEHIND], &mut table, &mut scratch);
-    match answer {
-        Compiled::Rows(n) => {
-            let _ = print!(rt; "{n}");
-        }
-        Compiled::Refused(refusal) => {
-            let number = refusal.number;
-            let _ = print!(rt; "{number}");
-        }
+    match compile(&file[..behind + BEHIND], &mut table, &mut scratch) {
+        Ok(rows) => print!(rt; "{rows}"),
+        Err(refusal) => print!(rt; "{}", refusal.number),
     }
 }
