@@ -2,6 +2,12 @@
 // What a call and its answer look like stands in tests/README.md.
 #![tactic(auto)]
 
+ghost use Rattle.std.specs.Prelude.{◌≡◌, true, ℕ, List, length};
+ghost use Rattle.std.specs.Io.KnownBytes.{Appends, Consumes};
+ghost use Rattle.wire.specs.Sent.{padding, counted};
+ghost use Rattle.text.specs.Listing.{listing_of};
+ghost use Rattle.answers.specs.Exchange.{text_reply, Answered};
+
 use calls::{call_action, call_compile, call_number, call_read, call_scan};
 use passes::call_hidden;
 use std::io;
@@ -64,7 +70,10 @@ fn answer<R: Read, W: Write>(
     a: &mut Words,
     b: &mut Words,
     c: &mut Words,
-) -> bool {
+) -> bool
+    ensures { result ≡ true → Answered (R.remaining input.old) (R.remaining input.new)
+        (W.contents output.old) (W.contents output.new) }
+{
     let call = take_word(input);
     if !call.whole {
         return false;
@@ -81,7 +90,11 @@ fn answer<R: Read, W: Write>(
     }
 }
 
-fn answer_list<R: Read, W: Write>(input: &mut R, output: &mut W) -> bool {
+fn answer_list<R: Read, W: Write>(input: &mut R, output: &mut W) -> bool
+    ensures { result ≡ true → (b pad : List ℕ) × (length pad ≡ padding (length b))
+        × Consumes (R.remaining input.old) (R.remaining input.new) (counted (length b) b pad)
+        × Appends (W.contents output.old) (W.contents output.new) (text_reply (listing_of b)) }
+{
     let mut bytes = blank_input();
     let mut out = blank_text();
     let b = take_bytes(input, &mut bytes);

@@ -1,5 +1,6 @@
 -- Words of bytes and bytes of words in a buffer that they fill from its start. Assumes nothing.
-use Rattle.std.proofs.Common.{◌≡◌, ap, ◌∙◌, List, [], ◌∷◌, ◌++◌, ℕ, suc, ◌+◌, ◌*◌, ◌≤◌, ◌<◌, length, take, get_or, arith, drop_of_length-le, append-nil, drop, ◌-◌}
+use Rattle.std.proofs.Common.{◌≡◌, ap, ◌∙◌, List, [], ◌∷◌, ◌++◌, ℕ, suc, ◌+◌}
+use Rattle.std.proofs.Common.{◌*◌, ◌≤◌, ◌<◌, length, take, get_or, arith, drop_of_length-le, append-nil, drop, ◌-◌}
 use Rattle.std.proofs.Math.Seq.{take-add}
 use borrow.Rule.Slice.PartMut.{put_mid}
 use Rattle.std.proofs.lemmas.Slice.{take-put_mid}
