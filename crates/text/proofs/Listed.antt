@@ -6,6 +6,7 @@ use mathlib.Core.Bool.{true, false, and-eq-true_iff}
 use mathlib.Core.List.{List}
 use lib.ListN.{length, take}
 use borrow.Author.Tests.{leb-true}
+use Rattle.std.specs.Prelude.{Result, Ok, Err}
 use Rattle.words.specs.Words.{copied}
 use Rattle.words.specs.Bytes.{word_bytes, words_in}
 use Rattle.words.proofs.Laid.{copied-fits, length-copied, take-laid}
@@ -15,15 +16,11 @@ use Rattle.table.specs.Table.{check_of}
 use Rattle.table.proofs.Tables.{rows-within}
 use Rattle.hidden.specs.Hidden.{kept_of, table_kept}
 use Rattle.hidden.specs.Theorems.{KeptTells}
-use Rattle.hidden.specs.declared.Kept.{Kept}
-use Rattle.hidden.specs.declared.Kept.TheVariants as kept
 use Rattle.hidden.proofs.Laws.{kept-rows}
 use Rattle.section.specs.Numbers.{longest_file}
+use Rattle.refusal.specs.declared.Fault.{Fault}
 use Rattle.refusal.specs.declared.Refusal.{Refusal}
 use Rattle.compile.specs.Compile.{answer_of, table_after, Compiles}
-use Rattle.compile.specs.declared.Compiled.{Compiled}
-use Rattle.compile.specs.declared.Compiled.TheVariants.{Rows}
-use Rattle.compile.specs.declared.Compiled.TheVariants as compiled
 use Rattle.compile.proofs.Answered.{answers-rows}
 use Rattle.line.specs.Text.{refusal}
 use Rattle.line.specs.Puts.{Puts}
@@ -60,11 +57,11 @@ unfolding listing_of
 input-refused b e p = rw e p
 
 -- the table of a file, where the compile answers rows
-module _ {f t s t' s' : List ℕ} {r : Compiled} (c : Compiles f t s t' s' r) where
-  pub file-few : {n : ℕ} → r ≡ Rows n → n ≤ most_rows
+module _ {f t s t' s' : List ℕ} {r : Result ℕ Refusal} (c : Compiles f t s t' s' r) where
+  pub file-few : {n : ℕ} → r ≡ Ok n → n ≤ most_rows
   file-few {n} e = omega (arith, (answers-rows f t s n (sym c.answer ∙ e)).fits)
 
-  pub file-fits : {n : ℕ} → r ≡ Rows n → n * row_length ≤ length t'
+  pub file-fits : {n : ℕ} → r ≡ Ok n → n * row_length ≤ length t'
   file-fits {n} e = rows-within n t' (ap (λ x. check_of (table_rows n x)) c.table ∙ table-right f t s n (sym c.answer ∙ e))
 
   module _ (bt : t ≡ blank) (bs : s ≡ blank) where
@@ -74,19 +71,19 @@ module _ {f t s t' s' : List ℕ} {r : Compiled} (c : Compiles f t s t' s' r) wh
     table-blank : t' ≡ table_after f blank blank
     table-blank = c.table ∙ ap₂ (table_after f) bt bs
 
-    pub file-listed : {n : ℕ} {l m : List ℕ} {i : ℕ} → r ≡ Rows n → Puts (shown_text (take (n * row_length) t')) l 0 m i → Puts (file_text f) l 0 m i
+    pub file-listed : {n : ℕ} {l m : List ℕ} {i : ℕ} → r ≡ Ok n → Puts (shown_text (take (n * row_length) t')) l 0 m i → Puts (file_text f) l 0 m i
     unfolding file_text
     file-listed {n} {l} {m} {i} e p =
-        let q : answer_of f blank blank ≡ Rows n = sym answer-blank ∙ e in
+        let q : answer_of f blank blank ≡ Ok n = sym answer-blank ∙ e in
         rw q (subst (λ x. Puts (shown_text (take (n * row_length) x)) l 0 m i) table-blank p)
 
-    pub file-refused : {x : Refusal} {l m : List ℕ} {i : ℕ} → r ≡ compiled.Refused x → Puts (refusal x.number x.place) l 0 m i → Puts (file_text f) l 0 m i
+    pub file-refused : {x : Refusal} {l m : List ℕ} {i : ℕ} → r ≡ Err x → Puts (refusal x.number x.place) l 0 m i → Puts (file_text f) l 0 m i
     unfolding file_text
-    file-refused {x} e p = let q : answer_of f blank blank ≡ compiled.Refused x = sym answer-blank ∙ e in rw q p
+    file-refused {x} e p = let q : answer_of f blank blank ≡ Err x = sym answer-blank ∙ e in rw q p
 
 -- the rows that stay, where the pass answers them
-module _ (t : List ℕ) {t' : List ℕ} {r : Kept} (e : r ≡ kept_of t) (w : t' ≡ table_kept t) where
-  module _ {n : ℕ} (q : r ≡ kept.Rows n) where
+module _ (t : List ℕ) {t' : List ℕ} {r : Result ℕ Fault} (e : r ≡ kept_of t) (w : t' ≡ table_kept t) where
+  module _ {n : ℕ} (q : r ≡ Ok n) where
     pub kept-few : n ≤ most_rows
     kept-few = let k : KeptTells t n = kept-rows t n (sym e ∙ q) in omega (arith, k.fewer, k.right.few)
 
@@ -96,9 +93,9 @@ module _ (t : List ℕ) {t' : List ℕ} {r : Kept} (e : r ≡ kept_of t) (w : t'
     pub kept-listed : {l m : List ℕ} {i : ℕ} → Puts (table_text (take (n * row_length) t')) l 0 m i → Puts (shown_text t) l 0 m i
     unfolding shown_text
     kept-listed {l} {m} {i} p =
-        let z : kept_of t ≡ kept.Rows n = sym e ∙ q in
+        let z : kept_of t ≡ Ok n = sym e ∙ q in
         rw z (subst (λ x. Puts (table_text (take (n * row_length) x)) l 0 m i) w p)
 
-  pub kept-refused : {n j : ℕ} {l m : List ℕ} {i : ℕ} → r ≡ kept.Refused n j → Puts (refusal n j) l 0 m i → Puts (shown_text t) l 0 m i
+  pub kept-refused : {f : Fault} {l m : List ℕ} {i : ℕ} → r ≡ Err f → Puts (refusal f.number f.place) l 0 m i → Puts (shown_text t) l 0 m i
   unfolding shown_text
-  kept-refused {n} {j} q p = let z : kept_of t ≡ kept.Refused n j = sym e ∙ q in rw z p
+  kept-refused {f} q p = let z : kept_of t ≡ Err f = sym e ∙ q in rw z p

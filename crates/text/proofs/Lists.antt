@@ -8,6 +8,7 @@ use mathlib.Core.List.{List, [], ◌∷◌}
 use lib.ListN.{length, take, length-append, length-replicate}
 use lib.Seq.{take_all, length-take-le}
 use borrow.Author.Tests.{le-leb, lt-leb}
+use Rattle.std.specs.Prelude.{Result, Ok, Err}
 use Rattle.logic.proofs.Tests.{by-test, by_le}
 use Rattle.words.specs.Bytes.{words_in}
 use Rattle.words.proofs.Laid.{take-laid}
@@ -20,14 +21,11 @@ use Rattle.table.specs.Table.{row_count, RightTable}
 use Rattle.table.proofs.Tables.{check-exactly, length-rows}
 use Rattle.hidden.specs.Hidden.{kept_rows, kept_of, table_kept}
 use Rattle.hidden.specs.Theorems.{KeptTells}
-use Rattle.hidden.specs.declared.Kept.TheVariants as kept
 use Rattle.hidden.proofs.Laws.{kept-rows, right_kept}
 use Rattle.compile.specs.Compile.{answer_of, table_after}
-use Rattle.compile.specs.declared.Compiled.{Compiled}
-use Rattle.compile.specs.declared.Compiled.TheVariants.{Rows, Refused}
+use Rattle.refusal.specs.declared.Refusal.{Refusal}
 use Rattle.compile.proofs.Answered.{answers-rows}
 use Rattle.priority.specs.Numbering.{levels_of, priorities_of, number_of}
-use Rattle.priority.specs.declared.Numbered.TheVariants.{Priorities}
 use Rattle.priority.proofs.Whole.{priorities-many}
 use Rattle.line.specs.Text.{line, head, longest_line}
 use Rattle.line.specs.Puts.{stop, Puts}
@@ -39,7 +37,7 @@ use Rattle.line.proofs.Lengths.{line-within, head-within, refusal-within}
 use Rattle.text.proofs.Right.{table-right}
 
 -- the rows of a file, where the compile answers rows
-module _ (f : List ℕ) (n : ℕ) (e : answer_of f blank blank ≡ Rows n) where
+module _ (f : List ℕ) (n : ℕ) (e : answer_of f blank blank ≡ Ok n) where
   few : n ≤ listing_room
   few = let k : length blank ≡ row_length * listing_room = length-replicate {A = ℕ} (row_length * listing_room) 0 in omega
       (arith, (answers-rows f blank blank n e).fits)
@@ -58,7 +56,7 @@ module _ (f : List ℕ) (n : ℕ) (e : answer_of f blank blank ≡ Rows n) where
   abbrev shown : List ℕ
   shown = table_rows stay (table_kept compiled)
 
-  stays : kept_of compiled ≡ kept.Rows stay
+  stays : kept_of compiled ≡ Ok stay
   stays = right_kept compiled checked.0
 
   told : KeptTells compiled stay
@@ -70,7 +68,7 @@ module _ (f : List ℕ) (n : ℕ) (e : answer_of f blank blank ≡ Rows n) where
   many : stay ≡ row_count shown
   many = ((check-exactly shown stay).0 told.check).1
 
-  numbers : number_of shown listing_room listing_room ≡ Priorities (level_count (levels_of shown))
+  numbers : number_of shown listing_room listing_room ≡ Ok (level_count (levels_of shown))
   unfolding number_of
   numbers = rw (told.check, le-leb stay listing_room fewer)
 
@@ -102,14 +100,14 @@ lines-within (p ∷ ps) (r ∷ rs) = omega (arith, length-append (line p r) (lin
 file-long : (f : List ℕ) → length (file_text f) ≤ longest_listing
 file-long f = by_answer (answer_of f blank blank) refl
   where
-    by_answer : (x : Compiled) → answer_of f blank blank ≡ x → length (file_text f) ≤ longest_listing
-    by_answer (Rows n) e =
+    by_answer : (x : Result ℕ Refusal) → answer_of f blank blank ≡ x → length (file_text f) ≤ longest_listing
+    by_answer (Ok n) e =
         let t : List ℕ = shown f n e in
         let k : ℕ = stay f n e in
         let h : length (head k (level_count (levels_of t))) ≤ longest_line = head-within k (level_count (levels_of t)) in
         let i : length (lines (priorities_of t) (rows_in t)) ≤ longest_line * length (rows_in t) = lines-within (priorities_of t) (rows_in t) in
         rw ((listed f n e).text, length-append) (omega (arith, fewer f n e, (listed f n e).rows))
-    by_answer (Refused r) e = rw (lists-refused f r e) (omega (arith, refusal-within r.number r.place))
+    by_answer (Err r) e = rw (lists-refused f r e) (omega (arith, refusal-within r.number r.place))
 
 pub never-cut : NeverCut
 unfolding listing_of
@@ -137,10 +135,6 @@ known-by-first b n h =
     (λ k.
     let e : length (take n b) ≡ n = length-take-le n b (omega arith) in
     rw (too_long (take n b) (omega arith), too_long b (omega arith)))
-
--- the first bytes of a slice that has no more are all of it
-pub first-listed : (n : ℕ) (b : List ℕ) {l m : List ℕ} {r : ℕ} → Puts (listing_of b) l 0 m r → length b ≤ n → Puts (listing_of (take n b)) l 0 m r
-first-listed n b p h = rw (take_all n b h) p
 
 -- arrays that are long enough, for the input and for its listing
 pub lists-whole : (array : List ℕ) (n : ℕ) {l m : List ℕ} {r : ℕ} → Puts (listing_of (take n array)) l 0 m r → r ≤ length m → longest_input < length array

@@ -10,16 +10,14 @@
 --   ListedRows f n t    the listing of the file f is the text of the n rows t, and there are n priorities
 --   ListedKept f t      the listing of the file f has those of the rows t that are not hidden
 --   ListsWhole a n l m r   m is l with the listing at its start, up to r: whole, of every input that was read into a
-use Rattle.std.specs.Prelude.{ℕ, ◌+◌, ◌*◌, ◌%◌, ◌≤◌, ◌≡◌, Bool, cond, ◌&&◌, List, eqb, leb, length, replicate, take}
+use Rattle.std.specs.Prelude.{ℕ, ◌+◌, ◌*◌, ◌%◌, ◌≤◌, ◌≡◌, Bool, cond, ◌&&◌, List, Result, Ok, Err, eqb, leb, length, replicate, take}
+use Rattle.refusal.specs.declared.Fault.{Fault}
+use Rattle.refusal.specs.declared.Refusal.{Refusal}
 use Rattle.words.specs.Bytes.{word_bytes, words_in}
 use Rattle.row.specs.Row.{row_length, rows_in, table_rows}
 use Rattle.hidden.specs.Hidden.{kept_of, table_kept}
-use Rattle.hidden.specs.declared.Kept.{Kept}
-use Rattle.hidden.specs.declared.Kept.TheVariants as kept
 use Rattle.section.specs.Numbers.{longest_file}
 use Rattle.compile.specs.Compile.{answer_of, table_after}
-use Rattle.compile.specs.declared.Compiled.{Compiled}
-use Rattle.compile.specs.declared.Compiled.TheVariants as compiled
 use Rattle.priority.specs.Numbering.{priorities_of}
 use Rattle.line.specs.Text.{longest_line, refusal}
 use Rattle.line.specs.Puts.{Puts}
@@ -42,18 +40,18 @@ abbrev pub blank : List ℕ
 blank = replicate (row_length * listing_room) 0
 
 -- what is shown of compiled rows, by what the pass that takes hidden rows out answers and the table that it leaves
-abbrev pub kept_text : List ℕ → Kept → List ℕ
-kept_text t (kept.Rows n) = table_text (table_rows n t)
-kept_text t (kept.Refused n i) = refusal n i
+abbrev pub kept_text : List ℕ → Result ℕ Fault → List ℕ
+kept_text t (Ok n) = table_text (table_rows n t)
+kept_text t (Err f) = refusal f.number f.place
 
 -- the listing of compiled rows
 unfoldable pub shown_text : List ℕ → List ℕ
 shown_text t = kept_text (table_kept t) (kept_of t)
 
 -- what is shown of a file, by what the compile answers and the table that it leaves
-abbrev pub compiled_text : List ℕ → Compiled → List ℕ
-compiled_text t (compiled.Rows n) = shown_text (table_rows n t)
-compiled_text t (compiled.Refused r) = refusal r.number r.place
+abbrev pub compiled_text : List ℕ → Result ℕ Refusal → List ℕ
+compiled_text t (Ok n) = shown_text (table_rows n t)
+compiled_text t (Err r) = refusal r.number r.place
 
 -- the listing of a policy file
 unfoldable pub file_text : List ℕ → List ℕ
@@ -83,5 +81,5 @@ pub record ListedRows (f : List ℕ) (n : ℕ) (t : List ℕ) : Type 0 where
 -- of the compiled rows t, those that stay when the hidden ones are out
 pub record ListedKept (f t : List ℕ) : Type 0 where
   pub count : ℕ
-  pub stay : kept_of t ≡ kept.Rows count
+  pub stay : kept_of t ≡ Ok count
   pub listed : ListedRows f count (table_rows count (table_kept t))

@@ -9,18 +9,16 @@
 --   WrittenWhole                  so a buffer of so many bytes holds the whole text
 --   KnownByFirst                  one byte more than the longest input has tells what is listed
 --   ExamplesListed                the text of each of some examples
-use Rattle.std.specs.Prelude.{ℕ, ◌≤◌, ◌<◌, ◌≡◌, false, List, [], ◌∷◌, length, take}
+use Rattle.std.specs.Prelude.{ℕ, ◌≤◌, ◌<◌, ◌≡◌, false, List, [], ◌∷◌, Ok, Err, length, take}
 use Prim.Native.String.{String}
 use Rattle.words.specs.Records.{flat}
 use Rattle.words.specs.Bytes.{bytes_of}
 use Rattle.table.specs.Table.{check_of}
-use Rattle.table.specs.declared.Checked.TheVariants as checked
 use Rattle.action.specs.Operator.{sibling}
 use Rattle.policy.specs.Examples.{tenant, tenant_with, lone}
 use Rattle.refusal.specs.declared.Refusal.{Refusal}
 use Rattle.row.specs.Row.{table_rows}
 use Rattle.compile.specs.Compile.{answer_of, table_after}
-use Rattle.compile.specs.declared.Compiled.TheVariants.{Rows, Refused}
 use Rattle.line.specs.Text.{ascii, refusal}
 use Rattle.line.specs.Puts.{Puts}
 use Rattle.text.specs.Listing.{wrong_input, longest_input, right_input, blank, file_text}
@@ -30,17 +28,17 @@ use Rattle.logic.specs.Lists.{All}
 -- the rows that the compile leaves pass the table's check, with as many rows
 abbrev pub TableRight : Type 0
 TableRight =
-    (f t s : List ℕ) (n : ℕ) → answer_of f t s ≡ Rows n → check_of (table_rows n (table_after f t s)) ≡ checked.Rows n
+    (f t s : List ℕ) (n : ℕ) → answer_of f t s ≡ Ok n → check_of (table_rows n (table_after f t s)) ≡ Ok n
 
 -- THE LISTING HAS A LINE FOR EACH COMPILED ROW THAT IS NOT HIDDEN
 abbrev pub ListsRows : Type 0
 ListsRows =
-    (f : List ℕ) (n : ℕ) → answer_of f blank blank ≡ Rows n → ListedKept f (table_rows n (table_after f blank blank))
+    (f : List ℕ) (n : ℕ) → answer_of f blank blank ≡ Ok n → ListedKept f (table_rows n (table_after f blank blank))
 
 -- or it is the compile's refusal
 abbrev pub ListsRefused : Type 0
 ListsRefused =
-    (f : List ℕ) (r : Refusal) → answer_of f blank blank ≡ Refused r → file_text f ≡ refusal r.number r.place
+    (f : List ℕ) (r : Refusal) → answer_of f blank blank ≡ Err r → file_text f ≡ refusal r.number r.place
 
 -- bytes that are not whole words, or too many
 abbrev pub RefusedInput : Type 0

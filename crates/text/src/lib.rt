@@ -5,8 +5,8 @@ ghost use Rattle.std.specs.Prelude.{◌≡◌, ◌≤◌, length, take};
 ghost use Rattle.line.specs.Puts.{Puts};
 ghost use Rattle.text.specs.Listing.{right_input, shown_text, file_text, listing_of, ListsWhole};
 
-use compile::{Compiled, compile};
-use hidden::{Kept, drop_hidden};
+use compile::compile;
+use hidden::drop_hidden;
 use line::put_refusal;
 use row::ROW_WORDS;
 use section::LONGEST_FILE;
@@ -58,10 +58,7 @@ fn list_first(input: &[u8], n: usize, out: &mut [u8]) -> usize
     ensures puts { Puts (listing_of (take n input.now)) out.old 0 out.new result }
     ensures upper_bound { result ≤ length out.new }
 {
-    if n < input.len() {
-        return list(&input[..n], out);
-    }
-    list(input, out)
+    list(&input[..n.min(input.len())], out)
 }
 
 // The listing of a policy file.
@@ -70,10 +67,9 @@ fn list_file(file: &[u32], out: &mut [u8]) -> usize
 {
     let mut table = [0u32; ROW_WORDS * ROOM];
     let mut scratch = [0u32; ROW_WORDS * ROOM];
-    let compiled = compile(file, &mut table, &mut scratch);
-    match compiled {
-        Compiled::Rows(rows) => list_rows(&mut table[..rows * ROW_WORDS], out),
-        Compiled::Refused(refusal) => put_refusal(out, refusal.number, refusal.place),
+    match compile(file, &mut table, &mut scratch) {
+        Ok(rows) => list_rows(&mut table[..rows * ROW_WORDS], out),
+        Err(refusal) => put_refusal(out, refusal.number, refusal.place),
     }
 }
 
@@ -82,8 +78,8 @@ fn list_rows(table: &mut [u32], out: &mut [u8]) -> usize
     ensures { Puts (shown_text table.old) out.old 0 out.new result }
 {
     match drop_hidden(table) {
-        Kept::Rows(kept) => list_table(&table[..kept * ROW_WORDS], out),
-        Kept::Refused { number, place } => put_refusal(out, number, place),
+        Ok(kept) => list_table(&table[..kept * ROW_WORDS], out),
+        Err(fault) => put_refusal(out, fault.number, fault.place),
     }
 }
 

@@ -5,16 +5,16 @@ use Rattle.text.proofs.Listed.{file-few, file-fits, file-listed, file-refused}
 use Rattle.text.proofs.list_file.Goals as goal
 
 pub overflow_mul-table : goal.overflow_mul-table
-overflow_mul-table c = omega (arith, file-few c.compile-compiled.ensures c.in-Rows.is)
+overflow_mul-table c = omega (arith, file-few c.compile.ensures c.in-Ok.is)
 
 pub slice_bounds-table-end : goal.slice_bounds-table-end
-slice_bounds-table-end c = file-fits c.compile-compiled.ensures c.in-Rows.is
+slice_bounds-table-end c = file-fits c.compile.ensures c.in-Ok.is
 
 pub slice_bounds-list_rows-end : goal.slice_bounds-list_rows-end
-slice_bounds-list_rows-end c = sym (length-take-le _ _ (file-fits c.compile-compiled.ensures c.in-Rows.is))
+slice_bounds-list_rows-end c = sym (length-take-le _ _ (file-fits c.compile.ensures c.in-Ok.is))
 
-pub returns-in-Rows : goal.returns-in-Rows
-returns-in-Rows c = file-listed c.compile-compiled.ensures refl refl c.in-Rows.is c.list_rows.ensures
+pub returns-in-Ok : goal.returns-in-Ok
+returns-in-Ok c = file-listed c.compile.ensures refl refl c.in-Ok.is c.list_rows.ensures
 
-pub returns-in-Refused : goal.returns-in-Refused
-returns-in-Refused c = file-refused c.compile-compiled.ensures refl refl c.in-Refused.is c.put_refusal.ensures
+pub returns-in-Err : goal.returns-in-Err
+returns-in-Err c = file-refused c.compile.ensures refl refl c.in-Err.is c.put_refusal.ensures

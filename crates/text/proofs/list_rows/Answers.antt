@@ -7,24 +7,24 @@ use Rattle.text.proofs.list_rows.Goals as goal
 pub overflow_mul-kept : goal.overflow_mul-kept
 overflow_mul-kept c =
     let pass = c.drop_hidden.ensures in
-    omega (arith, kept-few c.args.table.now pass.value pass.table_after c.in-Rows.is)
+    omega (arith, kept-few c.args.table.now pass.value pass.table_after c.in-Ok.is)
 
 pub slice_bounds-list_table-end : goal.slice_bounds-list_table-end
 slice_bounds-list_table-end c =
     let pass = c.drop_hidden.ensures in
-    kept-fits c.args.table.now pass.value pass.table_after c.in-Rows.is
+    kept-fits c.args.table.now pass.value pass.table_after c.in-Ok.is
 
-pub slice_bounds-list_table-end-in-Rows : goal.slice_bounds-list_table-end-in-Rows
-slice_bounds-list_table-end-in-Rows c =
+pub slice_bounds-list_table-end-in-Ok : goal.slice_bounds-list_table-end-in-Ok
+slice_bounds-list_table-end-in-Ok c =
     let pass = c.drop_hidden.ensures in
-    sym (length-take-le _ _ (kept-fits c.args.table.now pass.value pass.table_after c.in-Rows.is))
+    sym (length-take-le _ _ (kept-fits c.args.table.now pass.value pass.table_after c.in-Ok.is))
 
-pub returns-in-Rows : goal.returns-in-Rows
-returns-in-Rows c =
+pub returns-in-Ok : goal.returns-in-Ok
+returns-in-Ok c =
     let pass = c.drop_hidden.ensures in
-    kept-listed c.args.table.now pass.value pass.table_after c.in-Rows.is c.list_table.ensures
+    kept-listed c.args.table.now pass.value pass.table_after c.in-Ok.is c.list_table.ensures
 
-pub returns-in-Refused : goal.returns-in-Refused
-returns-in-Refused c =
+pub returns-in-Err : goal.returns-in-Err
+returns-in-Err c =
     let pass = c.drop_hidden.ensures in
-    kept-refused c.args.table.now pass.value pass.table_after c.in-Refused.is c.put_refusal.ensures
+    kept-refused c.args.table.now pass.value pass.table_after c.in-Err.is c.put_refusal.ensures
