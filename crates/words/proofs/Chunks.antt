@@ -51,7 +51,8 @@ whole-part k (suc n) ws pos h =
     ∙ whole-next k (take k ws) (take (k * n) (drop k ws)) pos (length-take-le k ws (omega arith))
     ∙ ap (λ rs. take k ws ∷ rs) (whole-part k n (drop k ws) pos l)
 
-pub whole-range : (k n from to : ℕ) (ws : List ℕ) → 0 < k → to ≡ from + k * n → to ≤ length ws → whole k (take (to - from) (drop from ws)) ≡ records n k (drop from ws)
+pub whole-range : (k n from to : ℕ) (ws : List ℕ) → 0 < k → to ≡ from + k * n → to ≤ length ws
+    → whole k (take (to - from) (drop from ws)) ≡ records n k (drop from ws)
 whole-range k n from to ws pos e h =
     let d : to - from ≡ k * n = omega arith in
     ap (λ m. whole k (take m (drop from ws))) d ∙ whole-part k n (drop from ws) pos (rw length-drop (omega arith))

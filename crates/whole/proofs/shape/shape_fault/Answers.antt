@@ -1,6 +1,5 @@
 -- A turn gives one node its place, or finds that there is none.
 use Rattle.std.proofs.Common.{◌≡◌, eqb, ap, sym, ◌∙◌, refl, suc, length, drop, length-set, arith}
-use Rattle.words.specs.Records.{records}
 use Rattle.words.proofs.Records.{length-records}
 use Rattle.words.proofs.Chunks.{left, left-next, left-none, started}
 use Rattle.section.specs.Numbers.{node_length, no_tree}
@@ -16,11 +15,12 @@ loop-i-init c =
     let s = started node_length c.node_words-nodes.result.now _ _ _ c.chunks_exact.ensures.rest c.chunks_exact.ensures.size c.enumerate-i-items.ensures.source
     c.enumerate-i-items.ensures.count c.into_iter-i-iterator.ensures.into_iter_gives in
     let every = s.left ∙ c.node_words-nodes.ensures in
+    let n = length-records g.count node_length (drop g.at g.file.now) in
     record {
       room = refl;
       low = omega arith;
       size = s.going.size;
-      all = let n : length (records g.count node_length (drop g.at g.file.now)) ≡ g.count = length-records g.count node_length (drop g.at g.file.now) in rw (s.none, every) (omega arith);
+      all = rw (s.none, every) (omega (arith, n));
       same = rw (s.none, every);
     }
 
