@@ -11,12 +11,13 @@ ghost use Rattle.hidden.specs.Hidden.{kept_of, table_kept, kept_count};
 ghost use Rattle.speed.specs.Answers.{read_number, tree_number, tree_action, with_action};
 
 use action::{Action, kind, rate};
-use compile::{Compiled, compile};
-use hidden::{Kept, drop_hidden};
-use policy::{Reading, read};
-use priority::{Numbered, number};
-use table::{Scanned, scan};
-use tree::{Evaluated, tree_action};
+use compile::compile;
+use hidden::drop_hidden;
+use policy::{Layout, read};
+use priority::number;
+use refusal::{Fault, Refusal};
+use table::{Found, scan};
+use tree::tree_action;
 use words::copy;
 
 // The number of a policy file's refusal, 0 where it is accepted.
@@ -82,88 +83,64 @@ pub extern "C" fn speed_hidden(table: &mut [u32]) -> usize
     kept_count(drop_hidden(table))
 }
 
-fn read_number(answer: Reading) -> u32
+fn read_number(answer: Result<Layout, Refusal>) -> u32
     ensures { result ≡ read_number answer }
 {
     match answer {
-        Reading::Accepted(_) => 0,
-        Reading::Refused(refusal) => refusal.number,
+        Ok(_) => 0,
+        Err(refusal) => refusal.number,
     }
 }
 
-fn tree_number(answer: Evaluated) -> u32
+fn tree_number(answer: Result<Action, Refusal>) -> u32
     ensures { result ≡ tree_number answer }
 {
     match answer {
-        Evaluated::Gives(_) => 0,
-        Evaluated::Refused(refusal) => refusal.number,
+        Ok(_) => 0,
+        Err(refusal) => refusal.number,
     }
 }
 
-fn tree_given(answer: Evaluated) -> Action
+fn tree_given(answer: Result<Action, Refusal>) -> Action
     ensures { result ≡ tree_action answer }
 {
-    match answer {
-        Evaluated::Gives(action) => action,
-        Evaluated::Refused(_) => Action::DONT_CARE,
-    }
+    answer.unwrap_or(Action::DONT_CARE)
 }
 
-fn row_count(answer: Compiled) -> usize
+fn row_count(answer: Result<usize, Refusal>) -> usize
     ensures { result ≡ compile_count answer }
 {
-    match answer {
-        Compiled::Rows(rows) => rows,
-        Compiled::Refused(_) => 0,
-    }
+    answer.unwrap_or(0)
 }
 
-fn scan_tried(answer: Scanned) -> usize
+fn scan_tried(answer: Result<Found, Fault>) -> usize
     ensures { result ≡ scan_tried answer }
 {
     match answer {
-        Scanned::Found { action: _, tried } => tried,
-        Scanned::Refused {
-            number: _,
-            place: _,
-        } => 0,
+        Ok(found) => found.tried,
+        Err(_) => 0,
     }
 }
 
-fn scan_given(answer: Scanned) -> Action
+fn scan_given(answer: Result<Found, Fault>) -> Action
     ensures { result ≡ scan_action answer }
 {
     match answer {
-        Scanned::Found { action, tried: _ } => action,
-        Scanned::Refused {
-            number: _,
-            place: _,
-        } => Action::DONT_CARE,
+        Ok(found) => found.action,
+        Err(_) => Action::DONT_CARE,
     }
 }
 
-fn priority_count(answer: Numbered) -> u32
+fn priority_count(answer: Result<u32, Fault>) -> u32
     ensures { result ≡ answer_count answer }
 {
-    match answer {
-        Numbered::Priorities(count) => count,
-        Numbered::Refused {
-            number: _,
-            place: _,
-        } => 0,
-    }
+    answer.unwrap_or(0)
 }
 
-fn kept_count(answer: Kept) -> usize
+fn kept_count(answer: Result<usize, Fault>) -> usize
     ensures { result ≡ kept_count answer }
 {
-    match answer {
-        Kept::Rows(rows) => rows,
-        Kept::Refused {
-            number: _,
-            place: _,
-        } => 0,
-    }
+    answer.unwrap_or(0)
 }
 
 // Stores an action's kind and rate at the start of a buffer that has room for them.
