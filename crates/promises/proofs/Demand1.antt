@@ -8,6 +8,7 @@ use mathlib.Core.Logic.{◌⊎◌, inl, inr, ⊎_elim}
 use lib.Dec.{eqb, leb, ltb}
 use lib.ListN.{length}
 use borrow.Author.Tests.{lt-ltb, lt-leb, eqb-true, eqb-false}
+use Rattle.std.specs.Prelude.{Result, Ok, Err}
 use Rattle.logic.proofs.Tests.{by-test}
 use Rattle.words.specs.Records.{records}
 use Rattle.theory.specs.Rows.{Row}
@@ -20,19 +21,16 @@ use Rattle.action.specs.Laws.{law_search}
 use Rattle.action.specs.declared.Lawful.{Lawful}
 use Rattle.action.specs.declared.Lawful.TheVariants.{Yes, Broken}
 use Rattle.section.specs.Numbers.{law_broken}
-use Rattle.refusal.specs.Plain.{plain}
+use Rattle.refusal.specs.Plain.{plain, fault}
+use Rattle.refusal.specs.declared.Fault.{Fault}
 use Rattle.policy.specs.Read.{read_of}
 use Rattle.policy.specs.declared.Layout.{Layout}
-use Rattle.policy.specs.declared.Reading.{Reading}
-use Rattle.policy.specs.declared.Reading.TheVariants as reading
 use Rattle.refusal.specs.declared.Refusal.{Refusal}
 use Rattle.policy.proofs.Refused.{refused-plain}
 use Rattle.policy.proofs.Order.{file-order}
 use Rattle.tree.proofs.Eval.{action-eval, action-refused, action-packet}
 use Rattle.table.specs.Table.{wrong_table, wrong_row, row_count, right_length, check_from, check_rows, check_of}
 use Rattle.table.specs.Scan.{scan_of}
-use Rattle.table.specs.declared.Checked.{Checked}
-use Rattle.table.specs.declared.Checked.TheVariants as checked
 use Rattle.table.proofs.Tables.{check-exactly, check-first}
 use Rattle.table.proofs.Scans.{scan-refused}
 use Rattle.priority.specs.Numbering.{number_of, answer_count, count}
@@ -42,9 +40,7 @@ use Rattle.hidden.specs.Hidden.{kept_of}
 use Rattle.hidden.proofs.Laws as hidden
 use Rattle.compile.specs.Compile.{no_room, no_scratch, wrong_rate, room, compiled_rows, fine, answer_of, table_after, scratch_after}
 use Rattle.compile.specs.Compile as compile
-use Rattle.compile.specs.declared.Compiled.{Compiled}
-use Rattle.compile.specs.declared.Compiled.TheVariants.{Rows, Refused}
-use Rattle.promises.specs.Told.{search_told, read_told, action_told, compile_told, between, Fixed}
+use Rattle.promises.specs.Told.{search_told, read_told, action_told, compile_told, check_told, between, Fixed}
 use Rattle.promises.specs.Demands.{EveryInput, Order, WordsLeft, Demand1}
 
 -- the numbers of the compile
@@ -52,7 +48,7 @@ abbrev compile_numbers : ℕ → Type 0
 compile_numbers n = between 1 10 n ⊎ between 12 14 n
 
 -- the numbers of a refused file
-pub file-number : (f : List ℕ) (r : Refusal) → read_of f ≡ reading.Refused r → between 1 10 r.number
+pub file-number : (f : List ℕ) (r : Refusal) → read_of f ≡ Err r → between 1 10 r.number
 file-number f r e = by-test (eqb r.number law_broken)
     (λ t. let z : r.number ≡ law_broken = eqb-true _ _ t in (omega arith, omega arith))
     (λ t. let p = refused-plain f r e (eqb-false _ _ t) in (p.0, omega (arith, p.1)))
@@ -65,7 +61,7 @@ module _ {numbers : ℕ → Type 0} where
   refused : {n i : ℕ} → numbers n → Fixed numbers (record { refusal = plain n i; action = DontCare; count = 0 })
   refused h = record { number = inr h; value = λ n. (refl, refl); law = λ n. refl }
 
-  file-refused : (f : List ℕ) (r : Refusal) → read_of f ≡ reading.Refused r → ((n : ℕ) → between 1 10 n → numbers n)
+  file-refused : (f : List ℕ) (r : Refusal) → read_of f ≡ Err r → ((n : ℕ) → between 1 10 n → numbers n)
       → Fixed numbers (record { refusal = r; action = DontCare; count = 0 })
   file-refused f r e h = record {
     number = inr (h r.number (file-number f r e));
@@ -74,47 +70,51 @@ module _ {numbers : ℕ → Type 0} where
   }
 
 -- a file is accepted or refused
-pub by-reading : {X : Type 0} (f : List ℕ) → ((l : Layout) → read_of f ≡ reading.Accepted l → X) → ((r : Refusal) → read_of f ≡ reading.Refused r → X) → X
+pub by-reading : {X : Type 0} (f : List ℕ) → ((l : Layout) → read_of f ≡ Ok l → X) → ((r : Refusal) → read_of f ≡ Err r → X) → X
 by-reading {X} f accepted refused = go (read_of f) refl
   where
-    go : (x : Reading) → read_of f ≡ x → X
-    go (reading.Accepted l) e = accepted l e
-    go (reading.Refused r) e = refused r e
+    go : (x : Result Layout Refusal) → read_of f ≡ x → X
+    go (Ok l) e = accepted l e
+    go (Err r) e = refused r e
+
+-- the number of a fault
+same_fault : (n i : ℕ) (f : Fault) → ◌≡◌ {A = Result ℕ Fault} (Err (fault n i)) (Err f) → f.number ≡ n
+same_fault n i f q = sym (ap (λ x. (check_told x).refusal.number) q)
 
 -- a table is right, or wrong with 15 or 16
-by-check : {X : Type 0} (ws : List ℕ) → ((n : ℕ) → check_of ws ≡ checked.Rows n → X) → ((n i : ℕ) → check_of ws ≡ checked.Wrong n i → between 15 16 n → X) → X
+by-check : {X : Type 0} (ws : List ℕ) → ((n : ℕ) → check_of ws ≡ Ok n → X) → ((f : Fault) → check_of ws ≡ Err f → between 15 16 f.number → X) → X
 unfolding check_of check_rows
 by-check {X} ws right wrong = go (check_of ws) refl
   where
-    row : (i : ℕ) (rs : List (List ℕ)) (n k : ℕ) → check_from i rs ≡ checked.Wrong n k → n ≡ wrong_row
-    row i [] n k e = let z : ◌≡◌ {A = ℕ} 0 1 = cc in absurd (omega arith)
-    row i (r ∷ rs) n k e = by-test (right_row r) (λ t. row _ rs n k (rw t at e)) (λ t. let q : checked.Wrong wrong_row i ≡ checked.Wrong n k = rw t at e in cc)
+    row : (i : ℕ) (rs : List (List ℕ)) (f : Fault) → check_from i rs ≡ Err f → f.number ≡ wrong_row
+    row i [] f e = let z : ◌≡◌ {A = ℕ} 0 1 = cc in absurd (omega arith)
+    row i (r ∷ rs) f e = by-test (right_row r) (λ t. row _ rs f (rw t at e)) (λ t. same_fault wrong_row i f (rw t at e))
 
-    go : (x : Checked) → check_of ws ≡ x → X
-    go (checked.Rows n) e = right n e
-    go (checked.Wrong n i) e = wrong n i e (by-test (right_length ws)
-        (λ t. let q : n ≡ wrong_row = row 0 (records (row_count ws) row_length ws) n i (rw t at e) in (omega arith, omega arith))
-        (λ t. let q : checked.Wrong wrong_table 0 ≡ checked.Wrong n i = rw t at e in let z : n ≡ wrong_table = cc in (omega arith, omega arith)))
+    go : (x : Result ℕ Fault) → check_of ws ≡ x → X
+    go (Ok n) e = right n e
+    go (Err f) e = wrong f e (by-test (right_length ws)
+        (λ t. let q : f.number ≡ wrong_row = row 0 (records (row_count ws) row_length ws) f (rw t at e) in (omega arith, omega arith))
+        (λ t. let z : f.number ≡ wrong_table = same_fault wrong_table 0 f (rw t at e) in (omega arith, omega arith)))
 
 -- the compile of a refused file, and of an accepted one by what is refused: the scratch, the room, a rate, or nothing
-module _ (P : Compiled → List ℕ → List ℕ → Type 0) where
-  four : (x y z : Bool) {r₁ r₂ r₃ r₄ : Compiled} {t₁ t₂ t₃ t₄ s₁ s₂ s₃ s₄ : List ℕ} → P r₁ t₁ s₁ → P r₂ t₂ s₂ → P r₃ t₃ s₃ → P r₄ t₄ s₄
+module _ (P : Result ℕ Refusal → List ℕ → List ℕ → Type 0) where
+  four : (x y z : Bool) {r₁ r₂ r₃ r₄ : Result ℕ Refusal} {t₁ t₂ t₃ t₄ s₁ s₂ s₃ s₄ : List ℕ} → P r₁ t₁ s₁ → P r₂ t₂ s₂ → P r₃ t₃ s₃ → P r₄ t₄ s₄
       → P (cond x r₁ (cond y r₂ (cond z r₄ r₃))) (cond x t₁ (cond y t₂ (cond z t₄ t₃))) (cond x s₁ (cond y s₂ (cond z s₄ s₃)))
   four true y z a b c d = a
   four false true z a b c d = b
   four false false true a b c d = d
   four false false false a b c d = c
 
-  of-refused : (f t s : List ℕ) (r : Refusal) → read_of f ≡ reading.Refused r → P (Refused r) t s
+  of-refused : (f t s : List ℕ) (r : Refusal) → read_of f ≡ Err r → P (Err r) t s
       → P (answer_of f t s) (table_after f t s) (scratch_after f t s)
   unfolding answer_of table_after scratch_after
   of-refused f t s r e p = rw e p
 
-  of-accepted : (f t s : List ℕ) (l : Layout) → read_of f ≡ reading.Accepted l
-      → P (Refused (plain no_scratch 0)) t s
-      → P (Refused (plain no_room 0)) (zeros (length t)) (zeros (length s))
-      → P (Refused (plain wrong_rate 0)) (zeros (length t)) (zeros (length s))
-      → P (Rows (length (compiled_rows f l))) (words_of (compiled_rows f l) ++ zeros (length t - length (words_of (compiled_rows f l)))) (zeros (length s))
+  of-accepted : (f t s : List ℕ) (l : Layout) → read_of f ≡ Ok l
+      → P (Err (plain no_scratch 0)) t s
+      → P (Err (plain no_room 0)) (zeros (length t)) (zeros (length s))
+      → P (Err (plain wrong_rate 0)) (zeros (length t)) (zeros (length s))
+      → P (Ok (length (compiled_rows f l))) (words_of (compiled_rows f l) ++ zeros (length t - length (words_of (compiled_rows f l)))) (zeros (length s))
       → P (answer_of f t s) (table_after f t s) (scratch_after f t s)
   unfolding answer_of table_after scratch_after
   of-accepted f t s l e a b c d = rw e
@@ -143,14 +143,14 @@ every-input = record {
       (refused (inr (omega arith, omega arith)))
       success)
       (λ r e. of-refused (λ x t' s'. Fixed compile_numbers (compile_told x)) f t s r e (file-refused f r e (λ n h. inl h)));
-  check = λ ws. by-check ws (λ n e. rw e success) (λ n i e h. rw e (refused h));
+  check = λ ws. by-check ws (λ n e. rw e success) (λ f e h. rw e (refused h));
   scan = λ ws p. by-test (right_packet_words p)
-      (λ t. by-check ws (λ n e. rw (t, e) success) (λ n i e h. rw (t, e) (refused (inr h))))
+      (λ t. by-check ws (λ n e. rw (t, e) success) (λ f e h. rw (t, e) (refused (inr h))))
       (λ t. rw t (refused (inl refl)));
   number = λ ws p c. by-check ws
       (λ n e. by-test (leb n p && leb n c) (λ t. rw (e, t) success) (λ t. rw (e, t) (refused (omega arith, omega arith))))
-      (λ n i e h. rw e (refused (h.0, omega (arith, h.1))));
-  hidden = λ ws. by-check ws (λ n e. rw e success) (λ n i e h. rw e (refused h));
+      (λ f e h. rw e (refused (h.0, omega (arith, h.1))));
+  hidden = λ ws. by-check ws (λ n e. rw e success) (λ f e h. rw e (refused h));
 }
 
 -- a buffer shorter than the row count
@@ -173,29 +173,29 @@ order = record {
   table-length = λ ws t. rw t refl;
   table-row = check-first;
   scan-packet = λ ws p. (scan-refused ws p).0;
-  scan-table = λ ws p n i t e. (scan-refused ws p).1 t n i e;
-  number-table = λ ws p c n i e. rw e refl;
+  scan-table = λ ws p f t e. (scan-refused ws p).1 t f e;
+  number-table = λ ws p c f e. rw e refl;
   number-buffers = λ ws p c r h. rw ((check-exactly ws (row_count ws)).1 (r, refl), short (row_count ws) p c h) refl;
-  hidden-table = λ ws n i e. (hidden.refused-exactly ws n i).1 e;
+  hidden-table = λ ws f e. (hidden.refused-exactly ws f).1 e;
 }
 
 -- the number of a refusal, and that it is no success
-pub same_number : {r r' : Refusal} → Refused r ≡ Refused r' → r.number ≡ r'.number
-same_number q = ap (λ (x : Compiled). (compile.compile_refusal x).number) q
+pub same_number : {r r' : Refusal} → ◌≡◌ {A = Result ℕ Refusal} (Err r) (Err r') → r.number ≡ r'.number
+same_number q = ap (λ (x : Result ℕ Refusal). (compile.compile_refusal x).number) q
 
-pub no_rows : {X : Type 0} {n : ℕ} {r : Refusal} → Rows n ≡ Refused r → X
+pub no_rows : {X : Type 0} {n : ℕ} {r : Refusal} → Ok n ≡ Err r → X
 no_rows q = let z : ◌≡◌ {A = ℕ} 0 1 = cc in absurd (omega arith)
 
 words_left : WordsLeft
 words_left = record {
   compile-stays = λ f t s r.
-      let P : Compiled → List ℕ → List ℕ → Type 0 = λ x t' s'. x ≡ Refused r → ¬ (r.number ≡ no_room) → ¬ (r.number ≡ wrong_rate) → (t' ≡ t) × (s' ≡ s) in
+      let P : Result ℕ Refusal → List ℕ → List ℕ → Type 0 = λ x t' s'. x ≡ Err r → ¬ (r.number ≡ no_room) → ¬ (r.number ≡ wrong_rate) → (t' ≡ t) × (s' ≡ s) in
       by-reading f
       (λ l e. of-accepted P f t s l e (λ q n m. (refl, refl)) (λ q n m. absurd (n (sym (same_number q)))) (λ q n m. absurd (m (sym (same_number q))))
       (λ q n m. no_rows q))
       (λ r' e. of-refused P f t s r' e (λ q n m. (refl, refl)));
   compile-zeros = λ f t s r.
-      let P : Compiled → List ℕ → List ℕ → Type 0 = λ x t' s'. x ≡ Refused r → (r.number ≡ no_room) ⊎ (r.number ≡ wrong_rate) → (t' ≡ zeros (length t))
+      let P : Result ℕ Refusal → List ℕ → List ℕ → Type 0 = λ x t' s'. x ≡ Err r → (r.number ≡ no_room) ⊎ (r.number ≡ wrong_rate) → (t' ≡ zeros (length t))
       × (s' ≡ zeros (length s)) in
       by-reading f
       (λ l e. of-accepted P f t s l e
@@ -208,7 +208,7 @@ words_left = record {
       ⊎_elim (λ h. absurd (omega (arith, n.1, h, same_number q))) (λ h. absurd (omega (arith, n.1, h, same_number q)))));
   compile-rows = λ f t s l n e.
       let N : List (Row Match Action) = compiled_rows f l in
-      of-accepted (λ x t' s'. x ≡ Rows n → (t' ≡ words_of N ++ zeros (length t - length (words_of N))) × (s' ≡ zeros (length s))) f t s l e
+      of-accepted (λ x t' s'. x ≡ Ok n → (t' ≡ words_of N ++ zeros (length t - length (words_of N))) × (s' ≡ zeros (length s))) f t s l e
       (λ q. no_rows (sym q)) (λ q. no_rows (sym q)) (λ q. no_rows (sym q)) (λ q. (refl, refl));
   number-stays = refused-stays;
   number-beyond = λ ws ps cs n q.

@@ -8,6 +8,7 @@ use mathlib.Core.Logic.{◌⊎◌, inl, inr, ⊎_elim}
 use lib.Dec.{eqb}
 use lib.ListN.{length, get_or, drop}
 use borrow.Author.Tests.{eqb-true, eq-eqb}
+use Rattle.std.specs.Prelude.{Err}
 use Rattle.logic.proofs.Tests.{by_le, or_split}
 use Rattle.words.proofs.Records.{length-records}
 use Rattle.action.specs.Laws.{Shows}
@@ -23,7 +24,6 @@ use Rattle.whole.specs.Meaning.{operator_at, KeepsLaws, LawsKept}
 use Rattle.policy.specs.File.{all_atoms}
 use Rattle.policy.specs.WellFormed.{Otherwise}
 use Rattle.policy.specs.Theorems.{BrokenLaw}
-use Rattle.policy.specs.declared.Reading.TheVariants.{Refused}
 use Rattle.refusal.specs.declared.Refusal.{Refusal}
 use Rattle.whole.proofs.Named.{named_by, Naming, naming}
 use Rattle.policy.proofs.Accepted.{accepted-exactly, accepted-tree, accepted-atoms}
@@ -84,7 +84,7 @@ first-broken f a b c n kept x =
     (kept x.operator l (used x.operator ns x.node (omega (arith, x.within)) x.named))))
 
 -- what a refusal for an operator says, at the counts of the file
-shown : (f : List ℕ) (a b c : ℕ) (r : Refusal) → Otherwise f a b c → read_of f ≡ Refused r → r.number ≡ law_broken → Shown f a b c r
+shown : (f : List ℕ) (a b c : ℕ) (r : Refusal) → Otherwise f a b c → read_of f ≡ Err r → r.number ≡ law_broken → Shown f a b c r
 shown f a b c r o e n =
     let w : BrokenLaw f r = refused-law f r e n in
     let s = same-counts f a b c w.operators w.atoms w.nodes o w.otherwise in

@@ -13,12 +13,11 @@ use Rattle.table.proofs.Scans.{scan-unmatched}
 use Rattle.priority.specs.Numbering.{levels_of, chain_after, Ready, count, link}
 use Rattle.priority.proofs.Whole.{levels-many}
 use Rattle.priority.proofs.After.{answer-counts, earlier-higher, priorities-used, fewest-numbers, chain-forces, switch-scans, switch-obeys}
-use Rattle.tree.specs.declared.Evaluated.TheVariants.{Gives}
 use Rattle.row.specs.Row.{table_rows}
 use Rattle.compile.specs.Compile.{table_after}
 use Rattle.text.proofs.Right.{table-right}
 use Rattle.promises.specs.Demands.{SwitchObeysTree, Demand3}
-use Rattle.promises.proofs.Scanned.{table-scans}
+use Rattle.promises.proofs.Scanned.{gives, table-scans}
 
 module _ (ws ps cs : List ℕ) (r : Ready ws ps cs) where
   -- the chain's places are rows
@@ -53,4 +52,4 @@ switch-obeys-tree f t s ps cs p n i q h k right o =
     let ws : List ℕ = table_rows n (table_after f t s) in
     let c : RightTable ws × (n ≡ row_count ws) = (check-exactly ws n).0 (table-right f t s n q) in
     let r : Ready ws ps cs = record { right = c.0; priorities = omega (arith, c.1); chain = omega (arith, c.1) } in
-    (table-scans f t s p n q right).1 ∙ ap Gives (sym (switch-scans ws ps cs r p right i o))
+    (table-scans f t s p n q right).1 ∙ ap gives (sym (switch-scans ws ps cs r p right i o))

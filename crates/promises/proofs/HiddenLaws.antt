@@ -9,6 +9,7 @@ use lib.Dec.{ltb}
 use lib.ListN.{length, get_or, take, length-map, length-replicate}
 use lib.Seq.{get_or-take, length-take-le}
 use borrow.Author.Tests.{lt-ltb, ltb-true, not-false}
+use Rattle.std.specs.Prelude.{Ok, Err}
 use Rattle.logic.specs.Lists.{All}
 use Rattle.logic.proofs.Lists.{all_append, all_then}
 use Rattle.logic.proofs.Tests.{by-test, and_left}
@@ -24,16 +25,14 @@ use Rattle.flow.proofs.Inside.{inside-exactly}
 use Rattle.action.specs.declared.Action.{Action}
 use Rattle.row.specs.Row.{row_length, row_words, rows_in, words_of, table_rows}
 use Rattle.table.specs.Table.{wrong_table, wrong_row, row_count, past, right_length, check_of, row_at, RightTable}
-use Rattle.table.specs.declared.Checked.TheVariants as checked
 use Rattle.table.specs.Scan.{scan_tried}
 use Rattle.table.proofs.Tables.{length-rows, flat-at, right-row-at, rows_written, check-exactly, check-first}
 use Rattle.table.proofs.Scans.{scan-first, scan-unmatched}
 use Rattle.hidden.specs.Hidden.{kept_rows, kept_of, table_kept, kept_count}
 use Rattle.hidden.specs.Theorems.{KeptTells}
-use Rattle.hidden.specs.declared.Kept.TheVariants.{Rows}
+use Rattle.hidden.proofs.Passed.{counted}
 use Rattle.hidden.proofs.Laws.{kept-rows, right_kept, refused-exactly, refused-stays, same-action}
-use Rattle.refusal.specs.Plain.{plain}
-use Rattle.tree.specs.declared.Evaluated.TheVariants as evaluated
+use Rattle.refusal.specs.Plain.{plain, fault}
 use Rattle.priority.specs.Numbering.{Ready}
 use Rattle.compile.specs.Compile.{no_room, room, table_after}
 use Rattle.row.proofs.Rows.{words_count}
@@ -41,6 +40,7 @@ use Rattle.sheet.specs.Sheet.{listing_room, rows_text}
 use Rattle.text.specs.Listing.{blank, listing_of}
 use Rattle.text.proofs.Lists.{lists-rows, lists-refused}
 use Rattle.promises.specs.Hidden.{row_in, Inside, Hidden, Passed, PassRefused, PassListed, KeptObeysTree, HiddenRows}
+use Rattle.promises.proofs.Scanned.{gives}
 use Rattle.promises.proofs.Demand1.{demand-1}
 use Rattle.promises.proofs.Demand2.{demand-2}
 use Rattle.promises.proofs.Demand3.{demand-3}
@@ -165,14 +165,14 @@ module _ (ws : List ℕ) (right : RightTable ws) where
   all_stay : kept_rows after ≡ rows_in after
   all_stay = ap (staying inside) told.rows ∙ hidden-again Action inside (rows_in ws) ∙ sym told.rows
 
-  again : (kept_of after ≡ Rows kept) × (table_kept after ≡ after)
+  again : (kept_of after ≡ Ok kept) × (table_kept after ≡ after)
   again =
       let r : RightTable after = after-right.0 in
       let n : length (kept_rows after) ≡ kept = ap length (all_stay ∙ told.rows) in
-      let answer : kept_of after ≡ Rows (length (kept_rows after)) = right_kept after r in
+      let answer : kept_of after ≡ Ok (length (kept_rows after)) = right_kept after r in
       let same : words_of (kept_rows after) ≡ after = ap words_of all_stay ∙ rows_written after r in
       let none : length after - length after ≡ 0 = omega arith in (
-        answer ∙ ap Rows n,
+        answer ∙ ap counted n,
         (kept-rows after (length (kept_rows after)) answer).words ∙ ap (λ l. l ++ zeros (length after - length l)) same
             ∙ ap (λ m. after ++ zeros m) none
             ∙ append-nil after,
@@ -203,11 +203,11 @@ module _ (ws : List ℕ) (right : RightTable ws) where
 -- 15, then 16 at the first wrong row, and nothing moves
 pass-refused : PassRefused
 pass-refused = record {
-  length-first = λ ws h. let e = (refused-exactly ws wrong_table 0).1 (wrong-length ws h) in (e, refused-stays ws wrong_table 0 e);
-  then-rows = λ ws i h f. let e = (refused-exactly ws wrong_row i).1 (check-first ws i h f) in (e, refused-stays ws wrong_row i e);
+  length-first = λ ws h. let e = (refused-exactly ws (fault wrong_table 0)).1 (wrong-length ws h) in (e, refused-stays ws (fault wrong_table 0) e);
+  then-rows = λ ws i h f. let e = (refused-exactly ws (fault wrong_row i)).1 (check-first ws i h f) in (e, refused-stays ws (fault wrong_row i) e);
 }
   where
-    wrong-length : (ws : List ℕ) → right_length ws ≡ false → check_of ws ≡ checked.Wrong wrong_table 0
+    wrong-length : (ws : List ℕ) → right_length ws ≡ false → check_of ws ≡ Err (fault wrong_table 0)
     wrong-length ws h = demand-1.order.table-length ws h
 
 -- the listing's buffers suffice for as many rows as it has room for
@@ -233,7 +233,7 @@ kept-obeys-tree f t s ps cs p n k i q e h g right o =
     let c : RightTable vs × (k ≡ row_count vs) = (check-exactly vs k).0 (kept-rows ws k e).check in
     let r : Ready vs ps cs = record { right = c.0; priorities = omega (arith, c.1); chain = omega (arith, c.1) } in
     (demand-2.scan f t s p n q right).1
-    ∙ ap evaluated.Gives (sym ((demand-3 vs ps cs r).switch p i right o ∙ (same-action ws p k e).1))
+    ∙ ap gives (sym ((demand-3 vs ps cs r).switch p i right o ∙ (same-action ws p k e).1))
 
 -- EVERY SENTENCE OF THE REQUEST
 pub hidden-rows : HiddenRows

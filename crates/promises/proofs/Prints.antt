@@ -8,13 +8,12 @@ use mathlib.Core.Logic.{◌⊎◌, inl, inr, ⊎_elim}
 use lib.Dec.{ltb}
 use lib.ListN.{length, length-replicate}
 use borrow.Author.Tests.{le-ltb}
+use Rattle.std.specs.Prelude.{Result, Ok, Err}
 use Rattle.logic.proofs.Tests.{by-test}
 use Rattle.words.specs.Bytes.{words_in}
 use Rattle.row.specs.Row.{row_length}
 use Rattle.refusal.specs.declared.Refusal.{Refusal}
 use Rattle.compile.specs.Compile.{no_room, room, compiled_rows, answer_of}
-use Rattle.compile.specs.declared.Compiled.{Compiled}
-use Rattle.compile.specs.declared.Compiled.TheVariants.{Rows, Refused}
 use Rattle.text.specs.Listing.{wrong_input, right_input, blank, listing_of}
 use Rattle.sheet.specs.Sheet.{listing_room}
 use Rattle.text.proofs.Lists.{lists-rows, lists-refused, refused-input}
@@ -24,7 +23,7 @@ use Rattle.promises.proofs.Rates.{accepted-fine}
 use Rattle.promises.proofs.Demand1.{file-number, by-reading, same_number, no_rows}
 
 -- the numbers of a compile with scratch enough
-scratch-number : (f t s : List ℕ) (r : Refusal) → row_length * room (length t) ≤ length s → answer_of f t s ≡ Refused r
+scratch-number : (f t s : List ℕ) (r : Refusal) → row_length * room (length t) ≤ length s → answer_of f t s ≡ Err r
     → between 1 10 r.number ⊎ (r.number ≡ no_room)
 unfolding answer_of
 scratch-number f t s r h q = by-reading f
@@ -34,7 +33,7 @@ scratch-number f t s r h q = by-reading f
     (λ r' e. inl (subst (between 1 10) (same_number (rw e at q)) (file-number f r' e)))
 
 -- and so of a compile in the listing's buffers
-listed-number : (f : List ℕ) (r : Refusal) → answer_of f blank blank ≡ Refused r → between 1 10 r.number ⊎ (r.number ≡ no_room)
+listed-number : (f : List ℕ) (r : Refusal) → answer_of f blank blank ≡ Err r → between 1 10 r.number ⊎ (r.number ≡ no_room)
 listed-number f r =
     let k : length blank ≡ row_length * listing_room = length-replicate {A = ℕ} (row_length * listing_room) 0 in
     scratch-number f blank blank r (omega arith)
@@ -45,9 +44,9 @@ every-listing b = by-test (right_input b)
     (λ t. by_answer t (answer_of (words_in b) blank blank) refl)
     (λ t. inr (record { number = wrong_input; place = 0; one_of = inr (inr refl); text = refused-input b t }))
   where
-    by_answer : right_input b ≡ true → (x : Compiled) → answer_of (words_in b) blank blank ≡ x → PrintsRows b ⊎ PrintsRefusal b
-    by_answer t (Rows n) e = inl (record { right = t; count = n; compiled = e; listed = lists-rows (words_in b) n e; text = rw t refl })
-    by_answer t (Refused r) e = inr (record {
+    by_answer : right_input b ≡ true → (x : Result ℕ Refusal) → answer_of (words_in b) blank blank ≡ x → PrintsRows b ⊎ PrintsRefusal b
+    by_answer t (Ok n) e = inl (record { right = t; count = n; compiled = e; listed = lists-rows (words_in b) n e; text = rw t refl })
+    by_answer t (Err r) e = inr (record {
       number = r.number;
       place = r.place;
       one_of = ⊎_elim (λ h. inl h) (λ h. inr (inl h)) (listed-number (words_in b) r e);

@@ -7,6 +7,7 @@ use mathlib.Core.List.{List, []}
 use lib.Dec.{eqb, leb, ltb}
 use lib.ListN.{get_or}
 use borrow.Author.Tests.{eqb-true, leb-true, le-leb}
+use Rattle.std.specs.Prelude.{Ok}
 use Rattle.logic.proofs.Lists.{all_then}
 use Rattle.logic.proofs.Tests.{by-test, by_le, and_left, and_right, and_both}
 use Rattle.theory.proofs.Every.{compile-every}
@@ -22,7 +23,6 @@ use Rattle.policy.specs.Read.{read_of, operator_records, atom_records}
 use Rattle.policy.specs.File.{tree_of}
 use Rattle.policy.specs.WellFormed.{WellFormed}
 use Rattle.policy.specs.declared.Layout.{Layout}
-use Rattle.policy.specs.declared.Reading.TheVariants.{Accepted}
 use Rattle.whole.proofs.Named.{right-codes}
 use Rattle.policy.proofs.Accepted.{accepted-exactly}
 use Rattle.compile.specs.Compile.{compiled_rows, fine}
@@ -103,7 +103,7 @@ record-range r e =
     sym (right-words (action_of k n)) ∙ ap₂ right_action w.0 w.1 ∙ e
 
 -- THE RATES OF AN ACCEPTED FILE'S ROWS LIE IN THEIR RANGE
-pub accepted-ranged : (f : List ℕ) (l : Layout) → read_of f ≡ Accepted l → All InRange (compiled_rows f l)
+pub accepted-ranged : (f : List ℕ) (l : Layout) → read_of f ≡ Ok l → All InRange (compiled_rows f l)
 unfolding compiled_rows
 accepted-ranged f l e =
     let w : WellFormed f l = (accepted-exactly f l).0 e in
@@ -114,5 +114,5 @@ accepted-ranged f l e =
     (λ i h. record-range (get_or (atom_records f l.operators l.atoms) i []) (w.otherwise.actions i h))))
 
 -- so none is refused for one
-pub accepted-fine : (f : List ℕ) (l : Layout) → read_of f ≡ Accepted l → fine (compiled_rows f l) ≡ true
+pub accepted-fine : (f : List ℕ) (l : Layout) → read_of f ≡ Ok l → fine (compiled_rows f l) ≡ true
 accepted-fine f l e = every-fine (compiled_rows f l) (accepted-ranged f l e)

@@ -6,7 +6,7 @@
 --   lent                   a buffer of zeros with room for four rows
 --   rows_left f            the rows that the compile of a file leaves in such a buffer, as many as it answers
 --   cases                  the list
-use Rattle.std.specs.Prelude.{ℕ, ◌+◌, ◌*◌, ◌≡◌, List, [], ◌∷◌, ◌++◌}
+use Rattle.std.specs.Prelude.{ℕ, ◌+◌, ◌*◌, ◌≡◌, List, [], ◌∷◌, ◌++◌, Ok, Err}
 use Rattle.action.specs.Operator.{join, sibling, parent}
 use Rattle.action.specs.declared.Action.TheVariants.{DontCare, Allow, Deny, Gmb}
 use Rattle.action.specs.declared.Law.TheVariants.{Commutativity, Associativity}
@@ -15,16 +15,11 @@ use Rattle.section.specs.Numbers.{short, law_broken}
 use Rattle.refusal.specs.Plain.{plain}
 use Rattle.policy.specs.Read.{read_of}
 use Rattle.policy.specs.Examples.{tenant, tenant_with, lone, lopsided}
-use Rattle.policy.specs.declared.Reading.TheVariants as reading
 use Rattle.tree.specs.Action.{tree_action_of}
-use Rattle.tree.specs.declared.Evaluated.TheVariants.{Gives}
 use Rattle.table.specs.Scan.{scan_of}
-use Rattle.table.specs.declared.Scanned.TheVariants.{Found}
 use Rattle.priority.specs.Numbering.{number_of, priorities_after, chain_after}
-use Rattle.priority.specs.declared.Numbered.TheVariants.{Priorities}
 use Rattle.words.specs.Words.{zeros}
 use Rattle.compile.specs.Compile.{answer_of, table_after, scratch_after, compile_count}
-use Rattle.compile.specs.declared.Compiled.TheVariants.{Rows}
 
 -- a case: its number in the scope, a call, and what it gives
 pub record Case : Type 1 where
@@ -68,28 +63,28 @@ cases =
     ∷ k 3 (join parent Deny Allow) Allow
     ∷ k 4 (join parent (join parent (Gmb 5) Deny) Allow) Allow
     ∷ k 4 (join parent (Gmb 5) (join parent Deny Allow)) (Gmb 5)
-    ∷ k 5 (answer_of (lone sibling) lent lent) (Rows 0)
-    ∷ k 5 (number_of (rows_left (lone sibling)) 0 0) (Priorities 0)
-    ∷ k 5 (tree_action_of (lone sibling) (to (dotted 10 7 3 9))) (Gives DontCare)
-    ∷ k 5 (scan_of (rows_left (lone sibling)) (to (dotted 10 7 3 9))) (Found DontCare 0)
-    ∷ k 6 (tree_action_of tenant (to (dotted 10 7 3 9))) (Gives (Gmb 40000))
-    ∷ k 6 (scan_of (rows_left tenant) (to (dotted 10 7 3 9))) (Found (Gmb 40000) 1)
-    ∷ k 7 (tree_action_of tenant (to (dotted 10 7 3 10))) (Gives Deny)
-    ∷ k 7 (scan_of (rows_left tenant) (to (dotted 10 7 3 10))) (Found Deny 2)
-    ∷ k 8 (tree_action_of tenant (to (dotted 10 8 0 1))) (Gives DontCare)
-    ∷ k 8 (scan_of (rows_left tenant) (to (dotted 10 8 0 1))) (Found DontCare 3)
-    ∷ k 9 (answer_of tenant lent lent) (Rows 3)
+    ∷ k 5 (answer_of (lone sibling) lent lent) (Ok 0)
+    ∷ k 5 (number_of (rows_left (lone sibling)) 0 0) (Ok 0)
+    ∷ k 5 (tree_action_of (lone sibling) (to (dotted 10 7 3 9))) (Ok DontCare)
+    ∷ k 5 (scan_of (rows_left (lone sibling)) (to (dotted 10 7 3 9))) (Ok (record { action = DontCare; tried = 0 }))
+    ∷ k 6 (tree_action_of tenant (to (dotted 10 7 3 9))) (Ok (Gmb 40000))
+    ∷ k 6 (scan_of (rows_left tenant) (to (dotted 10 7 3 9))) (Ok (record { action = Gmb 40000; tried = 1 }))
+    ∷ k 7 (tree_action_of tenant (to (dotted 10 7 3 10))) (Ok Deny)
+    ∷ k 7 (scan_of (rows_left tenant) (to (dotted 10 7 3 10))) (Ok (record { action = Deny; tried = 2 }))
+    ∷ k 8 (tree_action_of tenant (to (dotted 10 8 0 1))) (Ok DontCare)
+    ∷ k 8 (scan_of (rows_left tenant) (to (dotted 10 8 0 1))) (Ok (record { action = DontCare; tried = 3 }))
+    ∷ k 9 (answer_of tenant lent lent) (Ok 3)
     ∷ k 9 (table_after tenant lent lent) (row (dotted 10 7 3 9) 32 3 40000 ++ row (dotted 10 7 0 0) 16 2 0 ++ row
     (dotted 10 7 3 9) 32 3 40000 ++ zeros row_length)
     ∷ k 9 (scratch_after tenant lent lent) lent
-    ∷ k 9 (number_of (rows_left tenant) 3 3) (Priorities 3)
+    ∷ k 9 (number_of (rows_left tenant) 3 3) (Ok 3)
     ∷ k 9 (priorities_after (rows_left tenant) (zeros 3) (zeros 3)) (3 ∷ 2 ∷ 1 ∷ [])
     ∷ k 9 (chain_after (rows_left tenant) (zeros 3) (zeros 3)) (0 ∷ 1 ∷ 2 ∷ [])
-    ∷ k 10 (read_of (tenant_with 1)) (reading.Refused
+    ∷ k 10 (read_of (tenant_with 1)) (Err
     (record { number = law_broken; place = 1; law = Commutativity; first = Allow; second = Deny; third = DontCare }))
-    ∷ k 11 (read_of (lone lopsided)) (reading.Refused
+    ∷ k 11 (read_of (lone lopsided)) (Err
     (record { number = law_broken; place = 0; law = Associativity; first = Allow; second = Deny; third = Gmb 1 }))
-    ∷ k 12 (read_of []) (reading.Refused (plain short 0))
+    ∷ k 12 (read_of []) (Err (plain short 0))
     ∷ []
 
 -- K1 TO K12: every case of the list gives what it says

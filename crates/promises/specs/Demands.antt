@@ -8,7 +8,7 @@
 --   scan_of                                       table::scan         of a table and a packet
 --   number_of, priorities_after, chain_after      priority::number    of a table, a priority buffer and a chain buffer
 --   kept_of, table_kept                           hidden::drop_hidden of a table
-use Rattle.std.specs.Prelude.{ℕ, suc, ◌*◌, ◌-◌, ◌≤◌, ◌<◌, ◌≡◌, true, false, not, List, [], ◌++◌, ◌↔◌, ◌⊎◌, length, get_or, take, drop}
+use Rattle.std.specs.Prelude.{ℕ, suc, ◌*◌, ◌-◌, ◌≤◌, ◌<◌, ◌≡◌, true, false, not, List, [], ◌++◌, Ok, Err, ◌↔◌, ◌⊎◌, length, get_or, take, drop}
 use Rattle.theory.specs.Rows.{matches_at}
 use Rattle.theory.specs.Nodes.{list_tree}
 use Rattle.theory.specs.Number.{FirstPlace, distinct, Obeyed}
@@ -21,7 +21,8 @@ use Rattle.action.specs.declared.Action.{Action}
 use Rattle.action.specs.declared.Action.TheVariants.{DontCare}
 use Rattle.row.specs.Row.{row_length, right_row, words_of, rows_in, table_rows}
 use Rattle.section.specs.Numbers.{law_broken}
-use Rattle.refusal.specs.Plain.{plain}
+use Rattle.refusal.specs.Plain.{plain, fault}
+use Rattle.refusal.specs.declared.Fault.{Fault}
 use Rattle.policy.specs.Read.{read_of, operator_records, node_records}
 use Rattle.section.specs.Sections.{inner_of, sibling_of}
 use Rattle.whole.specs.Meaning.{operator_at}
@@ -29,22 +30,15 @@ use Rattle.policy.specs.File.{atoms_of, tree_of, all_atoms}
 use Rattle.policy.specs.WellFormed.{Otherwise, WellFormed}
 use Rattle.policy.specs.Order.{FileOrder}
 use Rattle.policy.specs.declared.Layout.{Layout}
-use Rattle.policy.specs.declared.Reading.TheVariants as reading
 use Rattle.refusal.specs.declared.Refusal.{Refusal}
 use Rattle.tree.specs.Action.{eval_tree, tree_action_of}
-use Rattle.tree.specs.declared.Evaluated.TheVariants as evaluated
 use Rattle.table.specs.Table.{wrong_table, wrong_row, row_count, past, right_length, check_of, row_at, RightTable}
 use Rattle.table.specs.Scan.{scan_of, scan_number, scan_action}
-use Rattle.table.specs.declared.Checked.TheVariants as checked
-use Rattle.table.specs.declared.Scanned.TheVariants as scanned
 use Rattle.priority.specs.Numbering.{short_buffer, number_of, priorities_after, chain_after, Ready, Shared, priority, link}
-use Rattle.priority.specs.declared.Numbered.TheVariants as numbered
 use Rattle.words.specs.Words.{zeros}
 use Rattle.hidden.specs.Hidden.{kept_rows, kept_of, table_kept}
-use Rattle.hidden.specs.declared.Kept.TheVariants as kept
 use Rattle.compile.specs.Compile.{no_room, no_scratch, wrong_rate, room, compiled_rows, answer_of, table_after}
 use Rattle.compile.specs.Compile.{scratch_after}
-use Rattle.compile.specs.declared.Compiled.TheVariants as compiled
 use Rattle.promises.specs.Told.{search_told, read_told, action_told, compile_told, check_told, scan_told, number_told}
 use Rattle.promises.specs.Told.{kept_told}
 use Rattle.promises.specs.Told.{between, Fixed}
@@ -69,52 +63,52 @@ pub record Order : Type 0 where
   -- a file: section by section, then 7, 8, 9 and last 10, each with its place, as crates/policy/specs/Order.antt says
   pub file : FileOrder
   -- the tree's action: 1..10, 11
-  pub action-file : (f p : List ℕ) (r : Refusal) → read_of f ≡ reading.Refused r → tree_action_of f p ≡ evaluated.Refused r
-  pub action-packet : (f p : List ℕ) (l : Layout) → read_of f ≡ reading.Accepted l → right_packet_words p ≡ false
-      → tree_action_of f p ≡ evaluated.Refused (plain wrong_packet 0)
+  pub action-file : (f p : List ℕ) (r : Refusal) → read_of f ≡ Err r → tree_action_of f p ≡ Err r
+  pub action-packet : (f p : List ℕ) (l : Layout) → read_of f ≡ Ok l → right_packet_words p ≡ false
+      → tree_action_of f p ≡ Err (plain wrong_packet 0)
   -- the compile: 1..10, 13, then 12 as demand 2 has it; 14 is never given
-  pub compile-file : (f t s : List ℕ) (r : Refusal) → read_of f ≡ reading.Refused r → answer_of f t s ≡ compiled.Refused r
-  pub compile-scratch : (f t s : List ℕ) (l : Layout) → read_of f ≡ reading.Accepted l
-      → length s < row_length * room (length t) → answer_of f t s ≡ compiled.Refused (plain no_scratch 0)
+  pub compile-file : (f t s : List ℕ) (r : Refusal) → read_of f ≡ Err r → answer_of f t s ≡ Err r
+  pub compile-scratch : (f t s : List ℕ) (l : Layout) → read_of f ≡ Ok l
+      → length s < row_length * room (length t) → answer_of f t s ≡ Err (plain no_scratch 0)
   -- a table: 15, then 16 at the first wrong row
-  pub table-length : (ws : List ℕ) → right_length ws ≡ false → check_of ws ≡ checked.Wrong wrong_table 0
+  pub table-length : (ws : List ℕ) → right_length ws ≡ false → check_of ws ≡ Err (fault wrong_table 0)
   pub table-row : (ws : List ℕ) (i : ℕ) → right_length ws ≡ true
-      → FirstPlace (λ j. not (right_row (row_at ws j))) (row_count ws) i → check_of ws ≡ checked.Wrong wrong_row i
+      → FirstPlace (λ j. not (right_row (row_at ws j))) (row_count ws) i → check_of ws ≡ Err (fault wrong_row i)
   -- the scan: 11, then the whole table's 15 or 16
-  pub scan-packet : (ws p : List ℕ) → right_packet_words p ≡ false → scan_of ws p ≡ scanned.Refused wrong_packet 0
-  pub scan-table : (ws p : List ℕ) (n i : ℕ) → right_packet_words p ≡ true → check_of ws ≡ checked.Wrong n i
-      → scan_of ws p ≡ scanned.Refused n i
+  pub scan-packet : (ws p : List ℕ) → right_packet_words p ≡ false → scan_of ws p ≡ Err (fault wrong_packet 0)
+  pub scan-table : (ws p : List ℕ) (f : Fault) → right_packet_words p ≡ true → check_of ws ≡ Err f
+      → scan_of ws p ≡ Err f
   -- the numbering: 15 or 16, then 17
-  pub number-table : (ws : List ℕ) (p c n i : ℕ) → check_of ws ≡ checked.Wrong n i
-      → number_of ws p c ≡ numbered.Refused n i
+  pub number-table : (ws : List ℕ) (p c : ℕ) (f : Fault) → check_of ws ≡ Err f
+      → number_of ws p c ≡ Err f
   pub number-buffers : (ws : List ℕ) (p c : ℕ) → RightTable ws → (p < row_count ws) ⊎ (c < row_count ws)
-      → number_of ws p c ≡ numbered.Refused short_buffer 0
+      → number_of ws p c ≡ Err (fault short_buffer 0)
   -- hidden rows out: 15 or 16
-  pub hidden-table : (ws : List ℕ) (n i : ℕ) → check_of ws ≡ checked.Wrong n i → kept_of ws ≡ kept.Refused n i
+  pub hidden-table : (ws : List ℕ) (f : Fault) → check_of ws ≡ Err f → kept_of ws ≡ Err f
 
 -- "and the words left in each lent buffer are fixed": what they are after each answer.
 pub record WordsLeft : Type 0 where
   -- after a refusal both buffers stay, but after 12 or 14 they are all zero
-  pub compile-stays : (f t s : List ℕ) (r : Refusal) → answer_of f t s ≡ compiled.Refused r → ¬ (r.number ≡ no_room)
+  pub compile-stays : (f t s : List ℕ) (r : Refusal) → answer_of f t s ≡ Err r → ¬ (r.number ≡ no_room)
       → ¬ (r.number ≡ wrong_rate)
       → (table_after f t s ≡ t) × (scratch_after f t s ≡ s)
-  pub compile-zeros : (f t s : List ℕ) (r : Refusal) → answer_of f t s ≡ compiled.Refused r
+  pub compile-zeros : (f t s : List ℕ) (r : Refusal) → answer_of f t s ≡ Err r
       → (r.number ≡ no_room) ⊎ (r.number ≡ wrong_rate)
       → (table_after f t s ≡ zeros (length t)) × (scratch_after f t s ≡ zeros (length s))
   -- after a success the table is its rows, then zeros, and scratch is zero
-  pub compile-rows : (f t s : List ℕ) (l : Layout) (n : ℕ) → read_of f ≡ reading.Accepted l
-      → answer_of f t s ≡ compiled.Rows n
+  pub compile-rows : (f t s : List ℕ) (l : Layout) (n : ℕ) → read_of f ≡ Ok l
+      → answer_of f t s ≡ Ok n
       → (table_after f t s ≡ words_of (compiled_rows f l) ++ zeros (length t - length (words_of (compiled_rows f l))))
       × (scratch_after f t s ≡ zeros (length s))
   -- a refused numbering leaves both buffers; after a success the words beyond the priorities and beyond the chain stay
-  pub number-stays : (ws ps cs : List ℕ) (n i : ℕ) → number_of ws (length ps) (length cs) ≡ numbered.Refused n i
+  pub number-stays : (ws ps cs : List ℕ) (f : Fault) → number_of ws (length ps) (length cs) ≡ Err f
       → (priorities_after ws ps cs ≡ ps) × (chain_after ws ps cs ≡ cs)
-  pub number-beyond : (ws ps cs : List ℕ) (n : ℕ) → number_of ws (length ps) (length cs) ≡ numbered.Priorities n
+  pub number-beyond : (ws ps cs : List ℕ) (n : ℕ) → number_of ws (length ps) (length cs) ≡ Ok n
       → (drop (row_count ws) (priorities_after ws ps cs) ≡ drop (row_count ws) ps)
       × (drop n (chain_after ws ps cs) ≡ drop n cs)
   -- where no hidden row is taken out because of a refusal, the table stays; else it is the rows that stay, then zeros
-  pub hidden-stays : (ws : List ℕ) (n i : ℕ) → kept_of ws ≡ kept.Refused n i → table_kept ws ≡ ws
-  pub hidden-rows : (ws : List ℕ) (n : ℕ) → kept_of ws ≡ kept.Rows n
+  pub hidden-stays : (ws : List ℕ) (f : Fault) → kept_of ws ≡ Err f → table_kept ws ≡ ws
+  pub hidden-rows : (ws : List ℕ) (n : ℕ) → kept_of ws ≡ Ok n
       → table_kept ws ≡ words_of (kept_rows ws) ++ zeros (length ws - length (words_of (kept_rows ws)))
 
 pub record Demand1 : Type 0 where
@@ -159,7 +153,7 @@ pub record SomeBroken (f : List ℕ) (a b c : ℕ) : Type 0 where
 -- the file is refused for an operator
 pub record LawRefused (f : List ℕ) : Type 0 where
   pub refusal : Refusal
-  pub refused : read_of f ≡ reading.Refused refusal
+  pub refused : read_of f ≡ Err refusal
   pub number : refusal.number ≡ law_broken
 
 -- a refusal names by its place the first operator that some node has as inner or sibling one and that breaks a law, and
@@ -173,31 +167,31 @@ pub record Shown (f : List ℕ) (a b c : ℕ) (r : Refusal) : Type 0 where
 
 pub record Demand2 : Type 0 where
   -- the accepted policies are the well-formed files, whatever order they are read in
-  pub accepted : (f : List ℕ) (l : Layout) → (read_of f ≡ reading.Accepted l) ↔ WellFormed f l
+  pub accepted : (f : List ℕ) (l : Layout) → (read_of f ≡ Ok l) ↔ WellFormed f l
   -- "For every accepted policy and every packet, the tree's action is the one given by eval in the paper,"
-  pub eval : (f p : List ℕ) (l : Layout) → read_of f ≡ reading.Accepted l → right_packet_words p ≡ true
-      → tree_action_of f p ≡ evaluated.Gives (eval_tree (tree_of f l) (packet_of p))
+  pub eval : (f p : List ℕ) (l : Layout) → read_of f ≡ Ok l → right_packet_words p ≡ true
+      → tree_action_of f p ≡ Ok (eval_tree (tree_of f l) (packet_of p))
   -- "each matching atom counted": the atoms of the tree are those of the file, in order and each once
-  pub atoms : (f : List ℕ) (l : Layout) → read_of f ≡ reading.Accepted l → all_atoms (list_tree (tree_of f l)) ≡ atoms_of f l
+  pub atoms : (f : List ℕ) (l : Layout) → read_of f ≡ Ok l → all_atoms (list_tree (tree_of f l)) ≡ atoms_of f l
   -- "and scanning the compiled table gives the same": of the rows that were answered, the scan is no refusal, and its
   -- action is the tree's
-  pub scan : (f t s p : List ℕ) (n : ℕ) → answer_of f t s ≡ compiled.Rows n → right_packet_words p ≡ true
+  pub scan : (f t s p : List ℕ) (n : ℕ) → answer_of f t s ≡ Ok n → right_packet_words p ≡ true
       → (scan_number (scan_of (table_rows n (table_after f t s)) p) ≡ 0)
-      × (tree_action_of f p ≡ evaluated.Gives (scan_action (scan_of (table_rows n (table_after f t s)) p)))
+      × (tree_action_of f p ≡ Ok (scan_action (scan_of (table_rows n (table_after f t s)) p)))
   -- there is such a table wherever scratch and room suffice: the rates of the rows lie in their range, so 14 is never
   -- given
-  pub compiles : (f t s : List ℕ) (l : Layout) → read_of f ≡ reading.Accepted l → row_length * room (length t) ≤ length s
+  pub compiles : (f t s : List ℕ) (l : Layout) → read_of f ≡ Ok l → row_length * room (length t) ≤ length s
       → length (compiled_rows f l) ≤ room (length t)
-      → answer_of f t s ≡ compiled.Rows (length (compiled_rows f l))
+      → answer_of f t s ≡ Ok (length (compiled_rows f l))
   -- "A file otherwise good is refused for an operator exactly when some node's inner or sibling one breaks
   -- commutativity or associativity,"
   pub law : (f : List ℕ) (a b c : ℕ) → Otherwise f a b c → LawRefused f ↔ SomeBroken f a b c
   -- "with actions that show it"
-  pub shown : (f : List ℕ) (a b c : ℕ) (r : Refusal) → Otherwise f a b c → read_of f ≡ reading.Refused r
+  pub shown : (f : List ℕ) (a b c : ℕ) (r : Refusal) → Otherwise f a b c → read_of f ≡ Err r
       → r.number ≡ law_broken → Shown f a b c r
   -- "Given its scratch, a table is refused for room exactly when its defined rows outnumber the room."
-  pub for-room : (f t s : List ℕ) (l : Layout) → read_of f ≡ reading.Accepted l → row_length * room (length t) ≤ length s
-      → (answer_of f t s ≡ compiled.Refused (plain no_room 0)) ↔ (room (length t) < length (compiled_rows f l))
+  pub for-room : (f t s : List ℕ) (l : Layout) → read_of f ≡ Ok l → row_length * room (length t) ≤ length s
+      → (answer_of f t s ≡ Err (plain no_room 0)) ↔ (room (length t) < length (compiled_rows f l))
 
 -- DEMAND 3. For every well-formed table, with buffers as long as it needs, where some packet matches two rows, the
 -- earlier row gets the strictly higher priority. No numbering that does so uses fewer priorities, and a chain of rows
@@ -212,7 +206,7 @@ PutsHigher ws q = (j i : ℕ) → j < i → i < row_count ws → Shared ws j i �
 -- what the numbering leaves: row i's priority is the word priority i, the chain's k-th place the word link k
 pub record RightNumbering (ws ps cs : List ℕ) : Type 0 where
   pub count : ℕ
-  pub answer : number_of ws (length ps) (length cs) ≡ numbered.Priorities count
+  pub answer : number_of ws (length ps) (length cs) ≡ Ok count
   -- "where some packet matches two rows, the earlier row gets the strictly higher priority."
   pub earlier-higher : PutsHigher ws (priority ws ps cs)
   -- "No numbering that does so uses fewer priorities,": so many are used here, and at least as many by every numbering
@@ -247,8 +241,8 @@ Demand3 = (ws ps cs : List ℕ) → Ready ws ps cs → RightNumbering ws ps cs
 -- action is the tree's.
 abbrev pub SwitchObeysTree : Type 0
 SwitchObeysTree =
-    (f t s ps cs p : List ℕ) (n i : ℕ) → answer_of f t s ≡ compiled.Rows n → n ≤ length ps → n ≤ length cs
+    (f t s ps cs p : List ℕ) (n i : ℕ) → answer_of f t s ≡ Ok n → n ≤ length ps → n ≤ length cs
     → right_packet_words p ≡ true
     → let ws : List ℕ = table_rows n (table_after f t s) in
     Obeyed meets past (rows_in ws) (priority ws ps cs) (packet_of p) i
-    → tree_action_of f p ≡ evaluated.Gives (get_or (rows_in ws) i past).action
+    → tree_action_of f p ≡ Ok (get_or (rows_in ws) i past).action

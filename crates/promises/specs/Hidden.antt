@@ -12,7 +12,7 @@
 --   PassRefused         what it refuses, and in which order
 --   PassListed          what the listing shows of a file
 --   KeptObeysTree       what a switch does that has the rows which stay
-use Rattle.std.specs.Prelude.{ℕ, suc, ◌*◌, ◌-◌, ◌≤◌, ◌<◌, ◌≡◌, true, false, not, List, ◌++◌, ◌↔◌, length, get_or}
+use Rattle.std.specs.Prelude.{ℕ, suc, ◌*◌, ◌-◌, ◌≤◌, ◌<◌, ◌≡◌, true, false, not, List, ◌++◌, Ok, Err, ◌↔◌, length, get_or}
 use Rattle.words.specs.Words.{zeros}
 use Rattle.words.specs.Records.{flat}
 use Rattle.words.specs.Bytes.{words_in}
@@ -23,18 +23,15 @@ use Rattle.flow.specs.Match.{meets, LiesIn}
 use Rattle.flow.specs.declared.Match.{Match}
 use Rattle.action.specs.declared.Action.{Action}
 use Rattle.row.specs.Row.{row_length, right_row, rows_in, table_rows}
+use Rattle.refusal.specs.Plain.{fault}
 use Rattle.policy.specs.Read.{read_of}
 use Rattle.policy.specs.declared.Layout.{Layout}
-use Rattle.policy.specs.declared.Reading.TheVariants as reading
 use Rattle.tree.specs.Action.{tree_action_of}
-use Rattle.tree.specs.declared.Evaluated.TheVariants as evaluated
 use Rattle.table.specs.Table.{wrong_table, wrong_row, row_count, past, right_length, row_at, RightTable}
 use Rattle.table.specs.Scan.{scan_of, scan_number, scan_action, scan_tried}
 use Rattle.hidden.specs.Hidden.{kept_of, table_kept}
-use Rattle.hidden.specs.declared.Kept.TheVariants.{Rows, Refused}
 use Rattle.priority.specs.Numbering.{priority}
 use Rattle.compile.specs.Compile.{no_room, compiled_rows, answer_of, table_after}
-use Rattle.compile.specs.declared.Compiled.TheVariants as compiled
 use Rattle.line.specs.Text.{refusal}
 use Rattle.sheet.specs.Sheet.{listing_room, rows_text}
 use Rattle.text.specs.Listing.{right_input, blank, listing_of}
@@ -58,7 +55,7 @@ pub record Passed (ws : List ℕ) : Type 0 where
   pub count : ℕ
   pub places : List ℕ
   -- "and the new row count is answered."
-  pub answer : kept_of ws ≡ Rows count
+  pub answer : kept_of ws ≡ Ok count
   pub many : length places ≡ count
   -- "that removes each row whose match lies wholly inside one earlier row's match,": those, and no other
   pub removes : (i : ℕ) → i < row_count ws → (has i places ≡ false) ↔ Hidden ws i
@@ -78,7 +75,7 @@ pub record Passed (ws : List ℕ) : Type 0 where
   -- "and no remaining row can be removed by the rule.": of the rows that stay none is hidden, so a second pass changes
   -- nothing
   pub none_left : (i : ℕ) → i < count → ¬ (Hidden (table_rows count (table_kept ws)) i)
-  pub again : let t : List ℕ = table_rows count (table_kept ws) in (kept_of t ≡ Rows count) × (table_kept t ≡ t)
+  pub again : let t : List ℕ = table_rows count (table_kept ws) in (kept_of t ≡ Ok count) × (table_kept t ≡ t)
   -- "Rows tried are counted in the shorter table,"
   pub tried : (p : List ℕ) (i : ℕ) → right_packet_words p ≡ true → let t : List ℕ = table_rows count (table_kept ws) in
       FirstPlace (matches_at meets past (rows_in t) (packet_of p)) count i → scan_tried (scan_of t p) ≡ suc i
@@ -87,34 +84,34 @@ pub record Passed (ws : List ℕ) : Type 0 where
 
 -- "Refusals: 15, then 16, the table unchanged."
 pub record PassRefused : Type 0 where
-  pub length-first : (ws : List ℕ) → right_length ws ≡ false → (kept_of ws ≡ Refused wrong_table 0) × (table_kept ws ≡ ws)
+  pub length-first : (ws : List ℕ) → right_length ws ≡ false → (kept_of ws ≡ Err (fault wrong_table 0)) × (table_kept ws ≡ ws)
   pub then-rows : (ws : List ℕ) (i : ℕ) → right_length ws ≡ true
       → FirstPlace (λ j. not (right_row (row_at ws j))) (row_count ws) i
-      → (kept_of ws ≡ Refused wrong_row i) × (table_kept ws ≡ ws)
+      → (kept_of ws ≡ Err (fault wrong_row i)) × (table_kept ws ≡ ws)
 
 pub record PassListed : Type 0 where
   -- "The listing runs it before numbering;": of the compiled rows those that stay are numbered and listed
   pub before-numbering : (b : List ℕ) (n k : ℕ) → right_input b ≡ true
-      → answer_of (words_in b) blank blank ≡ compiled.Rows n
+      → answer_of (words_in b) blank blank ≡ Ok n
       → let ws : List ℕ = table_rows n (table_after (words_in b) blank blank) in
-      kept_of ws ≡ Rows k → listing_of b ≡ rows_text k (table_rows k (table_kept ws))
+      kept_of ws ≡ Ok k → listing_of b ≡ rows_text k (table_rows k (table_kept ws))
   -- "and refusal 12 still speaks of the rows before the pass.": given where these outnumber the room, and nowhere else
-  pub room : (b : List ℕ) (l : Layout) → right_input b ≡ true → read_of (words_in b) ≡ reading.Accepted l
+  pub room : (b : List ℕ) (l : Layout) → right_input b ≡ true → read_of (words_in b) ≡ Ok l
       → listing_room < length (compiled_rows (words_in b) l) → listing_of b ≡ refusal no_room 0
-  pub in-room : (b : List ℕ) (l : Layout) → right_input b ≡ true → read_of (words_in b) ≡ reading.Accepted l
+  pub in-room : (b : List ℕ) (l : Layout) → right_input b ≡ true → read_of (words_in b) ≡ Ok l
       → length (compiled_rows (words_in b) l) ≤ listing_room
-      → answer_of (words_in b) blank blank ≡ compiled.Rows (length (compiled_rows (words_in b) l))
+      → answer_of (words_in b) blank blank ≡ Ok (length (compiled_rows (words_in b) l))
 
 -- WITH DEMANDS 2 AND 3: whatever row a switch obeys of those that stay, by the priorities that they get, its action is
 -- the tree's
 abbrev pub KeptObeysTree : Type 0
 KeptObeysTree =
-    (f t s ps cs p : List ℕ) (n k i : ℕ) → answer_of f t s ≡ compiled.Rows n
+    (f t s ps cs p : List ℕ) (n k i : ℕ) → answer_of f t s ≡ Ok n
     → let ws : List ℕ = table_rows n (table_after f t s) in
-    kept_of ws ≡ Rows k → k ≤ length ps → k ≤ length cs → right_packet_words p ≡ true
+    kept_of ws ≡ Ok k → k ≤ length ps → k ≤ length cs → right_packet_words p ≡ true
     → let vs : List ℕ = table_rows k (table_kept ws) in
     Obeyed meets past (rows_in vs) (priority vs ps cs) (packet_of p) i
-    → tree_action_of f p ≡ evaluated.Gives (row_in vs i).action
+    → tree_action_of f p ≡ Ok (row_in vs i).action
 
 -- EVERY SENTENCE
 pub record HiddenRows : Type 0 where

@@ -8,7 +8,7 @@
 --   CountsAsEmpty     what becomes of a match that no packet can meet
 --   Follows           what follows the new meaning
 --   port_cases        worked cases: calls, and what they give
-use Rattle.std.specs.Prelude.{ℕ, ◌<◌, ◌≡◌, true, false, List, [], ◌∷◌, ◌++◌, ◌⊎◌}
+use Rattle.std.specs.Prelude.{ℕ, ◌<◌, ◌≡◌, true, false, List, [], ◌∷◌, ◌++◌, Ok, Err, ◌⊎◌}
 use Rattle.words.specs.Words.{zeros}
 use Rattle.words.specs.Records.{flat}
 use Rattle.words.specs.Bytes.{bytes_of}
@@ -23,16 +23,12 @@ use Rattle.action.specs.Operator.{sibling, parent}
 use Rattle.action.specs.declared.Action.{Action}
 use Rattle.action.specs.declared.Action.TheVariants.{DontCare, Deny}
 use Rattle.row.specs.Row.{row_length, right_row}
+use Rattle.refusal.specs.Plain.{fault}
 use Rattle.tree.specs.Action.{tree_action_of}
-use Rattle.tree.specs.declared.Evaluated.TheVariants.{Gives}
 use Rattle.table.specs.Table.{wrong_row, row_count, right_length, check_of, row_at, RightTable}
 use Rattle.table.specs.Scan.{scan_of}
-use Rattle.table.specs.declared.Checked.TheVariants as checked
-use Rattle.table.specs.declared.Scanned.TheVariants.{Found}
 use Rattle.priority.specs.Numbering.{number_of, priorities_after}
-use Rattle.priority.specs.declared.Numbered.TheVariants.{Priorities}
 use Rattle.compile.specs.Compile.{answer_of, table_after}
-use Rattle.compile.specs.declared.Compiled.TheVariants.{Rows}
 use Rattle.line.specs.Text.{ascii}
 use Rattle.text.specs.Listing.{listing_of}
 use Rattle.promises.specs.Cases.{Case, k, Hold, lent, rows_left}
@@ -79,7 +75,7 @@ pub record CountsAsEmpty : Type 0 where
   -- "Refusals: 16 now covers such rows.": the first wrong row is named where it is such a one
   pub refused : (ws : List ℕ) (i : ℕ) → right_length ws ≡ true → i < row_count ws
       → ((j : ℕ) → j < i → right_row (row_at ws j) ≡ true)
-      → is_empty (match_of (row_at ws i)) ≡ true → check_of ws ≡ checked.Wrong wrong_row i
+      → is_empty (match_of (row_at ws i)) ≡ true → check_of ws ≡ Err (fault wrong_row i)
 
 pub record Follows : Type 0 where
   -- "Common matches, overlap": exactly the packets that meet both meet the common match, which is flag 16 alone where
@@ -131,14 +127,14 @@ pings =
 
 abbrev pub port_cases : List Case
 port_cases =
-    k 1 (tree_action_of studio ping) (Gives DontCare)
-    ∷ k 1 (scan_of (rows_left studio) ping) (Found DontCare 1)
-    ∷ k 1 (tree_action_of studio (sent 6 0 0)) (Gives Deny)
-    ∷ k 1 (scan_of (rows_left studio) (sent 17 0 0)) (Found Deny 1)
-    ∷ k 2 (answer_of unmet_first lent lent) (Rows 1)
+    k 1 (tree_action_of studio ping) (Ok DontCare)
+    ∷ k 1 (scan_of (rows_left studio) ping) (Ok (record { action = DontCare; tried = 1 }))
+    ∷ k 1 (tree_action_of studio (sent 6 0 0)) (Ok Deny)
+    ∷ k 1 (scan_of (rows_left studio) (sent 17 0 0)) (Ok (record { action = Deny; tried = 1 }))
+    ∷ k 2 (answer_of unmet_first lent lent) (Ok 1)
     ∷ k 2 (table_after unmet_first lent lent) (ported 0 0 0 0 1 ++ zeros row_length ++ zeros row_length ++ zeros row_length)
-    ∷ k 3 (answer_of apart lent lent) (Rows 2)
-    ∷ k 3 (number_of (rows_left apart) 2 2) (Priorities 1)
+    ∷ k 3 (answer_of apart lent lent) (Ok 2)
+    ∷ k 3 (number_of (rows_left apart) 2 2) (Ok 1)
     ∷ k 3 (priorities_after (rows_left apart) (zeros 2) (zeros 2)) (1 ∷ 1 ∷ [])
     ∷ k 4 (listing_of (flat bytes_of pings))
     (flat ascii
@@ -146,7 +142,7 @@ port_cases =
     ∷ "1 * 0.0.0.0/0 0.0.0.0/0 * 0 * deny\n"
     ∷ "1 * 0.0.0.0/0 0.0.0.0/0 1 * * allow\n"
     ∷ []))
-    ∷ k 5 (check_of (ported 0 0 5 8 2 ++ ported 1 0 5 10 2)) (checked.Wrong wrong_row 1)
+    ∷ k 5 (check_of (ported 0 0 5 8 2 ++ ported 1 0 5 10 2)) (Err (fault wrong_row 1))
     ∷ []
 
 -- EVERY SENTENCE

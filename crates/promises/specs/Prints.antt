@@ -5,11 +5,10 @@
 --                         that is not hidden
 --   PrintsRefusal b       the text is one refusal, of number 1 to 10, 12 or 18
 --   EveryListing          every input has one of the two
-use Rattle.std.specs.Prelude.{ℕ, ◌≡◌, true, List, ◌⊎◌}
+use Rattle.std.specs.Prelude.{ℕ, ◌≡◌, true, List, Ok, ◌⊎◌}
 use Rattle.words.specs.Bytes.{words_in}
 use Rattle.row.specs.Row.{table_rows}
 use Rattle.compile.specs.Compile.{no_room, answer_of, table_after}
-use Rattle.compile.specs.declared.Compiled.TheVariants.{Rows}
 use Rattle.line.specs.Text.{refusal}
 use Rattle.text.specs.Listing.{wrong_input, right_input, blank, file_text, listing_of, ListedKept}
 use Rattle.promises.specs.Told.{between}
@@ -18,7 +17,7 @@ use Rattle.promises.specs.Told.{between}
 pub record PrintsRows (b : List ℕ) : Type 0 where
   pub right : right_input b ≡ true
   pub count : ℕ
-  pub compiled : answer_of (words_in b) blank blank ≡ Rows count
+  pub compiled : answer_of (words_in b) blank blank ≡ Ok count
   pub listed : ListedKept (words_in b) (table_rows count (table_after (words_in b) blank blank))
   pub text : listing_of b ≡ file_text (words_in b)
 

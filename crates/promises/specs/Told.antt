@@ -1,5 +1,5 @@
--- What a caller is told: the scope's number, place, law and actions, and the value, of each answer. Where an answer is
--- an enum, each of its cases has them.
+-- What a caller is told: the scope's number, place, law and actions, and the value, of each answer. Where an answer has
+-- cases, each of them has these.
 --
 --   Told                a refusal's number, place, law and three actions, and the action and the count that are given
 --   search_told         of the search for a broken law
@@ -12,7 +12,7 @@
 --   kept_told           of the pass that takes hidden rows out
 --   between a b         the numbers from a to b
 --   Fixed numbers t     what is told has one of the numbers, and its other values where it has no use for them
-use Rattle.std.specs.Prelude.{ℕ, ◌≤◌, ◌≡◌, ◌⊎◌}
+use Rattle.std.specs.Prelude.{ℕ, ◌≤◌, ◌≡◌, Result, Ok, Err, ◌⊎◌}
 use Rattle.action.specs.declared.Action.{Action}
 use Rattle.action.specs.declared.Action.TheVariants.{DontCare}
 use Rattle.action.specs.declared.Lawful.{Lawful}
@@ -20,20 +20,15 @@ use Rattle.action.specs.declared.Lawful.TheVariants.{Yes, Broken}
 use Rattle.section.specs.Numbers.{law_broken}
 use Rattle.policy.specs.Read as policy
 use Rattle.refusal.specs.Plain.{plain}
-use Rattle.policy.specs.declared.Reading.{Reading}
+use Rattle.policy.specs.declared.Layout.{Layout}
+use Rattle.refusal.specs.declared.Fault.{Fault}
 use Rattle.refusal.specs.declared.Refusal.{Refusal}
 use Rattle.tree.specs.Action as tree
-use Rattle.tree.specs.declared.Evaluated.{Evaluated}
 use Rattle.table.specs.Scan.{scan_number, scan_place, scan_action, scan_tried}
-use Rattle.table.specs.declared.Checked.{Checked}
-use Rattle.table.specs.declared.Checked.TheVariants.{Rows, Wrong}
-use Rattle.table.specs.declared.Scanned.{Scanned}
+use Rattle.table.specs.declared.Found.{Found}
 use Rattle.priority.specs.Numbering.{answer_number, answer_place, answer_count}
-use Rattle.priority.specs.declared.Numbered.{Numbered}
 use Rattle.hidden.specs.Hidden.{kept_number, kept_place, kept_count}
-use Rattle.hidden.specs.declared.Kept.{Kept}
 use Rattle.compile.specs.Compile as compile
-use Rattle.compile.specs.declared.Compiled.{Compiled}
 
 -- a success has the number 0
 pub record Told : Type 0 where
@@ -52,32 +47,32 @@ search_told i (Broken l a b c) =
     }
 
 -- a file that is accepted, or its refusal
-abbrev pub read_told : Reading → Told
+abbrev pub read_told : Result Layout Refusal → Told
 read_told x = record { refusal = policy.read_refusal x; action = DontCare; count = 0 }
 
 -- the tree's action
-abbrev pub action_told : Evaluated → Told
+abbrev pub action_told : Result Action Refusal → Told
 action_told x = record { refusal = tree.tree_refusal x; action = tree.given x; count = 0 }
 
 -- the row count
-abbrev pub compile_told : Compiled → Told
+abbrev pub compile_told : Result ℕ Refusal → Told
 compile_told x = record { refusal = compile.compile_refusal x; action = DontCare; count = compile.compile_count x }
 
 -- how many rows a right table has
-abbrev pub check_told : Checked → Told
-check_told (Rows n) = record { refusal = plain 0 0; action = DontCare; count = n }
-check_told (Wrong n i) = record { refusal = plain n i; action = DontCare; count = 0 }
+abbrev pub check_told : Result ℕ Fault → Told
+check_told (Ok n) = record { refusal = plain 0 0; action = DontCare; count = n }
+check_told (Err f) = record { refusal = plain f.number f.place; action = DontCare; count = 0 }
 
 -- the first matching row's action, and how many rows were tried
-abbrev pub scan_told : Scanned → Told
+abbrev pub scan_told : Result Found Fault → Told
 scan_told x = record { refusal = plain (scan_number x) (scan_place x); action = scan_action x; count = scan_tried x }
 
 -- how many priorities there are
-abbrev pub number_told : Numbered → Told
+abbrev pub number_told : Result ℕ Fault → Told
 number_told x = record { refusal = plain (answer_number x) (answer_place x); action = DontCare; count = answer_count x }
 
 -- how many rows stay
-abbrev pub kept_told : Kept → Told
+abbrev pub kept_told : Result ℕ Fault → Told
 kept_told x = record { refusal = plain (kept_number x) (kept_place x); action = DontCare; count = kept_count x }
 
 -- a number from a to b
