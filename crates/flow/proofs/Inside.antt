@@ -11,7 +11,7 @@ use Rattle.field.specs.Value.{meets_value}
 use Rattle.field.proofs.Prefixes.{in-own, covers-exactly, covers-in, covers-trans}
 use Rattle.field.proofs.Values.{meets-own-value, meets-free, value-meets, value-trans, value_on, value-told, value-inside-exactly}
 use Rattle.flow.specs.Packet.{port_limit, protocol_limit, right_packet}
-use Rattle.flow.specs.Match.{inport_flag, protocol_flag, sourceport_flag, destinationport_flag, port_flags, constrains, tcp, udp, meets_ports}
+use Rattle.flow.specs.Match.{in_port_flag, protocol_flag, source_port_flag, destination_port_flag, port_flags, constrains, tcp, udp, meets_ports}
 use Rattle.flow.specs.Match.{is_empty, right_match, inside, LiesIn}
 use Rattle.flow.specs.Theorems.{InsideMeets, InsideTrans, InsideExactly}
 use Rattle.flow.specs.declared.Match.{Match}
@@ -30,12 +30,12 @@ empty-inside a b e = rw e
 -- a match that lies inside one with a port has a port
 port-on : (a b : Match) → Parts a b → constrains port_flags b ≡ true → constrains port_flags a ≡ true
 port-on a b h e =
-    flag-either sourceport_flag destinationport_flag a.flags
+    flag-either source_port_flag destination_port_flag a.flags
     ∙ ⊎_elim
-    (λ s. ap (λ (x : Bool). x || constrains destinationport_flag a) (value_on _ a.sourceport _ b.sourceport h.sourceport s))
-    (λ d. ap (λ (x : Bool). constrains sourceport_flag a || x) (value_on _ a.destinationport _ b.destinationport h.destinationport d)
-    ∙ or-true (constrains sourceport_flag a))
-    (or_split _ _ (sym (flag-either sourceport_flag destinationport_flag b.flags) ∙ e))
+    (λ s. ap (λ (x : Bool). x || constrains destination_port_flag a) (value_on _ a.source_port _ b.source_port h.source_port s))
+    (λ d. ap (λ (x : Bool). constrains source_port_flag a || x) (value_on _ a.destination_port _ b.destination_port h.destination_port d)
+    ∙ or-true (constrains source_port_flag a))
+    (or_split _ _ (sym (flag-either source_port_flag destination_port_flag b.flags) ∙ e))
 
 -- so a protocol that passes the ports of the one passes those of the other
 passes_on : (on on' : Bool) (q : ℕ) → (on' ≡ true → on ≡ true) → meets_ports on q ≡ true → meets_ports on' q ≡ true
@@ -51,13 +51,13 @@ inside-meets a b p e f =
     tested b p (record {
       unflagged = ap not (unflagged b (not-true (is_empty b) h.live));
       ports = passes_on _ _ p.protocol (port-on a b h) t.ports;
-      inport = value-meets _ a.inport _ b.inport p.inport h.inport t.inport;
+      in_port = value-meets _ a.in_port _ b.in_port p.in_port h.in_port t.in_port;
       protocol = value-meets _ a.protocol _ b.protocol p.protocol h.protocol t.protocol;
-      sourceport = value-meets _ a.sourceport _ b.sourceport p.sourceport h.sourceport t.sourceport;
-      destinationport = value-meets _ a.destinationport _ b.destinationport p.destinationport h.destinationport t.destinationport;
-      source = covers-in address_bits b.source b.sourcelength a.source a.sourcelength p.source h.source t.source;
+      source_port = value-meets _ a.source_port _ b.source_port p.source_port h.source_port t.source_port;
+      destination_port = value-meets _ a.destination_port _ b.destination_port p.destination_port h.destination_port t.destination_port;
+      source = covers-in address_bits b.source b.source_length a.source a.source_length p.source h.source t.source;
       destination =
-          covers-in address_bits b.destination b.destinationlength a.destination a.destinationlength p.destination
+          covers-in address_bits b.destination b.destination_length a.destination a.destination_length p.destination
           h.destination t.destination;
     })
 
@@ -69,17 +69,17 @@ inside-trans a b c e f = by-test (is_empty a) (empty-inside a c) (λ l. whole a 
     joined h =
         let k : Parts b c = parts b c (not-true (is_empty b) h.live) f in record {
           live = k.live;
-          inport = value-trans _ a.inport _ b.inport _ c.inport h.inport k.inport;
+          in_port = value-trans _ a.in_port _ b.in_port _ c.in_port h.in_port k.in_port;
           protocol = value-trans _ a.protocol _ b.protocol _ c.protocol h.protocol k.protocol;
-          sourceport = value-trans _ a.sourceport _ b.sourceport _ c.sourceport h.sourceport k.sourceport;
-          destinationport =
-              value-trans _ a.destinationport _ b.destinationport _ c.destinationport h.destinationport k.destinationport;
+          source_port = value-trans _ a.source_port _ b.source_port _ c.source_port h.source_port k.source_port;
+          destination_port =
+              value-trans _ a.destination_port _ b.destination_port _ c.destination_port h.destination_port k.destination_port;
           source =
-              covers-trans address_bits c.source c.sourcelength b.source b.sourcelength a.source a.sourcelength
+              covers-trans address_bits c.source c.source_length b.source b.source_length a.source a.source_length
               k.source h.source;
           destination =
-              covers-trans address_bits c.destination c.destinationlength b.destination b.destinationlength
-              a.destination a.destinationlength k.destination h.destination;
+              covers-trans address_bits c.destination c.destination_length b.destination b.destination_length
+              a.destination a.destination_length k.destination h.destination;
         }
 
 -- a number below a limit that meets a value
@@ -116,8 +116,8 @@ udp-passes false = refl
 -- that differ from its own there alone
 module _ (a b : Match) (ra : right_match a ≡ true) (rb : right_match b ≡ true) (live : is_empty a ≡ false) (all : LiesIn a b) where
   -- its own values
-  inport : Chosen port_limit (constrains inport_flag a) a.inport
-  inport = own_value port_limit _ a.inport (ranges a ra).inport
+  in_port : Chosen port_limit (constrains in_port_flag a) a.in_port
+  in_port = own_value port_limit _ a.in_port (ranges a ra).in_port
 
   abbrev protocol : Spoken a
   protocol = record {
@@ -127,35 +127,35 @@ module _ (a b : Match) (ra : right_match a ≡ true) (rb : right_match b ≡ tru
     ports = own-protocol-ports a live;
   }
 
-  sourceport : Chosen port_limit (constrains sourceport_flag a) a.sourceport
-  sourceport = own_value port_limit _ a.sourceport (ranges a ra).sourceport
+  source_port : Chosen port_limit (constrains source_port_flag a) a.source_port
+  source_port = own_value port_limit _ a.source_port (ranges a ra).source_port
 
-  destinationport : Chosen port_limit (constrains destinationport_flag a) a.destinationport
-  destinationport = own_value port_limit _ a.destinationport (ranges a ra).destinationport
+  destination_port : Chosen port_limit (constrains destination_port_flag a) a.destination_port
+  destination_port = own_value port_limit _ a.destination_port (ranges a ra).destination_port
 
-  source : Picked a.source a.sourcelength
+  source : Picked a.source a.source_length
   source = own-address a.source _ (ranges a ra).source
 
-  destination : Picked a.destination a.destinationlength
+  destination : Picked a.destination a.destination_length
   destination = own-address a.destination _ (ranges a ra).destination
 
   -- a packet of such values
-  abbrev packet : Chosen port_limit (constrains inport_flag a) a.inport → Spoken a
-      → Chosen port_limit (constrains sourceport_flag a) a.sourceport → Chosen port_limit (constrains destinationport_flag a) a.destinationport
-      → Picked a.source a.sourcelength → Picked a.destination a.destinationlength → Packet
+  abbrev packet : Chosen port_limit (constrains in_port_flag a) a.in_port → Spoken a
+      → Chosen port_limit (constrains source_port_flag a) a.source_port → Chosen port_limit (constrains destination_port_flag a) a.destination_port
+      → Picked a.source a.source_length → Picked a.destination a.destination_length → Packet
   packet i q s d x y = record {
-    inport = i.number;
+    in_port = i.number;
     source = x.address;
     destination = y.address;
     protocol = q.number;
-    sourceport = s.number;
-    destinationport = d.number;
+    source_port = s.number;
+    destination_port = d.number;
   }
 
   -- what the other asks of a packet of values that this one lets through
-  asks : (i : Chosen port_limit (constrains inport_flag a) a.inport) (q : Spoken a)
-      (s : Chosen port_limit (constrains sourceport_flag a) a.sourceport) (d : Chosen port_limit (constrains destinationport_flag a) a.destinationport)
-      (x : Picked a.source a.sourcelength) (y : Picked a.destination a.destinationlength) → Tests b (packet i q s d x y)
+  asks : (i : Chosen port_limit (constrains in_port_flag a) a.in_port) (q : Spoken a)
+      (s : Chosen port_limit (constrains source_port_flag a) a.source_port) (d : Chosen port_limit (constrains destination_port_flag a) a.destination_port)
+      (x : Picked a.source a.source_length) (y : Picked a.destination a.destination_length) → Tests b (packet i q s d x y)
   unfolding right_packet
   asks i q s d x y =
       tests b (packet i q s d x y) (all (packet i q s d x y)
@@ -164,10 +164,10 @@ module _ (a b : Match) (ra : right_match a ≡ true) (rb : right_match b ≡ tru
       (tested a (packet i q s d x y) (record {
         unflagged = ap not (unflagged a live);
         ports = q.ports;
-        inport = i.met;
+        in_port = i.met;
         protocol = q.met;
-        sourceport = s.met;
-        destinationport = d.met;
+        source_port = s.met;
+        destination_port = d.met;
         source = x.met;
         destination = y.met;
       })))
@@ -183,22 +183,22 @@ module _ (a b : Match) (ra : right_match a ≡ true) (rb : right_match b ≡ tru
 
   held : Parts a b
   held = record {
-    live = ap not (met-lives b _ (tested b _ (asks inport protocol sourceport destinationport source destination)));
-    inport = (value-inside-exactly port_limit _ a.inport _ b.inport (omega arith) (ranges a ra).inport).1
-        (λ n h e. (asks (record { number = n; below = h; met = e }) protocol sourceport destinationport source destination).inport);
+    live = ap not (met-lives b _ (tested b _ (asks in_port protocol source_port destination_port source destination)));
+    in_port = (value-inside-exactly port_limit _ a.in_port _ b.in_port (omega arith) (ranges a ra).in_port).1
+        (λ n h e. (asks (record { number = n; below = h; met = e }) protocol source_port destination_port source destination).in_port);
     protocol = value-told _ a.protocol _ b.protocol (own_protocol a) udp (λ on. rw on) (λ free e. let f : tcp ≡ udp = rw free at e in omega (arith, f))
-        (asks inport protocol sourceport destinationport source destination).protocol
-        (λ free. (asks inport (second free) sourceport destinationport source destination).protocol);
-    sourceport = (value-inside-exactly port_limit _ a.sourceport _ b.sourceport (omega arith) (ranges a ra).sourceport).1
-        (λ n h e. (asks inport protocol (record { number = n; below = h; met = e }) destinationport source destination).sourceport);
-    destinationport = (value-inside-exactly port_limit _ a.destinationport _ b.destinationport (omega arith) (ranges a ra).destinationport).1
-        (λ n h e. (asks inport protocol sourceport (record { number = n; below = h; met = e }) source destination).destinationport);
-    source = (covers-exactly address_bits b.source b.sourcelength a.source a.sourcelength (ranges b rb).sourcelength (ranges a ra).source).1
-        (λ n h e. (asks inport protocol sourceport destinationport (record { address = n; within = h; met = e }) destination).source);
+        (asks in_port protocol source_port destination_port source destination).protocol
+        (λ free. (asks in_port (second free) source_port destination_port source destination).protocol);
+    source_port = (value-inside-exactly port_limit _ a.source_port _ b.source_port (omega arith) (ranges a ra).source_port).1
+        (λ n h e. (asks in_port protocol (record { number = n; below = h; met = e }) destination_port source destination).source_port);
+    destination_port = (value-inside-exactly port_limit _ a.destination_port _ b.destination_port (omega arith) (ranges a ra).destination_port).1
+        (λ n h e. (asks in_port protocol source_port (record { number = n; below = h; met = e }) source destination).destination_port);
+    source = (covers-exactly address_bits b.source b.source_length a.source a.source_length (ranges b rb).source_length (ranges a ra).source).1
+        (λ n h e. (asks in_port protocol source_port destination_port (record { address = n; within = h; met = e }) destination).source);
     destination =
-        (covers-exactly address_bits b.destination b.destinationlength a.destination a.destinationlength (ranges b rb).destinationlength
+        (covers-exactly address_bits b.destination b.destination_length a.destination a.destination_length (ranges b rb).destination_length
         (ranges a ra).destination).1
-        (λ n h e. (asks inport protocol sourceport destinationport source (record { address = n; within = h; met = e })).destination);
+        (λ n h e. (asks in_port protocol source_port destination_port source (record { address = n; within = h; met = e })).destination);
   }
 
 -- A RIGHT MATCH LIES INSIDE ANOTHER exactly where every packet in range that meets it meets the other

@@ -12,7 +12,7 @@ use Rattle.field.specs.Value.{meets_value, right_value}
 use Rattle.field.proofs.Prefixes.{prefix-joins, in-own, longer-right, longer-within}
 use Rattle.field.proofs.Values.{meets-own-value, meets-free, common-value-below}
 use Rattle.flow.specs.Packet.{port_limit, protocol_limit, right_packet}
-use Rattle.flow.specs.Match.{inport_flag, protocol_flag, sourceport_flag, destinationport_flag, port_flags, known_flags, empty_flag, flagged, constrains}
+use Rattle.flow.specs.Match.{in_port_flag, protocol_flag, source_port_flag, destination_port_flag, port_flags, known_flags, empty_flag, flagged, constrains}
 use Rattle.flow.specs.Match.{tcp, has_ports, meets_ports, clash, contradicts, unmet, is_empty, is_none, is_plain, right_match, meets, agree}
 use Rattle.flow.specs.Match.{overlap, both, none, common, SharedPacket}
 use Rattle.flow.specs.Theorems.{MeetsCommon, OverlapExactly, MeetsOverlap, MetExactly, EmptyExactly, CommonRight, CommonEmpty, CommonNone}
@@ -32,12 +32,12 @@ meets-agree a b p = record { eq = joined.eq ∙ ap (λ (t : Bool). t && meets (b
     joined =
         joins-and (joins-and (joins-and (joins-and (joins-and (joins-and (joins-and
         (unset-joins empty_flag a.flags b.flags)
-        (flagged-joins inport_flag a.flags b.flags a.inport b.inport p.inport))
+        (flagged-joins in_port_flag a.flags b.flags a.in_port b.in_port p.in_port))
         (flagged-joins protocol_flag a.flags b.flags a.protocol b.protocol p.protocol))
-        (flagged-joins sourceport_flag a.flags b.flags a.sourceport b.sourceport p.sourceport))
-        (flagged-joins destinationport_flag a.flags b.flags a.destinationport b.destinationport p.destinationport))
-        (prefix-joins address_bits a.source a.sourcelength b.source b.sourcelength p.source))
-        (prefix-joins address_bits a.destination a.destinationlength b.destination b.destinationlength p.destination))
+        (flagged-joins source_port_flag a.flags b.flags a.source_port b.source_port p.source_port))
+        (flagged-joins destination_port_flag a.flags b.flags a.destination_port b.destination_port p.destination_port))
+        (prefix-joins address_bits a.source a.source_length b.source b.source_length p.source))
+        (prefix-joins address_bits a.destination a.destination_length b.destination b.destination_length p.destination))
         (ports-join port_flags a.flags b.flags p.protocol)
 
 -- where they overlap, since none meets both together if that is empty
@@ -73,12 +73,12 @@ own_protocol m = cond (constrains protocol_flag m) m.protocol tcp
 -- the packet of a match's own values
 abbrev own_packet : Match → Packet
 own_packet m = record {
-  inport = m.inport;
+  in_port = m.in_port;
   source = m.source;
   destination = m.destination;
   protocol = own_protocol m;
-  sourceport = m.sourceport;
-  destinationport = m.destinationport;
+  source_port = m.source_port;
+  destination_port = m.destination_port;
 }
 
 -- a match that is not empty has not flag 16
@@ -114,24 +114,24 @@ meets-own m live =
     tested m (own_packet m) (record {
       unflagged = ap not (unflagged m live);
       ports = own-protocol-ports m live;
-      inport = meets-own-value (constrains inport_flag m) m.inport;
+      in_port = meets-own-value (constrains in_port_flag m) m.in_port;
       protocol = own-protocol-met m;
-      sourceport = meets-own-value (constrains sourceport_flag m) m.sourceport;
-      destinationport = meets-own-value (constrains destinationport_flag m) m.destinationport;
-      source = in-own address_bits m.source m.sourcelength;
-      destination = in-own address_bits m.destination m.destinationlength;
+      source_port = meets-own-value (constrains source_port_flag m) m.source_port;
+      destination_port = meets-own-value (constrains destination_port_flag m) m.destination_port;
+      source = in-own address_bits m.source m.source_length;
+      destination = in-own address_bits m.destination m.destination_length;
     })
 
 -- the values of a right match are in a packet's ranges, its prefixes no longer than an address
 pub record Ranges (m : Match) : Type 0 where
   pub source : m.source < 2 ^ address_bits
   pub destination : m.destination < 2 ^ address_bits
-  pub inport : m.inport < port_limit
+  pub in_port : m.in_port < port_limit
   pub protocol : m.protocol < protocol_limit
-  pub sourceport : m.sourceport < port_limit
-  pub destinationport : m.destinationport < port_limit
-  pub sourcelength : m.sourcelength ≤ address_bits
-  pub destinationlength : m.destinationlength ≤ address_bits
+  pub source_port : m.source_port < port_limit
+  pub destination_port : m.destination_port < port_limit
+  pub source_length : m.source_length ≤ address_bits
+  pub destination_length : m.destination_length ≤ address_bits
 
 pub ranges : (m : Match) → right_match m ≡ true → Ranges m
 unfolding right_match is_none is_plain right_value right_prefix
@@ -150,14 +150,14 @@ own-right : (a b : Match) → Ranges a → Ranges b → right_packet (own_packet
 unfolding right_packet both
 own-right a b r s =
     and_both (and_both (and_both (and_both (and_both
-    (lt-ltb _ _ (longer-within address_bits a.source a.sourcelength b.source b.sourcelength r.source s.source))
-    (lt-ltb _ _ (longer-within address_bits a.destination a.destinationlength b.destination b.destinationlength r.destination s.destination)))
-    (lt-ltb _ _ (common-value-below (constrains inport_flag a) port_limit a.inport b.inport r.inport s.inport)))
+    (lt-ltb _ _ (longer-within address_bits a.source a.source_length b.source b.source_length r.source s.source))
+    (lt-ltb _ _ (longer-within address_bits a.destination a.destination_length b.destination b.destination_length r.destination s.destination)))
+    (lt-ltb _ _ (common-value-below (constrains in_port_flag a) port_limit a.in_port b.in_port r.in_port s.in_port)))
     (lt-ltb _ _
     (own-protocol-below (both a b) (common-value-below (constrains protocol_flag a) protocol_limit a.protocol b.protocol r.protocol s.protocol))))
-    (lt-ltb _ _ (common-value-below (constrains sourceport_flag a) port_limit a.sourceport b.sourceport r.sourceport s.sourceport)))
+    (lt-ltb _ _ (common-value-below (constrains source_port_flag a) port_limit a.source_port b.source_port r.source_port s.source_port)))
     (lt-ltb _ _
-    (common-value-below (constrains destinationport_flag a) port_limit a.destinationport b.destinationport r.destinationport s.destinationport))
+    (common-value-below (constrains destination_port_flag a) port_limit a.destination_port b.destination_port r.destination_port s.destination_port))
 
 -- two matches that overlap are not empty together
 both-lives : (a b : Match) → overlap a b ≡ true → is_empty (both a b) ≡ false
@@ -225,12 +225,12 @@ unfolding both is_plain
 both-plain a b =
     keeps-and (keeps-and (keeps-and (keeps-and (keeps-and (keeps-and
     (known-right known_flags a.flags b.flags)
-    (flagged-right inport_flag a.flags b.flags port_limit a.inport b.inport))
+    (flagged-right in_port_flag a.flags b.flags port_limit a.in_port b.in_port))
     (flagged-right protocol_flag a.flags b.flags protocol_limit a.protocol b.protocol))
-    (flagged-right sourceport_flag a.flags b.flags port_limit a.sourceport b.sourceport))
-    (flagged-right destinationport_flag a.flags b.flags port_limit a.destinationport b.destinationport))
-    (longer-right address_bits a.source a.sourcelength b.source b.sourcelength))
-    (longer-right address_bits a.destination a.destinationlength b.destination b.destinationlength)
+    (flagged-right source_port_flag a.flags b.flags port_limit a.source_port b.source_port))
+    (flagged-right destination_port_flag a.flags b.flags port_limit a.destination_port b.destination_port))
+    (longer-right address_bits a.source a.source_length b.source b.source_length))
+    (longer-right address_bits a.destination a.destination_length b.destination b.destination_length)
 
 -- two matches without flag 16 together have it neither
 unflagged-both : (a b : Match) → constrains empty_flag (both a b) ≡ false → (constrains empty_flag a ≡ false) × (constrains empty_flag b ≡ false)

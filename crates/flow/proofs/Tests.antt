@@ -6,7 +6,7 @@ use Prim.Native.Nat.{ℕ}
 use borrow.Author.Tests.{eqb-true}
 use Rattle.field.specs.Prefix.{address_bits, in_prefix}
 use Rattle.field.specs.Value.{meets_value}
-use Rattle.flow.specs.Match.{inport_flag, protocol_flag, sourceport_flag, destinationport_flag, port_flags, empty_flag, constrains}
+use Rattle.flow.specs.Match.{in_port_flag, protocol_flag, source_port_flag, destination_port_flag, port_flags, empty_flag, constrains}
 use Rattle.flow.specs.Match.{has_ports, meets_ports, clash, unmet, is_empty, meets}
 use Rattle.flow.specs.Theorems.{MeetsEmpty, PortsMet}
 use Rattle.flow.specs.declared.Match.{Match}
@@ -16,12 +16,12 @@ use Rattle.logic.proofs.Tests.{by-test, and_both}
 -- the tests that a packet passes which meets a match, by name
 pub record Tests (m : Match) (p : Packet) : Type 0 where
   pub unflagged : not (constrains empty_flag m) ≡ true
-  pub inport : meets_value (constrains inport_flag m) m.inport p.inport ≡ true
+  pub in_port : meets_value (constrains in_port_flag m) m.in_port p.in_port ≡ true
   pub protocol : meets_value (constrains protocol_flag m) m.protocol p.protocol ≡ true
-  pub sourceport : meets_value (constrains sourceport_flag m) m.sourceport p.sourceport ≡ true
-  pub destinationport : meets_value (constrains destinationport_flag m) m.destinationport p.destinationport ≡ true
-  pub source : in_prefix address_bits m.source m.sourcelength p.source ≡ true
-  pub destination : in_prefix address_bits m.destination m.destinationlength p.destination ≡ true
+  pub source_port : meets_value (constrains source_port_flag m) m.source_port p.source_port ≡ true
+  pub destination_port : meets_value (constrains destination_port_flag m) m.destination_port p.destination_port ≡ true
+  pub source : in_prefix address_bits m.source m.source_length p.source ≡ true
+  pub destination : in_prefix address_bits m.destination m.destination_length p.destination ≡ true
   pub ports : meets_ports (constrains port_flags m) p.protocol ≡ true
 
 pub tests : (m : Match) (p : Packet) → meets m p ≡ true → Tests m p
@@ -29,10 +29,10 @@ unfolding meets
 tests m p e =
     let h = simp and-eq-true_iff at e in record {
       unflagged = h.0.0.0.0.0.0.0;
-      inport = h.0.0.0.0.0.0.1;
+      in_port = h.0.0.0.0.0.0.1;
       protocol = h.0.0.0.0.0.1;
-      sourceport = h.0.0.0.0.1;
-      destinationport = h.0.0.0.1;
+      source_port = h.0.0.0.0.1;
+      destination_port = h.0.0.0.1;
       source = h.0.0.1;
       destination = h.0.1;
       ports = h.1;
@@ -41,7 +41,7 @@ tests m p e =
 pub tested : (m : Match) (p : Packet) → Tests m p → meets m p ≡ true
 unfolding meets
 tested m p t =
-    and_both (and_both (and_both (and_both (and_both (and_both (and_both t.unflagged t.inport) t.protocol) t.sourceport) t.destinationport)
+    and_both (and_both (and_both (and_both (and_both (and_both (and_both t.unflagged t.in_port) t.protocol) t.source_port) t.destination_port)
     t.source) t.destination) t.ports
 
 -- A PACKET THAT MEETS A MATCH WITH A PORT has a protocol with ports

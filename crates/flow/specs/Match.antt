@@ -37,28 +37,28 @@ abbrev pub match_length : ℕ
 match_length = 9
 
 -- the in-port is constrained
-abbrev pub inport_flag : ℕ
-inport_flag = 1
+abbrev pub in_port_flag : ℕ
+in_port_flag = 1
 
 -- the protocol is constrained
 abbrev pub protocol_flag : ℕ
 protocol_flag = 2
 
 -- the source port is constrained
-abbrev pub sourceport_flag : ℕ
-sourceport_flag = 4
+abbrev pub source_port_flag : ℕ
+source_port_flag = 4
 
 -- the destination port is constrained
-abbrev pub destinationport_flag : ℕ
-destinationport_flag = 8
+abbrev pub destination_port_flag : ℕ
+destination_port_flag = 8
 
 -- a port is constrained
 abbrev pub port_flags : ℕ
-port_flags = sourceport_flag + destinationport_flag
+port_flags = source_port_flag + destination_port_flag
 
 -- the flags that may stand together: a value is constrained
 abbrev pub known_flags : ℕ
-known_flags = inport_flag + protocol_flag + port_flags
+known_flags = in_port_flag + protocol_flag + port_flags
 
 -- no packet meets the match; this flag stands alone
 abbrev pub empty_flag : ℕ
@@ -67,28 +67,28 @@ empty_flag = 16
 -- the match that the first nine words are; words that are missing count as 0
 abbrev pub match_of : List ℕ → Match
 match_of l = record {
-  inport = get_or l 0 0;
+  in_port = get_or l 0 0;
   source = get_or l 1 0;
   destination = get_or l 2 0;
   protocol = get_or l 3 0;
-  sourceport = get_or l 4 0;
-  destinationport = get_or l 5 0;
-  sourcelength = get_or l 6 0;
-  destinationlength = get_or l 7 0;
+  source_port = get_or l 4 0;
+  destination_port = get_or l 5 0;
+  source_length = get_or l 6 0;
+  destination_length = get_or l 7 0;
   flags = get_or l 8 0;
 }
 
 -- a match's nine words
 abbrev pub match_words : Match → List ℕ
 match_words m =
-    m.inport
+    m.in_port
     ∷ m.source
     ∷ m.destination
     ∷ m.protocol
-    ∷ m.sourceport
-    ∷ m.destinationport
-    ∷ m.sourcelength
-    ∷ m.destinationlength
+    ∷ m.source_port
+    ∷ m.destination_port
+    ∷ m.source_length
+    ∷ m.destination_length
     ∷ m.flags
     ∷ []
 
@@ -149,12 +149,12 @@ is_none m = same_words true (match_words m) (match_words none)
 unfoldable pub is_plain : Match → Bool
 is_plain m =
     eqb (bit_and m.flags known_flags) m.flags
-    && right_value (constrains inport_flag m) port_limit m.inport
+    && right_value (constrains in_port_flag m) port_limit m.in_port
     && right_value (constrains protocol_flag m) protocol_limit m.protocol
-    && right_value (constrains sourceport_flag m) port_limit m.sourceport
-    && right_value (constrains destinationport_flag m) port_limit m.destinationport
-    && right_prefix address_bits m.source m.sourcelength
-    && right_prefix address_bits m.destination m.destinationlength
+    && right_value (constrains source_port_flag m) port_limit m.source_port
+    && right_value (constrains destination_port_flag m) port_limit m.destination_port
+    && right_prefix address_bits m.source m.source_length
+    && right_prefix address_bits m.destination m.destination_length
 
 -- the words of a match are right
 unfoldable pub right_match : Match → Bool
@@ -165,12 +165,12 @@ right_match m = is_none m || is_plain m
 abbrev pub fits : Match → Packet → Bool
 fits m p =
     not (constrains empty_flag m)
-    && meets_value (constrains inport_flag m) m.inport p.inport
+    && meets_value (constrains in_port_flag m) m.in_port p.in_port
     && meets_value (constrains protocol_flag m) m.protocol p.protocol
-    && meets_value (constrains sourceport_flag m) m.sourceport p.sourceport
-    && meets_value (constrains destinationport_flag m) m.destinationport p.destinationport
-    && in_prefix address_bits m.source m.sourcelength p.source
-    && in_prefix address_bits m.destination m.destinationlength p.destination
+    && meets_value (constrains source_port_flag m) m.source_port p.source_port
+    && meets_value (constrains destination_port_flag m) m.destination_port p.destination_port
+    && in_prefix address_bits m.source m.source_length p.source
+    && in_prefix address_bits m.destination m.destination_length p.destination
 
 -- the packet p meets the match m: it fits in each field, and its protocol has ports where one is constrained
 unfoldable pub meets : Match → Packet → Bool
@@ -179,25 +179,25 @@ meets m p = fits m p && meets_ports (constrains port_flags m) p.protocol
 -- a and b agree in each field
 abbrev pub agree : Match → Match → Bool
 agree a b =
-    values_meet (constrains inport_flag a) a.inport (constrains inport_flag b) b.inport
+    values_meet (constrains in_port_flag a) a.in_port (constrains in_port_flag b) b.in_port
     && values_meet (constrains protocol_flag a) a.protocol (constrains protocol_flag b) b.protocol
-    && values_meet (constrains sourceport_flag a) a.sourceport (constrains sourceport_flag b) b.sourceport
-    && values_meet (constrains destinationport_flag a) a.destinationport (constrains destinationport_flag b)
-    b.destinationport
-    && prefixes_meet address_bits a.source a.sourcelength b.source b.sourcelength
-    && prefixes_meet address_bits a.destination a.destinationlength b.destination b.destinationlength
+    && values_meet (constrains source_port_flag a) a.source_port (constrains source_port_flag b) b.source_port
+    && values_meet (constrains destination_port_flag a) a.destination_port (constrains destination_port_flag b)
+    b.destination_port
+    && prefixes_meet address_bits a.source a.source_length b.source b.source_length
+    && prefixes_meet address_bits a.destination a.destination_length b.destination b.destination_length
 
 -- both together: what either constrains, and the longer prefixes
 unfoldable pub both : Match → Match → Match
 both a b = record {
-  inport = common_value (constrains inport_flag a) a.inport b.inport;
-  source = longer_address a.source a.sourcelength b.source b.sourcelength;
-  destination = longer_address a.destination a.destinationlength b.destination b.destinationlength;
+  in_port = common_value (constrains in_port_flag a) a.in_port b.in_port;
+  source = longer_address a.source a.source_length b.source b.source_length;
+  destination = longer_address a.destination a.destination_length b.destination b.destination_length;
   protocol = common_value (constrains protocol_flag a) a.protocol b.protocol;
-  sourceport = common_value (constrains sourceport_flag a) a.sourceport b.sourceport;
-  destinationport = common_value (constrains destinationport_flag a) a.destinationport b.destinationport;
-  sourcelength = longer_length a.sourcelength b.sourcelength;
-  destinationlength = longer_length a.destinationlength b.destinationlength;
+  source_port = common_value (constrains source_port_flag a) a.source_port b.source_port;
+  destination_port = common_value (constrains destination_port_flag a) a.destination_port b.destination_port;
+  source_length = longer_length a.source_length b.source_length;
+  destination_length = longer_length a.destination_length b.destination_length;
   flags = bit_or a.flags b.flags;
 }
 
@@ -214,13 +214,13 @@ unfoldable pub inside : Match → Match → Bool
 inside a b =
     is_empty a
     || (not (is_empty b)
-    && value_inside (constrains inport_flag a) a.inport (constrains inport_flag b) b.inport
+    && value_inside (constrains in_port_flag a) a.in_port (constrains in_port_flag b) b.in_port
     && value_inside (constrains protocol_flag a) a.protocol (constrains protocol_flag b) b.protocol
-    && value_inside (constrains sourceport_flag a) a.sourceport (constrains sourceport_flag b) b.sourceport
-    && value_inside (constrains destinationport_flag a) a.destinationport (constrains destinationport_flag b)
-    b.destinationport
-    && covers address_bits b.source b.sourcelength a.source a.sourcelength
-    && covers address_bits b.destination b.destinationlength a.destination a.destinationlength)
+    && value_inside (constrains source_port_flag a) a.source_port (constrains source_port_flag b) b.source_port
+    && value_inside (constrains destination_port_flag a) a.destination_port (constrains destination_port_flag b)
+    b.destination_port
+    && covers address_bits b.source b.source_length a.source a.source_length
+    && covers address_bits b.destination b.destination_length a.destination a.destination_length)
 
 -- a packet in range that meets two matches
 pub record SharedPacket (a b : Match) : Type 0 where

@@ -28,27 +28,27 @@ protocol_limit = 256
 -- the packet that the first six words are; words that are missing count as 0
 abbrev pub packet_of : List ℕ → Packet
 packet_of l = record {
-  inport = get_or l 0 0;
+  in_port = get_or l 0 0;
   source = get_or l 1 0;
   destination = get_or l 2 0;
   protocol = get_or l 3 0;
-  sourceport = get_or l 4 0;
-  destinationport = get_or l 5 0;
+  source_port = get_or l 4 0;
+  destination_port = get_or l 5 0;
 }
 
 -- a packet's six words
 abbrev pub packet_words : Packet → List ℕ
-packet_words p = p.inport ∷ p.source ∷ p.destination ∷ p.protocol ∷ p.sourceport ∷ p.destinationport ∷ []
+packet_words p = p.in_port ∷ p.source ∷ p.destination ∷ p.protocol ∷ p.source_port ∷ p.destination_port ∷ []
 
 -- the values are in their ranges; an address is any word
 unfoldable pub right_packet : Packet → Bool
 right_packet p =
     ltb p.source (2 ^ address_bits)
     && ltb p.destination (2 ^ address_bits)
-    && ltb p.inport port_limit
+    && ltb p.in_port port_limit
     && ltb p.protocol protocol_limit
-    && ltb p.sourceport port_limit
-    && ltb p.destinationport port_limit
+    && ltb p.source_port port_limit
+    && ltb p.destination_port port_limit
 
 -- some words are a packet: exactly six, with values in their ranges
 unfoldable pub right_packet_words : List ℕ → Bool

@@ -57,38 +57,38 @@ const UDP: u32 = 17;
 
 #[derive(Clone, Copy)]
 pub struct Packet {
-    pub inport: u32,
+    pub in_port: u32,
     pub source: u32,
     pub destination: u32,
     pub protocol: u32,
-    pub sourceport: u32,
-    pub destinationport: u32,
+    pub source_port: u32,
+    pub destination_port: u32,
 }
 
 #[derive(Clone, Copy)]
 pub struct Match {
-    pub inport: u32,
+    pub in_port: u32,
     pub source: u32,
     pub destination: u32,
     pub protocol: u32,
-    pub sourceport: u32,
-    pub destinationport: u32,
-    pub sourcelength: u32,
-    pub destinationlength: u32,
+    pub source_port: u32,
+    pub destination_port: u32,
+    pub source_length: u32,
+    pub destination_length: u32,
     pub flags: u32,
 }
 
 impl Match {
     // The empty match of flag 16.
     pub const NONE: Match = Match {
-        inport: 0,
+        in_port: 0,
         source: 0,
         destination: 0,
         protocol: 0,
-        sourceport: 0,
-        destinationport: 0,
-        sourcelength: 0,
-        destinationlength: 0,
+        source_port: 0,
+        destination_port: 0,
+        source_length: 0,
+        destination_length: 0,
         flags: EMPTY,
     };
 }

@@ -21,20 +21,20 @@ use words::{copy, word};
 pub fn meets(m: Match, p: Packet) -> bool
     ensures { result ≡ meets m p }
 {
-    if !in_prefix(m.destination, m.destinationlength, p.destination) {
+    if !in_prefix(m.destination, m.destination_length, p.destination) {
         return false;
     }
-    if !in_prefix(m.source, m.sourcelength, p.source) {
+    if !in_prefix(m.source, m.source_length, p.source) {
         return false;
     }
     !constrains(m, EMPTY)
-        & meets_value(constrains(m, IN_PORT), m.inport, p.inport)
+        & meets_value(constrains(m, IN_PORT), m.in_port, p.in_port)
         & meets_value(constrains(m, PROTOCOL), m.protocol, p.protocol)
-        & meets_value(constrains(m, SOURCE_PORT), m.sourceport, p.sourceport)
+        & meets_value(constrains(m, SOURCE_PORT), m.source_port, p.source_port)
         & meets_value(
             constrains(m, DESTINATION_PORT),
-            m.destinationport,
-            p.destinationport,
+            m.destination_port,
+            p.destination_port,
         )
         & meets_ports(constrains(m, PORTS), p.protocol)
 }
@@ -45,22 +45,28 @@ pub fn overlap(a: Match, b: Match) -> bool
 {
     if !prefixes_meet(
         a.destination,
-        a.destinationlength,
+        a.destination_length,
         b.destination,
-        b.destinationlength,
+        b.destination_length,
     ) {
         return false;
     }
-    if !prefixes_meet(a.source, a.sourcelength, b.source, b.sourcelength) {
+    if !prefixes_meet(a.source, a.source_length, b.source, b.source_length) {
         return false;
     }
-    if !agree_in(a, b, DESTINATION_PORT, a.destinationport, b.destinationport) {
+    if !agree_in(
+        a,
+        b,
+        DESTINATION_PORT,
+        a.destination_port,
+        b.destination_port,
+    ) {
         return false;
     }
-    if !agree_in(a, b, SOURCE_PORT, a.sourceport, b.sourceport) {
+    if !agree_in(a, b, SOURCE_PORT, a.source_port, b.source_port) {
         return false;
     }
-    if !agree_in(a, b, IN_PORT, a.inport, b.inport) {
+    if !agree_in(a, b, IN_PORT, a.in_port, b.in_port) {
         return false;
     }
     if !agree_in(a, b, PROTOCOL, a.protocol, b.protocol) {
@@ -81,23 +87,29 @@ pub fn lies_inside(a: Match, b: Match) -> bool
     }
     if !prefix_covers(
         b.destination,
-        b.destinationlength,
+        b.destination_length,
         a.destination,
-        a.destinationlength,
+        a.destination_length,
     ) {
         return false;
     }
-    if !prefix_covers(b.source, b.sourcelength, a.source, a.sourcelength) {
+    if !prefix_covers(b.source, b.source_length, a.source, a.source_length) {
         return false;
     }
-    if !inside_in(a, b, DESTINATION_PORT, a.destinationport, b.destinationport) {
+    if !inside_in(
+        a,
+        b,
+        DESTINATION_PORT,
+        a.destination_port,
+        b.destination_port,
+    ) {
         return false;
     }
-    if !inside_in(a, b, SOURCE_PORT, a.sourceport, b.sourceport) {
+    if !inside_in(a, b, SOURCE_PORT, a.source_port, b.source_port) {
         return false;
     }
     !is_empty(b)
-        & inside_in(a, b, IN_PORT, a.inport, b.inport)
+        & inside_in(a, b, IN_PORT, a.in_port, b.in_port)
         & inside_in(a, b, PROTOCOL, a.protocol, b.protocol)
 }
 
@@ -149,13 +161,13 @@ pub fn is_plain(m: Match) -> bool
     ensures { result ≡ is_plain m }
 {
     ((m.flags & KNOWN_FLAGS) == m.flags)
-        & ((m.inport | m.sourceport | m.destinationport) < PORT_LIMIT)
-        & (constrains(m, IN_PORT) | (m.inport == 0))
+        & ((m.in_port | m.source_port | m.destination_port) < PORT_LIMIT)
+        & (constrains(m, IN_PORT) | (m.in_port == 0))
         & right_value(constrains(m, PROTOCOL), PROTOCOL_LIMIT, m.protocol)
-        & (constrains(m, SOURCE_PORT) | (m.sourceport == 0))
-        & (constrains(m, DESTINATION_PORT) | (m.destinationport == 0))
-        & right_prefix(m.source, m.sourcelength)
-        & right_prefix(m.destination, m.destinationlength)
+        & (constrains(m, SOURCE_PORT) | (m.source_port == 0))
+        & (constrains(m, DESTINATION_PORT) | (m.destination_port == 0))
+        & right_prefix(m.source, m.source_length)
+        & right_prefix(m.destination, m.destination_length)
 }
 
 // The match that the first nine words are; words that are missing count as 0.
@@ -163,14 +175,14 @@ pub fn read_match(words: &[u32]) -> Match
     ensures { result ≡ match_of words.now }
 {
     Match {
-        inport: word(words, 0),
+        in_port: word(words, 0),
         source: word(words, 1),
         destination: word(words, 2),
         protocol: word(words, 3),
-        sourceport: word(words, 4),
-        destinationport: word(words, 5),
-        sourcelength: word(words, 6),
-        destinationlength: word(words, 7),
+        source_port: word(words, 4),
+        destination_port: word(words, 5),
+        source_length: word(words, 6),
+        destination_length: word(words, 7),
         flags: word(words, 8),
     }
 }
@@ -188,14 +200,14 @@ pub fn words_of_match(m: Match) -> MatchWords
     ensures { result ≡ match_words m }
 {
     [
-        m.inport,
+        m.in_port,
         m.source,
         m.destination,
         m.protocol,
-        m.sourceport,
-        m.destinationport,
-        m.sourcelength,
-        m.destinationlength,
+        m.source_port,
+        m.destination_port,
+        m.source_length,
+        m.destination_length,
         m.flags,
     ]
 }
@@ -254,23 +266,23 @@ fn both(a: Match, b: Match) -> Match
     ensures { result ≡ both a b }
 {
     Match {
-        inport: common_value(constrains(a, IN_PORT), a.inport, b.inport),
-        source: longer_address(a.source, a.sourcelength, b.source, b.sourcelength),
+        in_port: common_value(constrains(a, IN_PORT), a.in_port, b.in_port),
+        source: longer_address(a.source, a.source_length, b.source, b.source_length),
         destination: longer_address(
             a.destination,
-            a.destinationlength,
+            a.destination_length,
             b.destination,
-            b.destinationlength,
+            b.destination_length,
         ),
         protocol: common_value(constrains(a, PROTOCOL), a.protocol, b.protocol),
-        sourceport: common_value(constrains(a, SOURCE_PORT), a.sourceport, b.sourceport),
-        destinationport: common_value(
+        source_port: common_value(constrains(a, SOURCE_PORT), a.source_port, b.source_port),
+        destination_port: common_value(
             constrains(a, DESTINATION_PORT),
-            a.destinationport,
-            b.destinationport,
+            a.destination_port,
+            b.destination_port,
         ),
-        sourcelength: longer_length(a.sourcelength, b.sourcelength),
-        destinationlength: longer_length(a.destinationlength, b.destinationlength),
+        source_length: longer_length(a.source_length, b.source_length),
+        destination_length: longer_length(a.destination_length, b.destination_length),
         flags: a.flags | b.flags,
     }
 }
@@ -279,13 +291,13 @@ fn both(a: Match, b: Match) -> Match
 fn is_none(m: Match) -> bool
     ensures { result ≡ is_none m }
 {
-    (m.inport == 0)
+    (m.in_port == 0)
         & (m.source == 0)
         & (m.destination == 0)
         & (m.protocol == 0)
-        & (m.sourceport == 0)
-        & (m.destinationport == 0)
-        & (m.sourcelength == 0)
-        & (m.destinationlength == 0)
+        & (m.source_port == 0)
+        & (m.destination_port == 0)
+        & (m.source_length == 0)
+        & (m.destination_length == 0)
         & (m.flags == EMPTY)
 }

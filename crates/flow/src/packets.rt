@@ -10,10 +10,10 @@ use words::{copy, word};
 pub fn right_packet(p: Packet) -> bool
     ensures { result ≡ right_packet p }
 {
-    (p.inport < PORT_LIMIT)
+    (p.in_port < PORT_LIMIT)
         & (p.protocol < PROTOCOL_LIMIT)
-        & (p.sourceport < PORT_LIMIT)
-        & (p.destinationport < PORT_LIMIT)
+        & (p.source_port < PORT_LIMIT)
+        & (p.destination_port < PORT_LIMIT)
 }
 
 // Whether some words are a packet: six of them, with values in their ranges.
@@ -28,12 +28,12 @@ pub fn read_packet(words: &[u32]) -> Packet
     ensures { result ≡ packet_of words.now }
 {
     Packet {
-        inport: word(words, 0),
+        in_port: word(words, 0),
         source: word(words, 1),
         destination: word(words, 2),
         protocol: word(words, 3),
-        sourceport: word(words, 4),
-        destinationport: word(words, 5),
+        source_port: word(words, 4),
+        destination_port: word(words, 5),
     }
 }
 
@@ -50,11 +50,11 @@ pub fn words_of_packet(p: Packet) -> PacketWords
     ensures { result ≡ packet_words p }
 {
     [
-        p.inport,
+        p.in_port,
         p.source,
         p.destination,
         p.protocol,
-        p.sourceport,
-        p.destinationport,
+        p.source_port,
+        p.destination_port,
     ]
 }

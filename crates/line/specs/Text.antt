@@ -15,7 +15,7 @@ use Rattle.std.specs.Prelude.{ℕ, zero, suc, ◌+◌, ◌/◌, ◌%◌, Bool, c
 use Prim.Native.Char.{code}
 use Prim.Native.String.{String, [] as none, ◌∷◌ as ◌then◌}
 use Rattle.theory.specs.Rows.{Row}
-use Rattle.flow.specs.Match.{constrains, inport_flag, protocol_flag, sourceport_flag, destinationport_flag}
+use Rattle.flow.specs.Match.{constrains, in_port_flag, protocol_flag, source_port_flag, destination_port_flag}
 use Rattle.flow.specs.declared.Match.{Match}
 use Rattle.action.specs.declared.Action.{Action}
 use Rattle.action.specs.declared.Action.TheVariants.{DontCare, Allow, Deny, Gmb}
@@ -62,12 +62,12 @@ address a n =
 -- the values of a match, and its prefixes, each with a space
 unfoldable pub match_text : Match → List ℕ
 match_text m =
-    value (constrains inport_flag m) m.inport
-    ++ address m.source m.sourcelength
-    ++ address m.destination m.destinationlength
+    value (constrains in_port_flag m) m.in_port
+    ++ address m.source m.source_length
+    ++ address m.destination m.destination_length
     ++ value (constrains protocol_flag m) m.protocol
-    ++ value (constrains sourceport_flag m) m.sourceport
-    ++ value (constrains destinationport_flag m) m.destinationport
+    ++ value (constrains source_port_flag m) m.source_port
+    ++ value (constrains destination_port_flag m) m.destination_port
 
 -- an action, with the line end
 unfoldable pub action_text : Action → List ℕ

@@ -14,12 +14,12 @@ const MOST_DIGITS: usize = 20;
 pub(crate) fn put_match(out: &mut [u8], at: usize, m: Match) -> usize
     ensures { Puts (match_text m) out.old at out.new result }
 {
-    let a = put_value(out, at, constrains(m, IN_PORT), m.inport);
-    let b = put_address(out, a, m.source, m.sourcelength);
-    let c = put_address(out, b, m.destination, m.destinationlength);
+    let a = put_value(out, at, constrains(m, IN_PORT), m.in_port);
+    let b = put_address(out, a, m.source, m.source_length);
+    let c = put_address(out, b, m.destination, m.destination_length);
     let d = put_value(out, c, constrains(m, PROTOCOL), m.protocol);
-    let e = put_value(out, d, constrains(m, SOURCE_PORT), m.sourceport);
-    put_value(out, e, constrains(m, DESTINATION_PORT), m.destinationport)
+    let e = put_value(out, d, constrains(m, SOURCE_PORT), m.source_port);
+    put_value(out, e, constrains(m, DESTINATION_PORT), m.destination_port)
 }
 
 // An action, and the line end.

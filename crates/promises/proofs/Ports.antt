@@ -9,7 +9,7 @@ use borrow.Author.Tests.{eqb-true, lt-ltb}
 use Rattle.logic.proofs.Tests.{and_both, or_split}
 use Rattle.field.specs.Value.{right_value}
 use Rattle.flow.specs.Packet.{protocol_limit}
-use Rattle.flow.specs.Match.{sourceport_flag, destinationport_flag, protocol_flag, port_flags, empty_flag, constrains, flagged, has_ports}
+use Rattle.flow.specs.Match.{source_port_flag, destination_port_flag, protocol_flag, port_flags, empty_flag, constrains, flagged, has_ports}
 use Rattle.flow.specs.Match.{meets_ports, match_of}
 use Rattle.flow.specs.Match.{is_empty, is_none, is_plain, right_match, fits, meets}
 use Rattle.flow.specs.declared.Match.{Match}
@@ -35,10 +35,10 @@ has p (inl t) = ap has_ports t
 has p (inr u) = ap has_ports u
 
 -- either port's flag is one of the ports' flags
-either : (m : Match) → constrains port_flags m ≡ (constrains sourceport_flag m || constrains destinationport_flag m)
-either m = flag-either sourceport_flag destinationport_flag m.flags
+either : (m : Match) → constrains port_flags m ≡ (constrains source_port_flag m || constrains destination_port_flag m)
+either m = flag-either source_port_flag destination_port_flag m.flags
 
-neither : (m : Match) → constrains sourceport_flag m ≡ false → constrains destinationport_flag m ≡ false → constrains port_flags m ≡ false
+neither : (m : Match) → constrains source_port_flag m ≡ false → constrains destination_port_flag m ≡ false → constrains port_flags m ≡ false
 neither m s d = either m ∙ rw (s, d)
 
 -- where a packet passes the ports, the fields decide
@@ -49,9 +49,9 @@ passed m p e = rw (e, and-true)
 port-met : PortMet
 unfolding meets_ports
 port-met = record {
-  source = λ m p on e. two p (ports-met m p (either m ∙ ap (λ (x : Bool). x || constrains destinationport_flag m) on) e);
+  source = λ m p on e. two p (ports-met m p (either m ∙ ap (λ (x : Bool). x || constrains destination_port_flag m) on) e);
   destination = λ m p on e.
-      two p (ports-met m p (either m ∙ ap (λ (x : Bool). constrains sourceport_flag m || x) on ∙ or-true (constrains sourceport_flag m)) e);
+      two p (ports-met m p (either m ∙ ap (λ (x : Bool). constrains source_port_flag m || x) on ∙ or-true (constrains source_port_flag m)) e);
   of-these = λ m p t.
       passed m p (ap (λ (x : Bool). not (constrains port_flags m) || x) (has p t) ∙ or-true (not (constrains port_flags m)));
   without = λ m p s d.

@@ -14,7 +14,7 @@ use Rattle.words.specs.Records.{flat}
 use Rattle.words.specs.Bytes.{bytes_of}
 use Rattle.theory.specs.Rows.{Row, kept}
 use Rattle.flow.specs.Packet.{protocol_limit}
-use Rattle.flow.specs.Match.{protocol_flag, sourceport_flag, destinationport_flag, constrains, match_of, is_empty}
+use Rattle.flow.specs.Match.{protocol_flag, source_port_flag, destination_port_flag, constrains, match_of, is_empty}
 use Rattle.flow.specs.Match.{right_match, fits, meets}
 use Rattle.flow.specs.Theorems.{MeetsCommon, CommonNone, OverlapExactly, EmptyExactly}
 use Rattle.flow.specs.declared.Match.{Match}
@@ -41,24 +41,24 @@ TcpOrUdp p = (p.protocol ≡ 6) ⊎ (p.protocol ≡ 17)
 
 -- "From now on a port constraint is met only by packets of protocol 6 or 17."
 pub record PortMet : Type 0 where
-  pub source : (m : Match) (p : Packet) → constrains sourceport_flag m ≡ true → meets m p ≡ true → TcpOrUdp p
-  pub destination : (m : Match) (p : Packet) → constrains destinationport_flag m ≡ true → meets m p ≡ true → TcpOrUdp p
+  pub source : (m : Match) (p : Packet) → constrains source_port_flag m ≡ true → meets m p ≡ true → TcpOrUdp p
+  pub destination : (m : Match) (p : Packet) → constrains destination_port_flag m ≡ true → meets m p ≡ true → TcpOrUdp p
   -- of these packets, and of matches without such a constraint, nothing is asked but the fields, as before
   pub of-these : (m : Match) (p : Packet) → TcpOrUdp p → meets m p ≡ fits m p
-  pub without : (m : Match) (p : Packet) → constrains sourceport_flag m ≡ false
-      → constrains destinationport_flag m ≡ false → meets m p ≡ fits m p
+  pub without : (m : Match) (p : Packet) → constrains source_port_flag m ≡ false
+      → constrains destination_port_flag m ≡ false → meets m p ≡ fits m p
 
 -- the match m with the protocol q
 abbrev pub spoken : ℕ → Match → Match
 spoken q m = record {
-  inport = m.inport;
+  in_port = m.in_port;
   source = m.source;
   destination = m.destination;
   protocol = q;
-  sourceport = m.sourceport;
-  destinationport = m.destinationport;
-  sourcelength = m.sourcelength;
-  destinationlength = m.destinationlength;
+  source_port = m.source_port;
+  destination_port = m.destination_port;
+  source_length = m.source_length;
+  destination_length = m.destination_length;
   flags = m.flags;
 }
 

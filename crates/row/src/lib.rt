@@ -35,14 +35,14 @@ pub fn words_of_row(m: Match, a: Action) -> RowWords
     let k = kind(a);
     let n = rate(a);
     [
-        m.inport,
+        m.in_port,
         m.source,
         m.destination,
         m.protocol,
-        m.sourceport,
-        m.destinationport,
-        m.sourcelength,
-        m.destinationlength,
+        m.source_port,
+        m.destination_port,
+        m.source_length,
+        m.destination_length,
         m.flags,
         k,
         n,

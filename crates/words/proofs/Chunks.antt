@@ -64,17 +64,6 @@ left-next k s t x pos z g = ap (whole k) g.1.0 ∙ whole-next k x.now t.rest.now
 pub left-none : (k : ℕ) (s t : ChunksExact ℕ) → s.size ≡ k → chunks_exact_steps s None t → left k s ≡ []
 left-none k s t z g = whole-none k s.rest.now (omega arith)
 
--- the start of a loop over chunks, from what `chunks_exact` and `into_iter` give
-pub record Begun (k : ℕ) (ws : List ℕ) (s : ChunksExact ℕ) : Type 0 where
-  pub size : s.size ≡ k
-  pub left : left k s ≡ whole k ws
-
-pub begun : (k : ℕ) (ws : List ℕ) (c s : ChunksExact ℕ) → c.rest.now ≡ ws → c.size ≡ k → s ≡ c → Begun k ws s
-begun k ws c s r z p = record {
-  size = ap (λ (y : ChunksExact ℕ). y.size) p ∙ z;
-  left = ap (λ (y : ChunksExact ℕ). left k y) p ∙ ap (whole k) r;
-}
-
 -- the same as rows
 pub rows-next :
     {R : Type 0} (k : ℕ) (read : List ℕ → R) (s t : ChunksExact ℕ) (x : Bor (List ℕ)) → 0 < k → s.size ≡ k → chunks_exact_steps s (Some x) t
@@ -155,13 +144,15 @@ pub returning :
     → (r : Returning k ws s) × (r.given ≡ [])
 returning k ws c s w p r z e =
     let q : c.rest.now ≡ ws = sym (p ∙ ap (λ f. f ++ c.rest.now) (nil_from_length c.rem.now (r ∙ w))) in
-    let n : s.rest.now ≡ ws = ap (λ (y : RChunksExact ℕ). y.rest.now) e ∙ q in
-    (record {
-      size = ap (λ (y : RChunksExact ℕ). y.size) e ∙ z;
-      whole = ap (λ l. length l % k) n ∙ w;
-      given = [];
-      parts = append-nil s.rest.now ∙ n;
-    }, refl)
+    let n : s.rest.now ≡ ws = ap (λ (y : RChunksExact ℕ). y.rest.now) e ∙ q in (
+      record {
+        size = ap (λ (y : RChunksExact ℕ). y.size) e ∙ z;
+        whole = ap (λ l. length l % k) n ∙ w;
+        given = [];
+        parts = append-nil s.rest.now ∙ n;
+      },
+      refl,
+    )
 
 -- a turn: what was given before has the chunk in front of it
 pub returned :
@@ -169,13 +160,15 @@ pub returned :
     → (u : Returning k ws t) × (u.given ≡ x.now ++ r.given)
 returned k ws s t x r g =
     let m : length x.now ≡ k = g.2.1 ∙ r.size in
-    let n : length t.rest.now + k ≡ length s.rest.now = ap (λ j. length t.rest.now + j) (sym m) ∙ sym (length-append t.rest.now x.now) ∙ ap length (sym g.2.0) in
-    (record {
-      size = g.0 ∙ r.size;
-      whole = sym (add-mod_right (length t.rest.now) k) ∙ ap (λ j. j % k) n ∙ r.whole;
-      given = x.now ++ r.given;
-      parts = sym (append_assoc t.rest.now x.now r.given) ∙ ap (λ l. l ++ r.given) (sym g.2.0) ∙ r.parts;
-    }, refl)
+    let n : length t.rest.now + k ≡ length s.rest.now = ap (λ j. length t.rest.now + j) (sym m) ∙ sym (length-append t.rest.now x.now) ∙ ap length (sym g.2.0) in (
+      record {
+        size = g.0 ∙ r.size;
+        whole = sym (add-mod_right (length t.rest.now) k) ∙ ap (λ j. j % k) n ∙ r.whole;
+        given = x.now ++ r.given;
+        parts = sym (append_assoc t.rest.now x.now r.given) ∙ ap (λ l. l ++ r.given) (sym g.2.0) ∙ r.parts;
+      },
+      refl,
+    )
 
 -- its end: all was given
 pub all-given : (k : ℕ) (ws : List ℕ) (s t : RChunksExact ℕ) (r : Returning k ws s) → rchunks_exact_steps s None t → r.given ≡ ws

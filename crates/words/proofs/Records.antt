@@ -1,33 +1,13 @@
--- Records that stand k words apart: the first of those that are left, the words of one, and rows against their words. Assumes nothing.
-use Prim.Native.Nat.{ℕ, zero, suc, ◌+◌, ◌*◌, ◌-◌, ◌/◌, ◌≤◌, ◌<◌}
+-- Records that stand k words apart: how many there are, and rows against their words. Assumes nothing.
+use Prim.Native.Nat.{ℕ, zero, suc, ◌+◌, ◌*◌, ◌/◌, ◌≤◌, ◌<◌}
 use native.Mathlib.Omega.{arith}
 use native.Mathlib.Numerals.{add-one}
 use native.Mathlib.Nat.{add-div_right, div-eq_of_lt}
 use mathlib.Core.Path.{◌≡◌, refl, sym, ap, ap₂, ◌∙◌}
 use mathlib.Core.List.{List, [], ◌∷◌, ◌++◌, append_assoc, map}
-use lib.ListN.{get_or, length, take, drop, length-append, length-drop}
-use lib.Seq.{drop-drop, get_or-take, get_or-drop, take_at, drop_at, take-add, length-take-le}
+use lib.ListN.{length, take, drop, length-append, length-drop}
+use lib.Seq.{drop-drop, take_at, drop_at, take-add, length-take-le}
 use Rattle.words.specs.Records.{records, rows_of, flat}
-
--- the first of the records that are left, as a loop has it, and the others
-pub records-next : (k from left : ℕ) (f : List ℕ) → 0 < left
-    → records left k (drop from f) ≡ take (from + k - from) (drop from f) ∷ records (left - 1) k (drop (from + k) f)
-records-next k from zero f h = absurd (omega arith)
-records-next k from (suc n) f h =
-    let e : from + k - from ≡ k = omega arith in
-    let d : suc n - 1 ≡ n = omega arith in
-    rw (e, d, ← drop-drop k from f)
-
--- a word of a record is a word of the list
-pub record-word : (k from i : ℕ) (f : List ℕ) → i < k → get_or (take (from + k - from) (drop from f)) i 0 ≡ get_or f (from + i) 0
-record-word k from i f h =
-    let e : from + k - from ≡ k = omega arith in
-    rw (e, get_or-take k (drop from f) i 0 h, get_or-drop from f i 0)
-
--- where no record is left there is none
-pub records-none : (k left : ℕ) (f : List ℕ) → left ≤ 0 → records left k f ≡ []
-records-none k zero f h = refl
-records-none k (suc n) f h = absurd (omega arith)
 
 -- there are as many as were asked for
 pub length-records : (n k : ℕ) (f : List ℕ) → length (records n k f) ≡ n

@@ -9,7 +9,7 @@ use borrow.Author.Tests.{ltb-true, lt-ltb}
 use Rattle.field.specs.Prefix.{address_bits, right_prefix}
 use Rattle.field.specs.Value.{right_value}
 use Rattle.flow.specs.Packet.{port_limit, protocol_limit}
-use Rattle.flow.specs.Match.{inport_flag, protocol_flag, sourceport_flag, destinationport_flag, known_flags, constrains, is_plain}
+use Rattle.flow.specs.Match.{in_port_flag, protocol_flag, source_port_flag, destination_port_flag, known_flags, constrains, is_plain}
 use Rattle.flow.specs.declared.Match.{Match}
 use Rattle.logic.proofs.Tests.{and_both, same_test}
 use Rattle.flow.proofs.matches.is_plain.Goals as goal
@@ -29,13 +29,13 @@ below k a b c h =
 abbrev made : Match → Bool
 made m =
     eqb (bit_and m.flags known_flags) m.flags
-    && ltb (bit_or (bit_or m.inport m.sourceport) m.destinationport) port_limit
-    && (constrains inport_flag m || eqb m.inport 0)
+    && ltb (bit_or (bit_or m.in_port m.source_port) m.destination_port) port_limit
+    && (constrains in_port_flag m || eqb m.in_port 0)
     && right_value (constrains protocol_flag m) protocol_limit m.protocol
-    && (constrains sourceport_flag m || eqb m.sourceport 0)
-    && (constrains destinationport_flag m || eqb m.destinationport 0)
-    && right_prefix address_bits m.source m.sourcelength
-    && right_prefix address_bits m.destination m.destinationlength
+    && (constrains source_port_flag m || eqb m.source_port 0)
+    && (constrains destination_port_flag m || eqb m.destination_port 0)
+    && right_prefix address_bits m.source m.source_length
+    && right_prefix address_bits m.destination m.destination_length
 
 -- are those that are defined
 told : (m : Match) → made m ≡ is_plain m
@@ -45,7 +45,7 @@ told m = same_test (made m) (is_plain m) each together
     each : made m ≡ true → is_plain m ≡ true
     each e =
         let h = simp and-eq-true_iff at e in
-        let b = below 16 m.inport m.sourceport m.destinationport (ltb-true _ port_limit h.0.0.0.0.0.0.1) in
+        let b = below 16 m.in_port m.source_port m.destination_port (ltb-true _ port_limit h.0.0.0.0.0.0.1) in
         and_both (and_both (and_both (and_both (and_both (and_both h.0.0.0.0.0.0.0
         (and_both (lt-ltb _ port_limit b.0) h.0.0.0.0.0.1))
         (and_both h.0.0.0.0.1.0 h.0.0.0.0.1.1))
@@ -57,8 +57,8 @@ told m = same_test (made m) (is_plain m) each together
     together : is_plain m ≡ true → made m ≡ true
     together e =
         let h = simp and-eq-true_iff at e in
-        let ports = or_lt 16 m.inport m.sourceport (ltb-true _ port_limit h.0.0.0.0.0.1.0) (ltb-true _ port_limit h.0.0.0.1.0) in
-        let all = or_lt 16 (bit_or m.inport m.sourceport) m.destinationport ports (ltb-true _ port_limit h.0.0.1.0) in
+        let ports = or_lt 16 m.in_port m.source_port (ltb-true _ port_limit h.0.0.0.0.0.1.0) (ltb-true _ port_limit h.0.0.0.1.0) in
+        let all = or_lt 16 (bit_or m.in_port m.source_port) m.destination_port ports (ltb-true _ port_limit h.0.0.1.0) in
         and_both (and_both (and_both (and_both (and_both (and_both (and_both h.0.0.0.0.0.0
         (lt-ltb _ port_limit all))
         h.0.0.0.0.0.1.1)
