@@ -28,8 +28,8 @@ pub fn call_hidden<R: Read, W: Write>(
         × Consumes (R.remaining input.old) (R.remaining input.new) (slice_bytes sent)
         × Appends (W.contents output.old) (W.contents output.new) (hidden_reply sent)) }
 {
-    let count = take_slice(input, table)?;
-    reply_hidden(output, &mut table[..count])
+    let end = take_slice(input, table)?;
+    reply_hidden(output, &mut table[..end])
 }
 
 // Takes the hidden rows out of a table, which is written too.

@@ -5,25 +5,22 @@
 --                                                the words of each function's answer, before the buffers
 --   read_reply, action_reply, compile_reply, scan_reply, number_reply
 --                                                the bytes that each call is answered, with every buffer that was lent for writing
-use Rattle.std.specs.Prelude.{ℕ, ◌%◌, ◌^◌, List, [], ◌∷◌, ◌++◌, length}
+use Rattle.std.specs.Prelude.{ℕ, ◌%◌, ◌^◌, List, [], ◌∷◌, ◌++◌, Result, Ok, Err, length}
 use Rattle.words.specs.Records.{flat}
 use Rattle.words.specs.Bytes.{bytes_of}
 use Rattle.action.specs.Action.{kind_of, rate_of}
 use Rattle.action.specs.declared.Action.{Action}
 use Rattle.action.specs.declared.Law.{Law}
 use Rattle.action.specs.declared.Law.TheVariants.{Unnamed, Commutativity, Associativity}
+use Rattle.refusal.specs.declared.Fault.{Fault}
 use Rattle.refusal.specs.declared.Refusal.{Refusal}
 use Rattle.policy.specs.Read.{read_of, read_refusal}
-use Rattle.policy.specs.declared.Reading.{Reading}
-use Rattle.policy.specs.declared.Reading.TheVariants as reading
+use Rattle.policy.specs.declared.Layout.{Layout}
 use Rattle.tree.specs.Action.{tree_action_of, tree_refusal, given}
-use Rattle.tree.specs.declared.Evaluated.{Evaluated}
 use Rattle.compile.specs.Compile.{answer_of, table_after, scratch_after, compile_refusal, compile_count}
-use Rattle.compile.specs.declared.Compiled.{Compiled}
 use Rattle.table.specs.Scan.{scan_of, scan_number, scan_place, scan_action, scan_tried}
-use Rattle.table.specs.declared.Scanned.{Scanned}
+use Rattle.table.specs.declared.Found.{Found}
 use Rattle.priority.specs.Numbering.{number_of, priorities_after, chain_after, answer_number, answer_place, answer_count}
-use Rattle.priority.specs.declared.Numbered.{Numbered}
 
 -- a number's low 32 bits
 abbrev pub low : ℕ → ℕ
@@ -45,28 +42,28 @@ refusal_words r =
     (((r.number ∷ low r.place ∷ law_number r.law ∷ []) ++ action_words r.first) ++ action_words r.second) ++ action_words r.third
 
 -- the three counts of an accepted file, zeros for a refused one
-unfoldable pub count_words : Reading → List ℕ
-count_words (reading.Accepted l) = low l.operators ∷ low l.atoms ∷ low l.nodes ∷ []
-count_words (reading.Refused r) = 0 ∷ 0 ∷ 0 ∷ []
+unfoldable pub count_words : Result Layout Refusal → List ℕ
+count_words (Ok l) = low l.operators ∷ low l.atoms ∷ low l.nodes ∷ []
+count_words (Err r) = 0 ∷ 0 ∷ 0 ∷ []
 
 -- what reading answers
-unfoldable pub reading_words : Reading → List ℕ
+unfoldable pub reading_words : Result Layout Refusal → List ℕ
 reading_words r = refusal_words (read_refusal r) ++ count_words r
 
 -- the tree's action
-unfoldable pub evaluated_words : Evaluated → List ℕ
+unfoldable pub evaluated_words : Result Action Refusal → List ℕ
 evaluated_words e = refusal_words (tree_refusal e) ++ action_words (given e)
 
 -- what the compile answers
-unfoldable pub compiled_words : Compiled → List ℕ
+unfoldable pub compiled_words : Result ℕ Refusal → List ℕ
 compiled_words c = refusal_words (compile_refusal c) ++ low (compile_count c) ∷ []
 
 -- what the scan finds
-unfoldable pub scanned_words : Scanned → List ℕ
+unfoldable pub scanned_words : Result Found Fault → List ℕ
 scanned_words s = scan_number s ∷ low (scan_place s) ∷ (action_words (scan_action s) ++ low (scan_tried s) ∷ [])
 
 -- what the numbering answers
-unfoldable pub numbered_words : Numbered → List ℕ
+unfoldable pub numbered_words : Result ℕ Fault → List ℕ
 numbered_words n = answer_number n ∷ low (answer_place n) ∷ answer_count n ∷ []
 
 -- the reply to reading a file

@@ -1,5 +1,5 @@
 -- Known bytes that are read, and that are written, one part after the other. Assumes nothing.
-use Rattle.std.proofs.Common.{◌≡◌, refl, sym, ap, ◌∙◌, List, ◌++◌, ℕ, append_assoc, None, Some, Bool, true, false, ◌&&◌, Ok, Err}
+use Rattle.std.proofs.Common.{◌≡◌, sym, ap, ◌∙◌, List, ◌++◌, ℕ, append_assoc, None, Some, Ok, Err}
 use Rattle.std.specs.declared.option.Option.{Option}
 use Rattle.std.specs.declared.result.Result.{Result}
 use Rattle.std.specs.Result.{OnOk}
@@ -22,10 +22,3 @@ pub written_then : {T E : Type 0} (r : Result T E) (a b c : Option (List ℕ)) (
     → OnOk r (Appends a c (xs ++ ys))
 written_then (Ok x) a b c xs ys p q = appends_then a b c xs ys p q
 written_then (Err e) a b c xs ys p q = tt
-
--- what is written in two parts, if both succeed
-pub both_written : (a b c : Option (List ℕ)) (p q : Bool) (xs ys : List ℕ) → (p ≡ true → Appends a b xs) → (q ≡ true → Appends b c ys)
-    → p && q ≡ true → Appends a c (xs ++ ys)
-both_written a b c true true xs ys f g h = appends_then a b c xs ys (f refl) (g refl)
-both_written a b c true false xs ys f g h = cc
-both_written a b c false q xs ys f g h = cc

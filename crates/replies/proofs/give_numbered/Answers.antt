@@ -2,10 +2,10 @@
 use Rattle.replies.specs.Replies.{numbered_words}
 use Rattle.replies.proofs.give_numbered.Goals as goal
 
-pub returns-in-Priorities : goal.returns-in-Priorities
+pub returns-in-Ok : goal.returns-in-Ok
 unfolding numbered_words
-returns-in-Priorities g c = rw c.in-Priorities.is c.give.ensures
+returns-in-Ok g c = rw c.in-Ok.is c.give.ensures
 
-pub returns-in-Refused : goal.returns-in-Refused
+pub returns-in-Err : goal.returns-in-Err
 unfolding numbered_words
-returns-in-Refused g c = rw c.in-Refused.is (rw c.low.ensures at c.give-in-Refused.ensures)
+returns-in-Err g c = rw c.in-Err.is (rw c.low.ensures at c.give-in-Err.ensures)

@@ -2,10 +2,10 @@
 use Rattle.replies.specs.Replies.{scanned_words}
 use Rattle.replies.proofs.give_scanned.Goals as goal
 
-pub returns-in-Found : goal.returns-in-Found
+pub returns-in-Ok : goal.returns-in-Ok
 unfolding scanned_words
-returns-in-Found g c = rw c.in-Found.is (rw (c.kind.ensures.0, c.rate.ensures, c.low.ensures) at c.give.ensures)
+returns-in-Ok g c = rw c.in-Ok.is (rw (c.kind.ensures.0, c.rate.ensures, c.low.ensures) at c.give.ensures)
 
-pub returns-in-Refused : goal.returns-in-Refused
+pub returns-in-Err : goal.returns-in-Err
 unfolding scanned_words
-returns-in-Refused g c = rw c.in-Refused.is (rw c.low-in-Refused.ensures at c.give-in-Refused.ensures)
+returns-in-Err g c = rw c.in-Err.is (rw c.low-in-Err.ensures at c.give-in-Err.ensures)

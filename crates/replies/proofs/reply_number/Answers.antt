@@ -4,7 +4,7 @@ use Rattle.words.specs.Bytes.{bytes_of}
 use Rattle.priority.specs.Numbering.{number_of, priorities_after, chain_after}
 use Rattle.std.proofs.Common.{◌++◌, List, ℕ, length}
 use Rattle.replies.specs.Replies.{numbered_words, number_reply}
-use Rattle.wire.proofs.Known.{both_written}
+use Rattle.wire.proofs.Known.{appends_then, written_then}
 use Rattle.replies.proofs.reply_number.Goals as goal
 
 pub returns-clause-written : goal.returns-clause-written
@@ -15,8 +15,8 @@ returns-clause-written g c =
     let cs = c.args.chain.now in
     let answer : List ℕ = flat bytes_of (numbered_words (number_of t (length ps) (length cs))) in
     let numbers : List ℕ = flat bytes_of (priorities_after t ps cs) in
-    both_written _ _ _ _ _ (answer ++ numbers) (flat bytes_of (chain_after t ps cs))
-    (both_written _ _ _ _ _ answer numbers
-    (rw c.number-numbered.ensures.0 at c.give_numbered.ensures)
-    (rw c.number-numbered.ensures.1 at c.give.ensures))
+    written_then _ _ _ _ (answer ++ numbers) (flat bytes_of (chain_after t ps cs))
+    (appends_then _ _ _ answer numbers
+    (rw c.number-numbered.ensures.0 at c.in_ok-give_numbered.ensures)
+    (rw c.number-numbered.ensures.1 at c.in_ok-give.ensures))
     (rw c.number-numbered.ensures.2 at c.give-2.ensures)
