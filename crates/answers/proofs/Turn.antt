@@ -1,7 +1,9 @@
 -- A call's number is read, then what stands behind it, and the reply is written; of a listing too. Assumes nothing.
-use Rattle.std.proofs.Common.{◌≡◌, refl, Bool, true, false, not, List, ◌++◌, ℕ, ◌≤◌, length, take}
+use Rattle.std.proofs.Common.{◌≡◌, List, ◌++◌, ℕ, ◌≤◌, length, take, Ok, Err}
 use Rattle.std.proofs.lemmas.List.{length-take-le}
 use Rattle.std.specs.declared.option.Option.{Option}
+use Rattle.std.specs.declared.result.Result.{Result}
+use Rattle.std.specs.Result.{OnOk}
 use Rattle.std.specs.Io.KnownBytes.{Appends, Consumes}
 use Rattle.words.specs.Bytes.{bytes_of}
 use Rattle.wire.proofs.Known.{consumes_then}
@@ -9,21 +11,20 @@ use Rattle.wire.specs.Sent.{padding, counted}
 use Rattle.text.specs.Listing.{listing_of}
 use Rattle.answers.specs.Exchange.{text_reply, Exchange, Answered}
 
-pub answered : (a b c o n : Option (List ℕ)) (w k : ℕ) (whole : Bool) (body reply : List ℕ) → not whole ≡ false
-    → (whole ≡ true → Consumes a b (bytes_of w)) → w ≡ k → Consumes b c body → Appends o n reply → Exchange (bytes_of k ++ body) reply
-    → Answered a c o n
-answered a b c o n w k true body reply h f e p q x = record {
+-- what a success says, carried on
+pub on_ok_then : {T E P Q : Type 0} (r : Result T E) → OnOk r P → (P → Q) → OnOk r Q
+on_ok_then (Ok x) p f = f p
+on_ok_then (Err e) p f = tt
+
+pub answered : (a b c o n : Option (List ℕ)) (w k : ℕ) (body reply : List ℕ) → Consumes a b (bytes_of w) → w ≡ k
+    → Consumes b c body → Appends o n reply → Exchange (bytes_of k ++ body) reply → Answered a c o n
+answered a b c o n w k body reply h e p q x = record {
   call = bytes_of k ++ body;
   reply = reply;
   exchange = x;
-  taken = consumes_then a b c (bytes_of k) body (rw (← e) (f refl)) p;
+  taken = consumes_then a b c (bytes_of k) body (rw (← e) h) p;
   written = q;
 }
-answered a b c o n w k false body reply h f e p q x = cc
-
-pub if_whole : {P : Type 0} → (whole : Bool) → not whole ≡ false → (whole ≡ true → P) → P
-if_whole true h f = f refl
-if_whole false h f = cc
 
 -- the first bytes of a buffer are the input that was sent
 pub listed : (a b o n : Option (List ℕ)) (buffer : List ℕ) (count : ℕ) → count ≤ length buffer

@@ -2,7 +2,7 @@
 // What a call and its answer look like stands in tests/README.md.
 #![tactic(auto)]
 
-ghost use Rattle.std.specs.Prelude.{◌≡◌, true, ℕ, List, length};
+ghost use Rattle.std.specs.Prelude.{◌≡◌, ℕ, List, OnOk, length};
 ghost use Rattle.std.specs.Io.KnownBytes.{Appends, Consumes};
 ghost use Rattle.wire.specs.Sent.{padding, counted};
 ghost use Rattle.text.specs.Listing.{listing_of};
@@ -11,7 +11,7 @@ ghost use Rattle.answers.specs.Exchange.{text_reply, Answered};
 use calls::{call_action, call_compile, call_number, call_read, call_scan};
 use passes::call_hidden;
 use std::io;
-use std::io::{BufReader, BufWriter, Read, Write};
+use std::io::{BufReader, BufWriter, ErrorKind, Read, Write};
 use text::LONGEST_LISTING;
 use wire::{give_bytes, take_bytes, take_word};
 
@@ -44,7 +44,8 @@ fn main(rt: HostRuntime) -> io::Result<()> {
     let mut a = blank_words();
     let mut b = blank_words();
     let mut c = blank_words();
-    answer_all(&mut input, &mut output, &mut a, &mut b, &mut c);
+    // The end of the input is an error too, and no run goes on behind one.
+    let _ = answer_all(&mut input, &mut output, &mut a, &mut b, &mut c);
     Ok(())
 }
 
@@ -55,30 +56,27 @@ fn answer_all<R: Read, W: Write>(
     a: &mut Words,
     b: &mut Words,
     c: &mut Words,
-) {
+) -> io::Result<()> {
     for _ in 0..u64::MAX {
-        if !answer(input, output, a, b, c) || output.flush().is_err() {
-            return;
-        }
+        answer(input, output, a, b, c)?;
+        output.flush()?;
     }
+    Ok(())
 }
 
-// Answers one call, whose slices are read into the buffers. False where the input has ended or is no call.
+// Answers one call, whose slices are read into the buffers. An error where the input has ended or is no call.
 fn answer<R: Read, W: Write>(
     input: &mut R,
     output: &mut W,
     a: &mut Words,
     b: &mut Words,
     c: &mut Words,
-) -> bool
-    ensures { result ≡ true → Answered (R.remaining input.old) (R.remaining input.new)
-        (W.contents output.old) (W.contents output.new) }
+) -> io::Result<()>
+    ensures { OnOk result (Answered (R.remaining input.old) (R.remaining input.new)
+        (W.contents output.old) (W.contents output.new)) }
 {
-    let call = take_word(input);
-    if !call.whole {
-        return false;
-    }
-    match call.word {
+    let call = take_word(input)?;
+    match call {
         READ => call_read(input, output, a),
         TREE_ACTION => call_action(input, output, a, b),
         COMPILE => call_compile(input, output, a, b, c),
@@ -86,22 +84,19 @@ fn answer<R: Read, W: Write>(
         NUMBER => call_number(input, output, a, b, c),
         LIST => answer_list(input, output),
         HIDDEN => call_hidden(input, output, a),
-        _ => false,
+        _ => Err(ErrorKind::InvalidData.into()),
     }
 }
 
-fn answer_list<R: Read, W: Write>(input: &mut R, output: &mut W) -> bool
-    ensures { result ≡ true → (b pad : List ℕ) × (length pad ≡ padding (length b))
+fn answer_list<R: Read, W: Write>(input: &mut R, output: &mut W) -> io::Result<()>
+    ensures { OnOk result ((b pad : List ℕ) × (length pad ≡ padding (length b))
         × Consumes (R.remaining input.old) (R.remaining input.new) (counted (length b) b pad)
-        × Appends (W.contents output.old) (W.contents output.new) (text_reply (listing_of b)) }
+        × Appends (W.contents output.old) (W.contents output.new) (text_reply (listing_of b))) }
 {
     let mut bytes = blank_input();
     let mut out = blank_text();
-    let b = take_bytes(input, &mut bytes);
-    if !b.whole {
-        return false;
-    }
-    let end = text::list(&bytes[..b.count], &mut out);
+    let count = take_bytes(input, &mut bytes)?;
+    let end = text::list(&bytes[..count], &mut out);
     give_bytes(output, &out[..end])
 }
 
