@@ -1,12 +1,12 @@
 -- Actions: their kinds and rates, and which two words are an action. Assumes nothing. See docs/FORMAT.md, "Actions".
 --
---   largest_rate, gmb       the largest rate, and GMB's kind
---   kind_of a, rate_of a     the two words of an action
---   is_dont_care a           don't care
---   action_of k n           the action of a kind and a rate, by the list actions n
---   right_rate n            a rate that a GMB may have
---   right_action k n        a kind and a rate that are an action's words
---   in_range a              an action whose rate, where it has one, is right
+--   largest_rate, gmb      the largest rate, and GMB's kind
+--   kind_of a, rate_of a   the two words of an action
+--   is_dont_care a         don't care
+--   action_of k n          the action of a kind and a rate, by the list actions n
+--   right_rate n           a rate that a GMB may have
+--   right_action k n       a kind and a rate that are an action's words
+--   in_range a             an action whose rate, where it has one, is right
 use Rattle.std.specs.Prelude.{ℕ, Bool, true, ◌&&◌, ◌||◌, List, [], ◌∷◌, get_or, eqb, leb, ltb}
 use Rattle.action.specs.declared.Action.{Action}
 use Rattle.action.specs.declared.Action.TheVariants.{DontCare, Allow, Deny, Gmb}

@@ -1,16 +1,16 @@
 -- The laws of an operator, and the finite search for a failure. Assumes nothing. See docs/FORMAT.md, "Laws".
 --
---   Commutative o, Associative o     the laws, over all actions in range
---   same a b                         equal actions
---   commutes o (a, b)                Yes, or the failure that a pair shows; associates o (a, (b, c)) for a triple
---   shown, pairs, triples            the showing actions, and what the search tries, in order
---   product xs ys                    each entry of xs with each of ys, those of xs slowest
---   x else y, along t xs             the first failure of two answers, and along a list
---   first_pair o, first_triple o       the first pair, and the first triple, that shows a failure
---   with_third o a b                  the first triple of a, b and some third
---   law_search o                      the search: pairs, then triples
---   x among xs                       an entry of a list
---   Shows o l a b c                  actions of the list that break the law l
+--   Commutative o, Associative o   the laws, over all actions in range
+--   same a b                       equal actions
+--   commutes o (a, b)              Yes, or the failure that a pair shows; associates o (a, (b, c)) for a triple
+--   shown, pairs, triples          the showing actions, and what the search tries, in order
+--   product xs ys                  each entry of xs with each of ys, those of xs slowest
+--   x else y, along t xs           the first failure of two answers, and along a list
+--   first_pair o, first_triple o   the first pair, and the first triple, that shows a failure
+--   with_third o a b               the first triple of a, b and some third
+--   law_search o                   the search: pairs, then triples
+--   x among xs                     an entry of a list
+--   Shows o l a b c                actions of the list that break the law l
 use Rattle.std.specs.Prelude.{ℕ, ◌≡◌, Bool, true, cond, ◌&&◌, eqb}
 use mathlib.Core.List.{List, [], ◌∷◌, ◌++◌, map, Memᴰ}
 use Rattle.action.specs.Action.{kind_of, rate_of, in_range}

@@ -1,16 +1,16 @@
 -- Operators. An operator is its cells, a list of nine codes: the left action's kind slowest, the right's fastest.
 -- Assumes nothing. See docs/FORMAT.md, "Operators".
 --
---   kinds, cell_count       the kinds that have cells, and the cells
---   cells_of ws             the operator whose cells the first of some words are, by words_from i n ws
---   cell a b               the cell of two actions
---   coded c a b            what the code c gives for two actions, by the list codes a b
---   join o a b             two actions joined
---   sibling, parent        the two operators supplied by name
---   rate_cells              the cells in which both actions have a rate, each with the largest code that is right there
---   largest_code            the largest code that is right in every cell; largest_in rate_cells i in the cell i
---   right_cell i c          a code that is right in the cell i
---   RightCodes o           an operator with right codes
+--   kinds, cell_count   the kinds that have cells, and the cells
+--   cells_of ws         the operator whose cells the first of some words are, by words_from i n ws
+--   cell a b            the cell of two actions
+--   coded c a b         what the code c gives for two actions, by the list codes a b
+--   join o a b          two actions joined
+--   sibling, parent     the two operators supplied by name
+--   rate_cells          the cells in which both actions have a rate, each with the largest code that is right there
+--   largest_code        the largest code that is right in every cell; largest_in rate_cells i in the cell i
+--   right_cell i c      a code that is right in the cell i
+--   RightCodes o        an operator with right codes
 use Rattle.std.specs.Prelude.{ℕ, zero, suc, ◌+◌, ◌-◌, ◌*◌, ◌<◌, max, min, ◌≡◌, Bool, true, cond, ◌&&◌, List, [], ◌∷◌, length, get_or, eqb, leb, ltb}
 use Rattle.action.specs.Action.{kind_of, rate_of, is_dont_care, gmb}
 use Rattle.action.specs.declared.Action.{Action}

@@ -1,9 +1,11 @@
 -- What the walk that builds the table of a tree asks and leaves: the tables of the trees at a place in words, and the
 -- answers of its steps.
 --
---   compile_tree, compile_trees  the table of a tree, and of some children
---   own_at, tree_words, children_words   the tables of a node's own atoms, of a subtree and of some children, in words
---   BuildsBy, Builds           a table was built at a place, and the next place is as told; or there was no room
+--   compile_tree, compile_trees                      the table of a tree, and of some children
+--   own_at, tree_words, children_words               the tables of a node's own atoms, of a subtree and of some
+--                                                    children, in words
+--   BuildsBy, Builds                                 a table was built at a place, and the next place is as told; or
+--                                                    there was no room
 --   NodeBuilt, TreeBuilt, ChildrenBuilt, JoinBuilt   what each step leaves
 --   AtNode, AtPlace, OfNode, OfBuilt                 what each step asks
 use Rattle.std.specs.Prelude.{ℕ, ◌≤◌, ◌<◌, ◌≡◌, List, length, Option, Some, None}

@@ -1,12 +1,13 @@
 -- Some laid part after part: what is still to come, laid over what is there, is the whole. Assumes nothing.
 --
---   Fitted                      words that fit, and where they end
---   made-words, made-full       what each answer tells
---   lays-words, lays-full       a lay with each answer
---   Going                       the whole is laid up to a place, with a rest to come
---   start, step, stop, finish   the ways of a loop that lays part after part; last-part where the rest is one part
---   lays-ends, too_long         where a lay ends; a part that does not fit
---   lays-none, lays-same, lays-case      where nothing is to be laid; equal words, and equal answers
+--   Fitted                            words that fit, and where they end
+--   made-words, made-full             what each answer tells
+--   lays-words, lays-full             a lay with each answer
+--   Going                             the whole is laid up to a place, with a rest to come
+--   start, step, stop, finish         the ways of a loop that lays part after part; last-part where the rest is one
+--                                     part
+--   lays-ends, too_long               where a lay ends; a part that does not fit
+--   lays-none, lays-same, lays-case   where nothing is to be laid; equal words, and equal answers
 use Prim.Native.Nat.{ℕ, ◌+◌, ◌≤◌, ◌<◌}
 use native.Mathlib.Omega.{arith}
 use mathlib.Core.Path.{◌≡◌, refl, sym, ap, subst, ◌∙◌}

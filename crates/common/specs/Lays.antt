@@ -1,8 +1,8 @@
 -- What a function that lays words into a lent buffer answers, and what the buffer then holds. The buffer is as long as
 -- there is room.
 --
---   made_of at F room      the answer where F is laid at a place, and there is so much room
---   Lays at F             F is laid at a place, if there is room for it
+--   made_of at F room   the answer where F is laid at a place, and there is so much room
+--   Lays at F           F is laid at a place, if there is room for it
 use Rattle.std.specs.Prelude.{ℕ, ◌+◌, ◌≤◌, ◌≡◌, cond, List, leb, length, Option, Some, None}
 use Rattle.words.specs.Words.{laid}
 

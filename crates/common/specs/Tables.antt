@@ -1,9 +1,9 @@
 -- Tables in words, and their common rows: the theory's definitions at rows of 11 words. An operator is its list of
 -- cells. See docs/FORMAT.md, "Rows".
 --
---   common_words o r s          the common row of the row r and the row that s holds, none if it is empty
---   common_with_words o r ws     the common rows of the row r and each row of a table
---   common_rows_words o l r      the common rows of two tables
+--   common_words o r s         the common row of the row r and the row that s holds, none if it is empty
+--   common_with_words o r ws   the common rows of the row r and each row of a table
+--   common_rows_words o l r    the common rows of two tables
 use Rattle.std.specs.Prelude.{ℕ, List}
 use Rattle.theory.specs.Rows.{Row, kept, common_row, common_with, common_rows}
 use Rattle.flow.specs.Match.{is_empty, common}

@@ -1,14 +1,16 @@
 -- The compile's one answer for every file and every pair of buffers, and every word of both buffers after it.
 -- See docs/FORMAT.md, "Rows" and "Numbers a caller can get back".
 --
---   room words           the rows that a buffer has room for
---   compiled_rows f l     the rows of an accepted file
---   fine N               the rate of every row lies in its range; fine_words says it of rows in words
---   Compiled             what the compile answers
+--   room words                                          the rows that a buffer has room for
+--   compiled_rows f l                                   the rows of an accepted file
+--   fine N                                              the rate of every row lies in its range; fine_words says it of
+--                                                       rows in words
+--   Compiled                                            what the compile answers
 --   accepted_answer, accepted_table, accepted_scratch   the answer and the buffers for an accepted file
 --   answer_of, table_after, scratch_after               the same for every file
---   Compiles             all three
---   compile_refusal, compile_count   the number, place, law and actions of an answer, and its row count
+--   Compiles                                            all three
+--   compile_refusal, compile_count                      the number, place, law and actions of an answer, and its row
+--                                                       count
 use Rattle.std.specs.Prelude.{ℕ, ◌*◌, ◌-◌, ◌/◌, min, ◌≡◌, Bool, true, cond, ◌&&◌, List, [], ◌∷◌, ◌++◌, ltb, length, take}
 use Rattle.std.specs.Prelude.{Result, Ok, Err, Option, Some, None}
 use Rattle.theory.specs.Rows.{Row}

@@ -1,8 +1,9 @@
 -- What is proved of the compile. Each statement is proved in proofs/ under the name given behind it.
 --
---   RoomExactly            given its scratch, 12 exactly when the rows outnumber the room
---   RowsAnswered           given scratch and room, and rates in range, the rows are answered and stand in the table
---   AnswerTells, AnswersRows  a success answers how many rows the file has: they fit, are right, and stand in the table
+--   RoomExactly                given its scratch, 12 exactly when the rows outnumber the room
+--   RowsAnswered               given scratch and room, and rates in range, the rows are answered and stand in the table
+--   AnswerTells, AnswersRows   a success answers how many rows the file has: they fit, are right, and stand in the
+--                              table
 use Rattle.std.specs.Prelude.{ℕ, ◌*◌, ◌-◌, ◌≤◌, ◌<◌, ◌≡◌, List, ◌++◌, ◌↔◌, Ok, Err, length}
 use Rattle.row.specs.Row.{row_length, RightRow, words_of, InRange, table_rows}
 use Rattle.refusal.specs.Plain.{plain}

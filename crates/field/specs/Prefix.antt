@@ -3,13 +3,13 @@
 -- are compared, as in covers, they are compared as they are, so that a length beyond w covers nothing shorter. See
 -- docs/FORMAT.md, "Matches".
 --
---   leading w n x                the number that the first n of w bits of x make
---   in_prefix w p n x             x lies in p, n
---   zero_beyond w p n             the bits of p beyond the length are 0
---   right_prefix w p n            an address of w bits, a length of at most w, and 0 beyond it
---   prefixes_meet w p m q n       p, m and q, n have an address in common
---   covers w p m q n             p, m is no longer than q, n, and holds all of it
---   longer_address, longer_length  the longer of two prefixes
+--   leading w n x                   the number that the first n of w bits of x make
+--   in_prefix w p n x               x lies in p, n
+--   zero_beyond w p n               the bits of p beyond the length are 0
+--   right_prefix w p n              an address of w bits, a length of at most w, and 0 beyond it
+--   prefixes_meet w p m q n         p, m and q, n have an address in common
+--   covers w p m q n                p, m is no longer than q, n, and holds all of it
+--   longer_address, longer_length   the longer of two prefixes
 use Rattle.std.specs.Prelude.{ℕ, ◌-◌, ◌/◌, ◌%◌, ◌^◌, Bool, cond, ◌&&◌, eqb, leb, ltb}
 
 -- the width of an address

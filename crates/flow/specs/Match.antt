@@ -4,26 +4,27 @@
 -- See docs/FORMAT.md, "Matches".
 --
 --   match_of, match_words   the match that some words are, and its words
---   port_flags             the flags of the two ports
---   known_flags            the flags that may stand together
---   flagged k f           a flag of k is among the flags f; constrains k m: among those of m
---   has_ports q            the protocol q has ports
---   meets_ports on q       no port is constrained, or the protocol q has ports
---   clash f q             the flags f ask for a port, and for the protocol q, which has none; contradicts m: those of m
---   unmet f q             no packet meets a match with the flags f and the protocol q
---   is_empty m             no packet meets m
---   none, is_none m        the empty match of flag 16 in its only right form, and that m's words are its words
---   is_plain m             m is right without flag 16
---   right_match m          the words are right: those of none, or of a plain match
---   fits m p              p meets m if every packet is taken to have ports
---   meets m p             the packet p meets the match m
---   agree a b             no field of the two keeps a packet from meeting both
---   both a b              the two together
---   overlap a b           some packet meets both
---   common a b            the match that exactly the packets meet that meet both
---   inside a b            every packet that meets a meets b
---   SharedPacket a b      a packet in range that meets both
---   LiesIn a b            every packet in range that meets a meets b
+--   port_flags              the flags of the two ports
+--   known_flags             the flags that may stand together
+--   flagged k f             a flag of k is among the flags f; constrains k m: among those of m
+--   has_ports q             the protocol q has ports
+--   meets_ports on q        no port is constrained, or the protocol q has ports
+--   clash f q               the flags f ask for a port, and for the protocol q, which has none; contradicts m: those of
+--                           m
+--   unmet f q               no packet meets a match with the flags f and the protocol q
+--   is_empty m              no packet meets m
+--   none, is_none m         the empty match of flag 16 in its only right form, and that m's words are its words
+--   is_plain m              m is right without flag 16
+--   right_match m           the words are right: those of none, or of a plain match
+--   fits m p                p meets m if every packet is taken to have ports
+--   meets m p               the packet p meets the match m
+--   agree a b               no field of the two keeps a packet from meeting both
+--   both a b                the two together
+--   overlap a b             some packet meets both
+--   common a b              the match that exactly the packets meet that meet both
+--   inside a b              every packet that meets a meets b
+--   SharedPacket a b        a packet in range that meets both
+--   LiesIn a b              every packet in range that meets a meets b
 use Rattle.std.specs.Prelude.{ℕ, ◌+◌, ◌-◌, ◌≡◌, Bool, true, false, cond, not, ◌&&◌, ◌||◌, List, [], ◌∷◌, ◌++◌, eqb, get_or, replicate}
 use Rattle.std.specs.Int.Bits.{bit_and, bit_or}
 use Rattle.field.specs.Prefix.{address_bits, in_prefix, right_prefix, prefixes_meet, covers, longer_address, longer_length}

@@ -2,9 +2,9 @@
 -- port. See docs/FORMAT.md, "Packets".
 --
 --   packet_of, packet_words   the packet that some words are, and its words
---   right_packet             the values are in their ranges
+--   right_packet              the values are in their ranges
 --   right_packet_words        some words are a packet
---   wrong_packet             the number of words that are none
+--   wrong_packet              the number of words that are none
 use Rattle.std.specs.Prelude.{ℕ, ◌^◌, Bool, ◌&&◌, List, [], ◌∷◌, eqb, ltb, get_or, length}
 use Rattle.field.specs.Prefix.{address_bits}
 use Rattle.flow.specs.declared.Packet.{Packet}

@@ -1,9 +1,9 @@
 -- The pass over a table that takes its hidden rows out, for every list of words: its answer, and every word after it.
 -- See docs/FORMAT.md, "Hidden rows".
 --
---   kept_rows ws, kept_words ws       the rows that stay, and their words
---   kept_of ws                       the answer: how many rows stay, or the check's refusal
---   table_kept ws                    the words after it
+--   kept_rows ws, kept_words ws           the rows that stay, and their words
+--   kept_of ws                            the answer: how many rows stay, or the check's refusal
+--   table_kept ws                         the words after it
 --   kept_number, kept_place, kept_count   the number, the place and the row count of an answer; 0 where it has none
 use Rattle.std.specs.Prelude.{ℕ, ◌-◌, List, ◌++◌, Result, Ok, Err, length}
 use Rattle.words.specs.Words.{zeros}

@@ -1,16 +1,16 @@
 -- Text, byte by byte in ASCII: numbers, addresses, actions and rows as a listing shows them. See docs/FORMAT.md,
 -- "The listing".
 --
---   ascii s          the bytes of a quoted text
---   decimal n        a number, with no zero before it
---   number n mark    a number, and the mark behind it
---   value c v        a value that is constrained or not, and a space
---   address a n      an address with its prefix length, and a space
---   match_text m      the values and prefixes of a match
---   action_text a     an action, and the line end
---   line p r         the line of a row r of priority p
---   head n l         the first line, for n rows and l priorities
---   refusal n i      the only line of a refusal: its number and its place
+--   ascii s         the bytes of a quoted text
+--   decimal n       a number, with no zero before it
+--   number n mark   a number, and the mark behind it
+--   value c v       a value that is constrained or not, and a space
+--   address a n     an address with its prefix length, and a space
+--   match_text m    the values and prefixes of a match
+--   action_text a   an action, and the line end
+--   line p r        the line of a row r of priority p
+--   head n l        the first line, for n rows and l priorities
+--   refusal n i     the only line of a refusal: its number and its place
 use Rattle.std.specs.Prelude.{ℕ, zero, suc, ◌+◌, ◌/◌, ◌%◌, Bool, cond, List, [], ◌∷◌, ◌++◌, ltb}
 use Prim.Native.Char.{code}
 use Prim.Native.String.{String, [] as none, ◌∷◌ as ◌then◌}

@@ -1,8 +1,8 @@
 -- What is proved of the lines. A law of the same name in proofs/ proves each statement: line-within proves LineWithin.
 --
---   reads ds                      the number that some digits are, the most significant first
---   Decimal n ds                  ds are digits that read as n, and no zero stands before another digit
---   DecimalReads                  a number of at most 20 digits is written so that it reads back
+--   reads ds                                the number that some digits are, the most significant first
+--   Decimal n ds                            ds are digits that read as n, and no zero stands before another digit
+--   DecimalReads                            a number of at most 20 digits is written so that it reads back
 --   LineWithin, HeadWithin, RefusalWithin   no line is longer than longest_line
 use Rattle.std.specs.Prelude.{ℕ, ◌+◌, ◌-◌, ◌*◌, ◌^◌, ◌≤◌, ◌<◌, ◌≡◌, List, [], ◌∷◌, length, get_or}
 use Prim.Native.Char.{code}

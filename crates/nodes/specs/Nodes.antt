@@ -1,10 +1,10 @@
 -- Where a node, its operators and its atoms stand in a policy file, for every list of words. See docs/FORMAT.md, "The
 -- policy file".
 --
---   first_atom a, root_spot l              where the first atom stands, and the place of the root
---   node_place n left, node_at f left      where the node stands that has so many left, and its words
---   from_operator f i, cells_at f i        the words from the operator of an index on, and its cells
---   atom_words_at f from n                     the words of n atoms
+--   first_atom a, root_spot l           where the first atom stands, and the place of the root
+--   node_place n left, node_at f left   where the node stands that has so many left, and its words
+--   from_operator f i, cells_at f i     the words from the operator of an index on, and its cells
+--   atom_words_at f from n              the words of n atoms
 use Rattle.std.specs.Prelude.{ℕ, ◌+◌, ◌-◌, ◌*◌, ◌/◌, cond, List, [], leb, ltb, get_or, length, take, drop}
 use Rattle.action.specs.Operator.{cells_of}
 use Rattle.section.specs.Numbers.{first_operator, operator_length, atom_length, node_length, most_operators}

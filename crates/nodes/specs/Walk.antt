@@ -1,15 +1,15 @@
 -- A walk over the nodes of an accepted file: at each place, how many nodes are left, and where the next node's atoms
 -- start.
 --
---   layout_of     the layout that a file's counts say
---   list_of       its nodes in order, each with what it holds
---   node_index    the index of the next node
---   atoms_from    the word where the atoms start that the nodes before an index leave
---   Reached      a place that a walk over an accepted file reaches
---   next_spot     the place behind a node's own atoms
---   grown        the trees that stand from a place on
---   tree_at, children_at         the first of them, and the first k of them
---   After        a place behind some trees
+--   layout_of                  the layout that a file's counts say
+--   list_of                    its nodes in order, each with what it holds
+--   node_index                 the index of the next node
+--   atoms_from                 the word where the atoms start that the nodes before an index leave
+--   Reached                    a place that a walk over an accepted file reaches
+--   next_spot                  the place behind a node's own atoms
+--   grown                      the trees that stand from a place on
+--   tree_at, children_at       the first of them, and the first k of them
+--   After                      a place behind some trees
 --   AfterTree, AfterChildren   a place behind the tree at a place, and behind k children
 use Rattle.std.specs.Prelude.{ℕ, ◌+◌, ◌*◌, ◌-◌, ◌≤◌, ◌≡◌, List, Ok, get_or, take, drop}
 use Rattle.theory.specs.Tree.{Forest}

@@ -2,8 +2,8 @@
 --
 --   tenant_atoms, tenant   the tenant of the worked example, by its atoms and as a file
 --   tenant_with i          the same with the operator i inside its root
---   lone o                one operator, no atoms, one node
---   lopsided              an operator that is commutative and not associative
+--   lone o                 one operator, no atoms, one node
+--   lopsided               an operator that is commutative and not associative
 use Rattle.std.specs.Prelude.{ℕ, List, [], ◌∷◌, ◌++◌}
 use Rattle.action.specs.Operator.{sibling, parent}
 

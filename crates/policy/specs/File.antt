@@ -1,12 +1,12 @@
 -- What an accepted file holds: its operators, its atoms and its nodes, and the tree that the nodes are. See
 -- docs/FORMAT.md, "The policy file".
 --
---   PolicyNode, PolicyTree   a node with its operators' cells and its atoms; a tree of such nodes
+--   PolicyNode, PolicyTree      a node with its operators' cells and its atoms; a tree of such nodes
 --   atoms_of_in, atoms_of       the atoms of a file of an edition, each a match and an action; of the newest
---   held                     the nodes, each with its own atoms, taken from where the node before it stopped
+--   held                        the nodes, each with its own atoms, taken from where the node before it stopped
 --   file_nodes_in, file_nodes   the nodes of a file
---   tree_in, tree_of           the tree that they are
---   all_atoms                 the atoms of some nodes, one node's behind the other's
+--   tree_in, tree_of            the tree that they are
+--   all_atoms                   the atoms of some nodes, one node's behind the other's
 use Rattle.std.specs.Prelude.{ℕ, List, [], ◌∷◌, ◌++◌, map, take, drop}
 use Rattle.theory.specs.Rows.{Row}
 use Rattle.theory.specs.Tree.{Tree, Forest, node, bare, ◌▸◌, Node}

@@ -4,10 +4,10 @@
 -- then depth." What is due to a section stands in the crate section, specs/Due.antt, and what place a tree has for a
 -- node in the crate whole. See docs/FORMAT.md, "The policy file" and "Numbers a caller can get back".
 --
---   child_counts_in            the child counts of the nodes of a file of an edition
---   GoodSections             the header and all three sections are good
---   Due e f n at             the refusal n at a place is due to the file f of the edition e
---   FileOrder                a file of any edition gets the refusal that is due
+--   child_counts_in   the child counts of the nodes of a file of an edition
+--   GoodSections      the header and all three sections are good
+--   Due e f n at      the refusal n at a place is due to the file f of the edition e
+--   FileOrder         a file of any edition gets the refusal that is due
 use Rattle.std.specs.Prelude.{ℕ, ◌<◌, ◌≡◌, false, List, map, ◌↔◌, length, Err}
 use Rattle.section.specs.Numbers.{header_length_in, extra_words, no_tree, wrong_sum}
 use Rattle.refusal.specs.Plain.{plain}

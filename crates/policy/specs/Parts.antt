@@ -1,13 +1,13 @@
 -- A policy as its parts, and a file of an edition as the words that they make: the header, and for each section its
 -- count and then its records. What changes a file in its parts needs no places.
 --
---   Parts              the operators, atoms and nodes of a policy, each by its words
---   file_words_in e P    the file that they make
+--   Parts               the operators, atoms and nodes of a policy, each by its words
+--   file_words_in e P   the file that they make
 --   parts_in e f l      the parts of a file of a layout
---   layout_of_parts P    how many there are of each
---   EachLong k rs      each record has k words
---   RightPartsIn e P   the parts are right, but for the laws
---   LawfulPartsIn e P  the operators keep the laws where nodes name them as inner or sibling
+--   layout_of_parts P   how many there are of each
+--   EachLong k rs       each record has k words
+--   RightPartsIn e P    the parts are right, but for the laws
+--   LawfulPartsIn e P   the operators keep the laws where nodes name them as inner or sibling
 use Rattle.std.specs.Prelude.{ℕ, ◌≤◌, ◌<◌, ◌≡◌, true, List, [], ◌∷◌, ◌++◌, map, get_or, length}
 use Rattle.logic.specs.Lists.{All}
 use Rattle.words.specs.Records.{flat}

@@ -2,12 +2,12 @@
 -- stages, or the layout.
 -- See docs/FORMAT.md, "The policy file" and "Numbers a caller can get back".
 --
---   extra_fault             no words stand behind the last node (7)
---   whole_stages            once the sections are good: the end, the tree, the sum and the laws
---   stages, answer         all stages in order
---   Reading                what a file is read as
---   read_as, read_of         the answer, for an edition and for the newest
---   read_refusal               the answer's number, place, law and actions
+--   extra_fault        no words stand behind the last node (7)
+--   whole_stages       once the sections are good: the end, the tree, the sum and the laws
+--   stages, answer     all stages in order
+--   Reading            what a file is read as
+--   read_as, read_of   the answer, for an edition and for the newest
+--   read_refusal       the answer's number, place, law and actions
 use Rattle.std.specs.Prelude.{ℕ, ◌+◌, List, [], ◌∷◌, Result, Ok, Err, leb, get_or, length, drop}
 use Rattle.words.specs.Records.{records}
 use Rattle.section.specs.Numbers.{latest, header_length_in, operator_length_in, atom_length_in, node_length}

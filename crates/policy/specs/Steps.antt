@@ -1,11 +1,11 @@
 -- What the parts of `read` answer, for their own contracts: the stages that are left, the next count standing at a
 -- place.
 --
---   with_whole                      the sections are good
+--   with_whole                       the sections are good
 --   from_nodes, with_nodes           the nodes are still to be read: c of them, or as many as the file says
 --   from_atoms, with_atoms           the atoms too
 --   from_operators, with_operators   all sections
---   from_header                     and the header
+--   from_header                      and the header
 use Rattle.std.specs.Prelude.{ℕ, List, ◌∷◌, get_or}
 use Rattle.section.specs.Sections.{header_fault, behind, section_fault}
 use Rattle.policy.specs.Read.{Reading, whole_stages, layout, answer}

@@ -1,24 +1,25 @@
 -- The numbering of a table: its answer, and every word of both buffers after it. See docs/FORMAT.md, "Priorities" and
 -- "Numbers a caller can get back".
 --
---   short_buffer                   the number of a buffer that is too short
---   over ws j i                   whether rows j and i overlap
---   levels_of ws                   the rows' levels
---   priorities_of ws               the rows' priorities
---   chain_of ws                    the chain
---   numbered x p c l              the answer of l priorities, where the check x passes and the buffers are long enough
---   number_of ws p c               the answer, for buffers of p and c words
---   stored r F buffer             a buffer with the words F at its start, unless the answer r is a refusal
+--   short_buffer                    the number of a buffer that is too short
+--   over ws j i                     whether rows j and i overlap
+--   levels_of ws                    the rows' levels
+--   priorities_of ws                the rows' priorities
+--   chain_of ws                     the chain
+--   numbered x p c l                the answer of l priorities, where the check x passes and the buffers are long
+--                                   enough
+--   number_of ws p c                the answer, for buffers of p and c words
+--   stored r F buffer               a buffer with the words F at its start, unless the answer r is a refusal
 --   priorities_after, chain_after   the priority buffer and the chain buffer afterwards
---   Answered                      the answer and both buffers, together
---   NumbersFit ws ps cs           what the numbering of a table needs: a word for each row, and room for the chain
---   LevelsBefore ws ls i count    what the level of row i needs: the levels of the rows before it, all below count
---   ChainFits ws ls count cs      what the chain needs: the rows' levels, how many there are, and as many words
+--   Answered                        the answer and both buffers, together
+--   NumbersFit ws ps cs             what the numbering of a table needs: a word for each row, and room for the chain
+--   LevelsBefore ws ls i count      what the level of row i needs: the levels of the rows before it, all below count
+--   ChainFits ws ls count cs        what the chain needs: the rows' levels, how many there are, and as many words
 --   answer_number, answer_place     the number and the place of an answer; both are 0 where it is no refusal
---   answer_count                   how many priorities an answer counts; 0 where it is a refusal
---   Ready                         a right table, and neither buffer is shorter than its row count
---   Shared ws j i                 some packet in range matches rows j and i
---   count, priority i, link k     how many priorities, row i's priority and the k-th place of the chain afterwards
+--   answer_count                    how many priorities an answer counts; 0 where it is a refusal
+--   Ready                           a right table, and neither buffer is shorter than its row count
+--   Shared ws j i                   some packet in range matches rows j and i
+--   count, priority i, link k       how many priorities, row i's priority and the k-th place of the chain afterwards
 use Rattle.std.specs.Prelude.{ℕ, ◌≤◌, ◌<◌, ◌≡◌, Bool, cond, ◌&&◌, List, Result, Ok, Err, leb, length, get_or}
 use Rattle.words.specs.Words.{laid}
 use Rattle.theory.specs.Number.{rows_overlap, levels, level_count, priorities, chain}

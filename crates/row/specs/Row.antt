@@ -1,15 +1,15 @@
 -- An atom or a row: 11 words, a match and then an action's kind and rate. See docs/FORMAT.md, "Actions" and "Rows".
 --
---   row_length                       how many words it has
---   most_rows                        the most rows that a table may have
---   row_of, row_words                 the match and the action that some words are, and their words
---   rows_in, words_of                 the rows that some words hold, and the words of rows, one behind the other
---   table_rows n t                   the words of the first n rows of a table
+--   row_length                          how many words it has
+--   most_rows                           the most rows that a table may have
+--   row_of, row_words                   the match and the action that some words are, and their words
+--   rows_in, words_of                   the rows that some words hold, and the words of rows, one behind the other
+--   table_rows n t                      the words of the first n rows of a table
 --   right_row_match, right_row_action   the match is right, the action is right
---   right_row                        a right row: an atom with a right match and a right action, whose match is not
---                                   empty
---   RightRow                        the same of a match and an action
---   InRange                         the rate of a row lies in its range
+--   right_row                           a right row: an atom with a right match and a right action, whose match is not
+--                                       empty
+--   RightRow                            the same of a match and an action
+--   InRange                             the rate of a row lies in its range
 use Rattle.std.specs.Prelude.{ℕ, ◌+◌, ◌*◌, ◌≡◌, Bool, true, false, not, ◌&&◌, List, [], ◌∷◌, ◌++◌, get_or, take}
 use Rattle.words.specs.Records.{rows_of, flat}
 use Rattle.theory.specs.Rows.{Row}

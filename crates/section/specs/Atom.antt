@@ -1,9 +1,9 @@
 -- The atoms of each edition: the row that an atom's words are, and what its edition tests beside.
 --
---   atom_row          the words of a row that the words of an atom are
---   atom_beside       what is tested beside the row
---   right_atom_match   the match of an atom is right
---   right_atom_action  its action is right
+--   atom_row            the words of a row that the words of an atom are
+--   atom_beside         what is tested beside the row
+--   right_atom_match    the match of an atom is right
+--   right_atom_action   its action is right
 use Rattle.std.specs.Prelude.{ℕ, Bool, true, ◌&&◌, List}
 use Rattle.row.specs.Row.{right_row_match, right_row_action}
 use Rattle.section.specs.declared.Edition.{Edition}

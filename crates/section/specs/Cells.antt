@@ -1,6 +1,6 @@
 -- The operators of each edition: which codes its cells may have, and the operator that its words are.
 --
---   right_cell_in    a code that is right in a cell
+--   right_cell_in   a code that is right in a cell
 --   operator_row    the words that the words of an operator are in the newest edition
 --   operator_rows   the same for some operators
 use Rattle.std.specs.Prelude.{ℕ, Bool, List}

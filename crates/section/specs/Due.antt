@@ -5,7 +5,7 @@
 --   Present                  a section: its count is there and within limits, and so are all its records
 --   RightNode, RightHeader   a node's words are right; a file begins with the header of an edition
 --   FirstWrong               the first place that is not right
---   RightRecord, record_at    a record of a section is right; the record at an index
+--   RightRecord, record_at   a record of a section is right; the record at an index
 --   Good                     a section is present, and all its records are right
 --   RecordDue, SectionDue    which refusal is due to a wrong record, and to a section
 --   HeaderDue                which refusal is due to a header

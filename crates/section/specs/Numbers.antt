@@ -1,13 +1,15 @@
 -- The numbers of a policy file, each named once: how many words a record has in each edition, how many records and how
 -- deep, and the refusals. See docs/FORMAT.md, "The policy file" and "Numbers a caller can get back".
 --
---   latest                      the newest edition
---   header_length_in, header_of    the words before the first count
---   operator_length_in, atom_length_in   the words of records, by edition; without In those of the newest
---   node_length, first_operator   the words of a node; the place of the first operator
---   longest_file                 the words of the longest file
+--   latest                                                           the newest edition
+--   header_length_in, header_of                                      the words before the first count
+--   operator_length_in, atom_length_in                               the words of records, by edition; without In those
+--                                                                    of the newest
+--   node_length, first_operator                                      the words of a node; the place of the first
+--                                                                    operator
+--   longest_file                                                     the words of the longest file
 --   most_operators, most_atoms, most_nodes, most_children, deepest   limits
---   short .. law_broken          the refusals 1 to 10
+--   short .. law_broken                                              the refusals 1 to 10
 use Rattle.std.specs.Prelude.{ℕ, ◌+◌, ◌*◌, List, []}
 use Rattle.action.specs.Operator.{cell_count}
 use Rattle.row.specs.Row.{row_length}

@@ -1,16 +1,17 @@
 -- What the sections of a policy file are refused with, for every list of words: the count, then the whole section, then
 -- its records in order. See docs/FORMAT.md, "The policy file" and "Numbers a caller can get back".
 --
---   Test                   what a test comes to: nothing, or a refusal
---   unless, _else_         a refusal where a test is not met; the first of two
---   each                   the first refusal of records, cells or operators in order
+--   Test                         what a test comes to: nothing, or a refusal
+--   unless, _else_               a refusal where a test is not met; the first of two
+--   each                         the first refusal of records, cells or operators in order
 --   record_length, least, most   the words of a section's records; the fewest and the most that it may have
---   header_fault            the header is the edition's
---   count_fault             a section's count is there (1) and within its limits (2)
---   record_fault            an operator's cells (3), an atom's match (4) and then its action (5), a node's words (6)
---   behind                 where a section ends: the next one's count stands there
---   section_fault           the count, then the whole section (1), then its records in order
---   Reaches                a file reaches to a place, and its operators are there
+--   header_fault                 the header is the edition's
+--   count_fault                  a section's count is there (1) and within its limits (2)
+--   record_fault                 an operator's cells (3), an atom's match (4) and then its action (5), a node's words
+--                                (6)
+--   behind                       where a section ends: the next one's count stands there
+--   section_fault                the count, then the whole section (1), then its records in order
+--   Reaches                      a file reaches to a place, and its operators are there
 use Rattle.std.specs.Prelude.{ℕ, ◌+◌, ◌*◌, ◌≤◌, Bool, cond, ◌&&◌, List, [], ◌∷◌, Result, Ok, Err, leb, ltb, get_or, length, drop}
 use Rattle.words.specs.Records.{records}
 use Rattle.refusal.specs.Plain.{plain}

@@ -1,10 +1,10 @@
 -- A table as text: for every list of words, the one text of the rows with their priorities. See docs/FORMAT.md, "The
 -- listing".
 --
---   listing_room         the rows that a listing has room for
---   lines ps rs         rows, each with its priority
---   table_text t         the text of a table: its rows, or the refusal of the numbering
---   rows_text n t        the text of a table t of n rows that is not refused: the head, and a line for each row
+--   listing_room    the rows that a listing has room for
+--   lines ps rs     rows, each with its priority
+--   table_text t    the text of a table: its rows, or the refusal of the numbering
+--   rows_text n t   the text of a table t of n rows that is not refused: the head, and a line for each row
 use Rattle.std.specs.Prelude.{ℕ, List, [], ◌∷◌, ◌++◌, Result, Ok, Err}
 use Rattle.theory.specs.Rows.{Row}
 use Rattle.theory.specs.Number.{level_count}

@@ -1,8 +1,8 @@
 -- What the exported functions take from the library's answers.
 --
 --   read_number, tree_number   the number of a refusal, 0 where there is none
---   tree_action               the tree's action
---   with_action l a           the words l, with an action's kind and rate at their start if there is room
+--   tree_action                the tree's action
+--   with_action l a            the words l, with an action's kind and rate at their start if there is room
 use Rattle.std.specs.Prelude.{ℕ, List, [], ◌∷◌, Result}
 use Rattle.words.specs.Words.{copied}
 use Rattle.action.specs.Action.{kind_of, rate_of}

@@ -1,11 +1,11 @@
 -- The scan of a table for a packet, both as words. See docs/FORMAT.md, "The scan".
 --
---   found k N p             the scan of the rows N, where k rows were tried before them
---   where_right c s          the answer s, where the table is right
---   scan_of ws packet        the scan's answer
+--   found k N p               the scan of the rows N, where k rows were tried before them
+--   where_right c s           the answer s, where the table is right
+--   scan_of ws packet         the scan's answer
 --   scan_number, scan_place   the number and the place of an answer; both are 0 where it is no refusal
 --   scan_action, scan_tried   the action of an answer, and how many rows were tried; don't care and 0 where it is a
---                           refusal
+--                             refusal
 use Rattle.std.specs.Prelude.{ℕ, ◌+◌, cond, List, Result, Ok, Err}
 use Rattle.theory.specs.Rows.{Row, scan, tried}
 use Rattle.flow.specs.Packet.{packet_of, right_packet_words, wrong_packet}

@@ -1,15 +1,15 @@
 -- Tables: rows that stand one behind the other in a list of words, and which tables are right. See docs/FORMAT.md,
 -- "Rows" and "Numbers a caller can get back".
 --
---   wrong_table        the number of a table of a wrong length
---   wrong_row          the number of a wrong row
---   row_count ws       how many rows the words hold
+--   wrong_table       the number of a table of a wrong length
+--   wrong_row         the number of a wrong row
+--   row_count ws      how many rows the words hold
 --   past              stands for a row past the last
---   right_length ws    the words are whole rows, and not too many
---   check_from i rs    of the rows from row i on, the first wrong one, or how many rows there are
---   check_rows ws      the same of all rows
---   check_of ws        the check's answer
---   row_at ws i        the words of row i
+--   right_length ws   the words are whole rows, and not too many
+--   check_from i rs   of the rows from row i on, the first wrong one, or how many rows there are
+--   check_rows ws     the same of all rows
+--   check_of ws       the check's answer
+--   row_at ws i       the words of row i
 --   RightTable ws     what makes a table right
 use Rattle.std.specs.Prelude.{ℕ, suc, ◌*◌, ◌/◌, ◌%◌, ◌≤◌, ◌<◌, ◌≡◌, Bool, true, cond, ◌&&◌, List, [], ◌∷◌, Result, Ok, Err, eqb, leb, length, take, drop}
 use Rattle.words.specs.Records.{records}

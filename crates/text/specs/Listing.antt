@@ -1,14 +1,14 @@
 -- The listing: for every input, however broken, the one text that answers it. See docs/FORMAT.md, "The listing".
 --
---   wrong_input          the number of an input that is no file
---   longest_input        the bytes of the longest file
---   right_input b        whole words, and not more than the longest file has
---   shown_text t         the listing of compiled rows, without the hidden ones
---   file_text f          the listing of a policy file
---   listing_of b         the listing of an input
---   longest_listing      no listing has more bytes
---   ListedRows f n t    the listing of the file f is the text of the n rows t, and there are n priorities
---   ListedKept f t      the listing of the file f has those of the rows t that are not hidden
+--   wrong_input            the number of an input that is no file
+--   longest_input          the bytes of the longest file
+--   right_input b          whole words, and not more than the longest file has
+--   shown_text t           the listing of compiled rows, without the hidden ones
+--   file_text f            the listing of a policy file
+--   listing_of b           the listing of an input
+--   longest_listing        no listing has more bytes
+--   ListedRows f n t       the listing of the file f is the text of the n rows t, and there are n priorities
+--   ListedKept f t         the listing of the file f has those of the rows t that are not hidden
 --   ListsWhole a n l m r   m is l with the listing at its start, up to r: whole, of every input that was read into a
 use Rattle.std.specs.Prelude.{ℕ, ◌+◌, ◌*◌, ◌%◌, ◌≤◌, ◌≡◌, Bool, cond, ◌&&◌, List, Result, Ok, Err, eqb, leb, length, replicate, take}
 use Rattle.refusal.specs.declared.Fault.{Fault}

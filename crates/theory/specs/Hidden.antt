@@ -1,14 +1,14 @@
 -- Hidden rows: a row whose match lies inside one earlier row's match goes, the others stay in order. See
 -- docs/FORMAT.md, "Hidden rows".
 --
---   inside_one          whether a match lies inside that of one of some rows
---   staying_after       of rows that stand behind others, those that lie inside no row before them
---   staying            of a table's rows, those that lie inside no earlier one
---   inside_earlier      whether the row at a place lies inside an earlier row
---   places_where        the places that pass a test, in order
---   Enclosing          asked of `inside`: a packet that meets the inner match meets the outer
---   Nesting            asked of it too: what lies inside a match lies inside all that this one lies inside
---   InsideSome         one of some rows whose match a match lies inside
+--   inside_one       whether a match lies inside that of one of some rows
+--   staying_after    of rows that stand behind others, those that lie inside no row before them
+--   staying          of a table's rows, those that lie inside no earlier one
+--   inside_earlier   whether the row at a place lies inside an earlier row
+--   places_where     the places that pass a test, in order
+--   Enclosing        asked of `inside`: a packet that meets the inner match meets the outer
+--   Nesting          asked of it too: what lies inside a match lies inside all that this one lies inside
+--   InsideSome       one of some rows whose match a match lies inside
 use Rattle.std.specs.Prelude.{ℕ, zero, suc, ◌<◌, ◌≡◌, Bool, true, false, cond, ◌||◌, List, [], ◌∷◌, ◌++◌, get_or, length, take}
 use Rattle.theory.specs.Rows.{Row}
 

@@ -1,12 +1,12 @@
 -- Nodes in file order, parent first and then each child's whole subtree, and the trees that they are. See
 -- docs/FORMAT.md, "The policy file".
 --
---   Listed X                  what a node holds, and its child count
---   take_trees, drop_trees      the first trees of a forest, and the others
---   count_trees                how many trees a forest has
---   plant                     the trees that nodes in file order are
---   list_tree, list_trees       the nodes of a tree, and of a forest, in file order
---   ChildrenFound             every node finds its children
+--   Listed X                 what a node holds, and its child count
+--   take_trees, drop_trees   the first trees of a forest, and the others
+--   count_trees              how many trees a forest has
+--   plant                    the trees that nodes in file order are
+--   list_tree, list_trees    the nodes of a tree, and of a forest, in file order
+--   ChildrenFound            every node finds its children
 use Rattle.std.specs.Prelude.{ℕ, zero, suc, ◌≤◌, List, [], ◌∷◌, ◌++◌}
 use Rattle.theory.specs.Tree.{Tree, Forest, node, bare, ◌▸◌}
 

@@ -1,23 +1,23 @@
 -- The numbering over places: rows are known by place, and `over j i` tests whether rows j and i overlap. See
 -- docs/FORMAT.md, "Priorities".
 --
---   rows_overlap       that test, for the rows of a table
---   FirstPlace        a place is the first that passes a test
---   seek              that place, computed
---   above             the level that the rows before a place give a row
---   levels            the levels of the first n rows
---   level_count        how many levels there are: L
---   priorities        the rows' priorities, from their levels
---   at_level           whether a row has a level
---   first_of_level      the first row of a level
---   overlaps_at        whether a row overlaps another and has a level
---   step_back          the first earlier such row
---   chain_to           the chain that ends at a row
---   chain             the chain that forces L priorities
---   Chained           what makes a chain right
---   Right             what makes a numbering right
---   Obeyed            a switch with such numbers may obey a row
---   has, distinct     whether a list has a number, and its distinct numbers
+--   rows_overlap     that test, for the rows of a table
+--   FirstPlace       a place is the first that passes a test
+--   seek             that place, computed
+--   above            the level that the rows before a place give a row
+--   levels           the levels of the first n rows
+--   level_count      how many levels there are: L
+--   priorities       the rows' priorities, from their levels
+--   at_level         whether a row has a level
+--   first_of_level   the first row of a level
+--   overlaps_at      whether a row overlaps another and has a level
+--   step_back        the first earlier such row
+--   chain_to         the chain that ends at a row
+--   chain            the chain that forces L priorities
+--   Chained          what makes a chain right
+--   Right            what makes a numbering right
+--   Obeyed           a switch with such numbers may obey a row
+--   has, distinct    whether a list has a number, and its distinct numbers
 use Rattle.std.specs.Prelude.{ℕ, zero, suc, ◌-◌, ◌≤◌, ◌<◌, max, ◌≡◌, Bool, true, false, cond, ◌&&◌, List, [], ◌∷◌, ◌++◌, map, get_or, length, eqb}
 use Rattle.theory.specs.Rows.{Row, matches_at}
 

@@ -1,16 +1,16 @@
 -- Tables, that is lists of rows, over any matches and actions: the scan of a table, and the join of two. See
 -- docs/FORMAT.md, "The scan" and "Rows".
 --
---   Row M A        an atom or a row: a match and an action
---   scan           the first matching row's action, or don't care
---   place          the first matching row's place, or the number of rows
---   tried          how many rows the scan tries
---   matches_at      whether the row at a place matches
---   kept           an atom's table
---   common_row      a row of N and a row of N' as one
---   common_with     the common rows of one row and a table
---   common_rows     the common rows of two tables
---   join           two tables joined
+--   Row M A       an atom or a row: a match and an action
+--   scan          the first matching row's action, or don't care
+--   place         the first matching row's place, or the number of rows
+--   tried         how many rows the scan tries
+--   matches_at    whether the row at a place matches
+--   kept          an atom's table
+--   common_row    a row of N and a row of N' as one
+--   common_with   the common rows of one row and a table
+--   common_rows   the common rows of two tables
+--   join          two tables joined
 use Rattle.std.specs.Prelude.{ℕ, suc, Bool, cond, List, [], ◌∷◌, ◌++◌, get_or}
 
 -- An atom or a row: a match, and the action given where it is met. Figure 1: P = M × A.

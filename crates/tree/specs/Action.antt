@@ -3,8 +3,8 @@
 --
 --   eval_tree             eval of Figure 1 on a policy tree
 --   accepted_action       of an accepted file: the packet is tested, then eval
---   action_after         what reading answered, carried on
---   tree_action_of         the tree's action
+--   action_after          what reading answered, carried on
+--   tree_action_of        the tree's action
 --   tree_refusal, given   the refusal and the action of an answer
 use Rattle.std.specs.Prelude.{ℕ, cond, List, Result, Ok, Err}
 use Rattle.theory.specs.Tree.{eval}

@@ -1,7 +1,7 @@
 -- What the steps of the walk give, for their own contracts: a node's own action over the words of its atoms, and what
 -- stands behind a subtree or some children.
 --
---   own_action, with_atom      a node's own action, and one atom before the others
+--   own_action, with_atom    a node's own action, and one atom before the others
 --   TreeGave, ChildrenGave   what the walk gives of a subtree, and of some children
 use Rattle.std.specs.Prelude.{ℕ, ◌≡◌, cond, List}
 use Rattle.words.specs.Records.{rows_of}

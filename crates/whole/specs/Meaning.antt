@@ -1,13 +1,13 @@
 -- What the tests of a whole file mean, in the words of the scope: one tree of the depth allowed, a place for each node,
 -- and laws that are kept. See docs/FORMAT.md, "The policy file".
 --
---   depth, depths          how deep a tree is; the deepest of some trees
---   OneTree                some nodes in file order are those of one tree, no deeper than allowed
---   lacking, ended         how many nodes are lacking behind some nodes; the tree has ended
+--   depth, depths           how deep a tree is; the deepest of some trees
+--   OneTree                 some nodes in file order are those of one tree, no deeper than allowed
+--   lacking, ended          how many nodes are lacking behind some nodes; the tree has ended
 --   nodes_above, HasPlace   how many nodes are above the next one; the tree has a place for a node
 --   operator_at             the cells of the operator at an index
---   KeepsLaws              an operator is commutative and associative over all actions with allowed rates
---   LawsKept               the operators that nodes name as inner or sibling keep the laws
+--   KeepsLaws               an operator is commutative and associative over all actions with allowed rates
+--   LawsKept                the operators that nodes name as inner or sibling keep the laws
 use Rattle.std.specs.Prelude.{ℕ, zero, suc, ◌+◌, ◌≤◌, ◌<◌, max, ◌≡◌, Bool, false, cond, List, [], ◌∷◌, eqb, get_or, length, take}
 use Rattle.theory.specs.Tree.{Tree, Forest, node, bare, ◌▸◌}
 use Rattle.theory.specs.Nodes.{Listed, list_tree}

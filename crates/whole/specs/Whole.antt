@@ -1,11 +1,11 @@
 -- What a file is refused with once its sections are good, by its nodes and operators: the tree, the own-atom counts and
 -- the laws. See docs/FORMAT.md, "The policy file" and "Numbers a caller can get back".
 --
---   node_records            the nodes that a list of words holds
---   shape_fault             the nodes are one tree, no deeper than allowed (8)
---   own_atoms, sum_fault     the own-atom counts add up to the atoms (9)
+--   node_records           the nodes that a list of words holds
+--   shape_fault            the nodes are one tree, no deeper than allowed (8)
+--   own_atoms, sum_fault   the own-atom counts add up to the atoms (9)
 --   names, named           a node, or some node, names an operator as inner or sibling
---   laws_fault              the operators that some node names so keep the laws (10)
+--   laws_fault             the operators that some node names so keep the laws (10)
 --   stacked                the stack that an array is
 use Rattle.std.specs.Prelude.{ℕ, zero, suc, ◌+◌, ◌/◌, pred, Bool, false, cond, ◌&&◌, ◌||◌, List, [], ◌∷◌, Ok, Err, map, eqb, leb, get_or, length}
 use Rattle.action.specs.Operator.{cells_of}
