@@ -1,15 +1,11 @@
 -- The turns of the loops over rows: the first row of those that are left, and then the others. Assumes nothing.
-use Prim.Native.Nat.{ℕ, ◌<◌}
+use Prim.Native.Nat.{ℕ, ◌+◌, ◌-◌, ◌≤◌, ◌<◌}
 use native.Mathlib.Omega.{arith}
 use mathlib.Core.Path.{◌≡◌, sym, ap, ap₂, ◌∙◌}
 use mathlib.Core.Bool.{Bool, true, false, not}
 use mathlib.Core.List.{List, [], ◌++◌}
-use Rattle.words.proofs.Records.{flat_append}
-use Rattle.words.proofs.Chunks.{rows-next, rows-none}
-use Rattle.std.specs.Prelude.{Some, None}
-use Rattle.std.specs.Borrow.{Bor}
-use Rattle.std.specs.Slice.Iter.{chunks_exact_steps}
-use Rattle.std.specs.declared.slice.ChunksExact.{ChunksExact}
+use lib.ListN.{length, take, drop}
+use Rattle.words.proofs.Records.{flat_append, rows_at, rows_end}
 use Rattle.theory.specs.Rows.{Row, kept, common_row, common_with, common_rows}
 use Rattle.flow.specs.Match.{is_empty, overlap, common, match_of}
 use Rattle.flow.specs.declared.Match.{Match}
@@ -46,30 +42,35 @@ module _ (o : List ℕ) (r : Row Match Action) where
         w ∙ ap₂ (λ (m : Match) (a : Action). row_words (record { match = m; action = a })) h₁ h₂ ∙ rw h
 
   -- the common row with the first row of those that are left, and then the others
-  pub common-with-next : (s t : ChunksExact ℕ) (x : Bor (List ℕ)) → s.size ≡ row_length → chunks_exact_steps s (Some x) t
-      → common_with_words o r s.rest.now ≡ common_words o r x.now ++ common_with_words o r t.rest.now
+  pub common-with-next : (ws : List ℕ) (i : ℕ) → i + row_length ≤ length ws
+      → common_with_words o r (drop i ws) ≡ common_words o r (take (i + row_length - i) (drop i ws)) ++ common_with_words o r (drop (i + row_length) ws)
   unfolding common_with_words common_words
-  common-with-next s t x z g =
-      let N : List (Row Match Action) = rows_in t.rest.now in
-      ap (λ N. words_of (common_with common is_empty (operator.join o) r N)) (rows-next row_length row_of s t x some_words z g)
-      ∙ flat_append row_words (kept is_empty (common_row common (operator.join o) r (row_of x.now))) (common_with common is_empty (operator.join o) r N)
+  common-with-next ws i h =
+      let e : i + row_length - i ≡ row_length = omega arith in
+      let N : List (Row Match Action) = rows_in (drop (i + row_length) ws) in
+      rw e
+      (ap (λ N. words_of (common_with common is_empty (operator.join o) r N)) (rows_at row_length row_of some_words ws i h)
+      ∙ flat_append row_words (kept is_empty (common_row common (operator.join o) r (row_of (take row_length (drop i ws)))))
+      (common_with common is_empty (operator.join o) r N))
 
-  pub common-with-end : (s t : ChunksExact ℕ) → s.size ≡ row_length → chunks_exact_steps s None t → common_with_words o r s.rest.now ≡ []
+  pub common-with-end : (ws : List ℕ) (i : ℕ) → length ws < i + row_length → common_with_words o r (drop i ws) ≡ []
   unfolding common_with_words
-  common-with-end s t z g =
-      ap (λ N. words_of (common_with common is_empty (operator.join o) r N)) (rows-none row_length row_of s t z g)
+  common-with-end ws i h = ap (λ N. words_of (common_with common is_empty (operator.join o) r N)) (rows_end row_length row_of some_words ws i h)
 
 module _ (o : List ℕ) where
   -- the common rows of the first row of those that are left, and then of the others
-  pub common-rows-next : (s t : ChunksExact ℕ) (x : Bor (List ℕ)) (right : List ℕ) → s.size ≡ row_length → chunks_exact_steps s (Some x) t
-      → common_rows_words o s.rest.now right ≡ common_with_words o (row_of x.now) right ++ common_rows_words o t.rest.now right
+  pub common-rows-next : (left right : List ℕ) (i : ℕ) → i + row_length ≤ length left
+      → common_rows_words o (drop i left) right
+      ≡ common_with_words o (row_of (take (i + row_length - i) (drop i left))) right ++ common_rows_words o (drop (i + row_length) left) right
   unfolding common_with_words common_rows_words
-  common-rows-next s t x right z g =
-      ap (λ N. words_of (common_rows common is_empty (operator.join o) N (rows_in right))) (rows-next row_length row_of s t x some_words z g)
-      ∙ flat_append row_words (common_with common is_empty (operator.join o) (row_of x.now) (rows_in right))
-      (common_rows common is_empty (operator.join o) (rows_in t.rest.now) (rows_in right))
+  common-rows-next left right i h =
+      let e : i + row_length - i ≡ row_length = omega arith in
+      rw e
+      (ap (λ N. words_of (common_rows common is_empty (operator.join o) N (rows_in right))) (rows_at row_length row_of some_words left i h)
+      ∙ flat_append row_words (common_with common is_empty (operator.join o) (row_of (take row_length (drop i left))) (rows_in right))
+      (common_rows common is_empty (operator.join o) (rows_in (drop (i + row_length) left)) (rows_in right)))
 
-  pub common-rows-end : (s t : ChunksExact ℕ) (right : List ℕ) → s.size ≡ row_length → chunks_exact_steps s None t → common_rows_words o s.rest.now right ≡ []
+  pub common-rows-end : (left right : List ℕ) (i : ℕ) → length left < i + row_length → common_rows_words o (drop i left) right ≡ []
   unfolding common_rows_words
-  common-rows-end s t right z g =
-      ap (λ N. words_of (common_rows common is_empty (operator.join o) N (rows_in right))) (rows-none row_length row_of s t z g)
+  common-rows-end left right i h =
+      ap (λ N. words_of (common_rows common is_empty (operator.join o) N (rows_in right))) (rows_end row_length row_of some_words left i h)

@@ -27,9 +27,12 @@ pub fn common_rows(
         out.old out.new result }
 {
     let mut done = at;
-    // From at up to done stand the common rows of the left rows so far and those of the right.
-    for row in left.chunks_exact(ROW_WORDS) {
-        done = common_with(operator, row, right, out, done)?;
+    let mut i = 0;
+    // From at up to done stand the common rows of the rows in the first i words of the left and
+    // those of the right.
+    while i + ROW_WORDS <= left.len() {
+        done = common_with(operator, &left[i..i + ROW_WORDS], right, out, done)?;
+        i += ROW_WORDS;
     }
     Some(done)
 }
@@ -49,9 +52,12 @@ pub fn common_with(
     let m = read_match(row);
     let a = row_action(row);
     let mut done = at;
-    // From at up to done stand the common rows of the row and the table's rows so far.
-    for other in table.chunks_exact(ROW_WORDS) {
-        done = add_common(operator, m, a, other, out, done)?;
+    let mut i = 0;
+    // From at up to done stand the common rows of the row and the rows in the first i words of the
+    // table.
+    while i + ROW_WORDS <= table.len() {
+        done = add_common(operator, m, a, &table[i..i + ROW_WORDS], out, done)?;
+        i += ROW_WORDS;
     }
     Some(done)
 }
