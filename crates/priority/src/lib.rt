@@ -95,13 +95,11 @@ fn level(table: &[u32], levels: &[u32], i: usize, count: u32) -> u32
 {
     let m = row_match(table, i);
     let mut best = 0;
-    let mut j = i;
-    // The level is the larger of best and what the first j rows ask for.
-    while 0 < j {
+    // The level is the larger of best and what row j and those before it ask for.
+    for j in (0..i).rev() {
         if count <= best {
             return best;
         }
-        j -= 1;
         best = raised(table, m, j, levels[j], best);
     }
     best

@@ -3,15 +3,12 @@ use Rattle.std.proofs.Common.{◌-◌, arith}
 use Rattle.priority.proofs.Back.{back-turn, back_end, back-stop, level-most}
 use Rattle.priority.proofs.level.Goals as goal
 
-pub loop-j-init : goal.loop-j-init
-loop-j-init c = (omega arith, omega arith)
-
 pub returns-then-count-best : goal.returns-then-count-best
 returns-then-count-best c =
     let l = c.loop-j in
     let g = c.args in
     level-most g.table.now g.levels.now g.i _ _ c.requires.3
-    (back-stop g.table.now g.levels.now g.i l.j _ _ l.invariant.1 _ l.invariant.0 c.if-count-best.true c.requires.3)
+    (back-stop g.table.now g.levels.now g.i l.j _ _ l.invariant _ (omega arith) c.if-count-best.true c.requires.3)
 
 pub raised-best-requires : goal.raised-best-requires
 raised-best-requires c = (omega arith, omega (arith, c.requires.3 (c.loop-j.j - 1) (omega arith)))
@@ -19,14 +16,12 @@ raised-best-requires c = (omega arith, omega (arith, c.requires.3 (c.loop-j.j - 
 pub loop-j-preserved : goal.loop-j-preserved
 loop-j-preserved c =
     let l = c.loop-j in
-    let g = c.args in (
-      omega arith,
-      back-turn g.table.now g.levels.now g.i l.j l.best _ l.invariant.1 c.loop-j-test.true _ c.row_match-m.ensures _ c.raised-best.ensures,
-    )
+    let g = c.args in
+    back-turn g.table.now g.levels.now g.i l.j l.best _ l.invariant c.loop-j-test.true _ c.row_match-m.ensures _ c.raised-best.ensures
 
 pub returns : goal.returns
 returns c =
     let l = c.loop-j in
     let g = c.args in
     level-most g.table.now g.levels.now g.i _ _ c.requires.3
-    (back_end g.table.now g.levels.now g.i l.j _ _ l.invariant.1 c.loop-j-test.false)
+    (back_end g.table.now g.levels.now g.i l.j _ _ l.invariant c.loop-j-test.false)
