@@ -88,7 +88,8 @@ fn put_levels(table: &[u32], levels: &mut [u32]) -> u32
 }
 
 // The level of row i, from those of the rows before it, which are below count. It goes back, and stops where no row can
-// raise it.
+// raise it. Inlined into its caller it took up to twice as long.
+#[inline(never)]
 fn level(table: &[u32], levels: &[u32], i: usize, count: u32) -> u32
     requires { LevelsBefore table.now levels.now i count }
     ensures { (result ≡ above (over table.now) levels.now i i) × (result ≤ count) }
