@@ -6,7 +6,7 @@ use native.Mathlib.Nat.{zero-add, add-zero}
 use mathlib.Core.Path.{◌≡◌, refl, sym, ap, ◌∙◌}
 use mathlib.Core.List.{List, [], ◌∷◌, ◌++◌}
 use lib.ListN.{length, get_or, take, set}
-use lib.Seq.{ext_get_or, take_all, take-suc-set}
+use lib.Seq.{ext_get_or, take-suc-set}
 use Rattle.action.specs.Operator.{cell_count, words_from, cells_of}
 
 length-words : (i n : ℕ) (ws : List ℕ) → length (words_from i n ws) ≡ n
@@ -39,10 +39,7 @@ cell-word ws j h = rw zero-add at (word-from 0 cell_count ws j h)
 pub cells-equal : (ws vs : List ℕ) → ((j : ℕ) → j < cell_count → get_or ws j 0 ≡ get_or vs j 0) → cells_of ws ≡ cells_of vs
 cells-equal ws vs h = ext_get_or 0 (cells_of ws) (cells_of vs) (cells-many ws ∙ sym (cells-many vs)) (λ j l. cell-word ws j l ∙ h j l ∙ sym (cell-word vs j l))
 
--- a turn of the loop that reads them, and its end
+-- a turn of the loop that reads them
 module _ (ws cells : List ℕ) (i : ℕ) (first : take i cells ≡ words_from 0 i ws) where
   pub cell-read : (v : ℕ) → i < length cells → v ≡ get_or ws i 0 → take (i + 1) (set cells i v) ≡ words_from 0 (i + 1) ws
   cell-read v h e = rw (add-one, take-suc-set cells i v h, first, e) (rw zero-add at (sym (words_more 0 i ws)))
-
-  pub cells-read : length cells ≡ cell_count → i ≡ cell_count → cells ≡ cells_of ws
-  cells-read l e = sym (take_all i cells (omega arith)) ∙ first ∙ ap (λ n. words_from 0 n ws) e

@@ -1,9 +1,8 @@
 -- Joining: don't care is the identity, and the code's ways through a join are the definition's; by its tests.
-use Prim.Native.Nat.{ℕ, zero, suc, ◌+◌, ◌*◌, ◌-◌, ◌≤◌, ◌<◌}
-use native.Mathlib.Omega.{arith}
-use mathlib.Core.Path.{◌≡◌, refl, sym}
+use Prim.Native.Nat.{ℕ, ◌+◌, ◌*◌, ◌-◌}
+use mathlib.Core.Path.{◌≡◌, refl}
 use mathlib.Core.List.{List}
-use lib.ListN.{length, get_or, get_or-eq_default}
+use lib.ListN.{get_or}
 use borrow.Author.Tests.{eq-eqb, ne_eqb}
 use Rattle.action.specs.Action.{kind_of}
 use Rattle.action.specs.Operator.{kinds, coded, join}
@@ -21,11 +20,6 @@ identity o a = (refl, right a)
     right Allow = refl
     right Deny = refl
     right (Gmb n) = refl
-
--- an index that is 0 or beyond the list gives the default, where that is the first entry too
-pub no-entry : {X : Type 0} (d : X) (l : List X) (i : ℕ) → get_or l 0 d ≡ d → (0 < i → length l ≤ i) → d ≡ get_or l i d
-no-entry d l zero e h = sym e
-no-entry d l (suc i) e h = sym (get_or-eq_default l d (h (omega arith)))
 
 -- the three ways through `join`
 module _ (o : List ℕ) (a b : Action) (k l : ℕ) (p : k ≡ kind_of a) (q : l ≡ kind_of b) where

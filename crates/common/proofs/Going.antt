@@ -1,4 +1,4 @@
--- Some laid part after part: what is still to come, laid over what is there, is the whole. Assumes nothing.
+-- Words laid part after part: what is still to come, laid over what is there, is the whole. Assumes nothing.
 --
 --   Fitted                            words that fit, and where they end
 --   made-words, made-full             what each answer tells

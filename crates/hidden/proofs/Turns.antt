@@ -8,7 +8,7 @@ use mathlib.Core.List.{List, [], ◌∷◌, ◌++◌, append-nil, map}
 use lib.ListN.{length, get_or, take, drop, length-append}
 use lib.Seq.{drop-drop, take_all}
 use Rattle.words.specs.Words.{laid, copied}
-use Rattle.words.proofs.Laid.{laid_none, length-laid, laid_then, take-laid, drop-laid, copied-fits, length-copied}
+use Rattle.words.proofs.Laid.{laid_none, length-laid, laid_then, take-laid, drop-laid, copied-fits}
 use Rattle.words.proofs.Records.{flat_append}
 use Rattle.theory.specs.Rows.{Row}
 use Rattle.theory.specs.Hidden.{inside_one, staying}
@@ -41,10 +41,6 @@ module _ (m : Match) (ys : List (List ℕ)) (whole : Bool) (inv : inside_one ins
 
   pub inside-none : ys ≡ [] → false ≡ whole
   inside-none e = sym (rw e) ∙ inv
-
--- a copy keeps the length
-pub same_after : (to : ℕ) (row table : List ℕ) {table' : List ℕ} → table' ≡ copied to row table → length table' ≡ length table
-same_after to row table e = ap length e ∙ length-copied to row table
 
 -- of the first i rows, those that stay
 abbrev stayed : List ℕ → ℕ → List (Row Match Action)

@@ -1,14 +1,12 @@
 -- An atom has the words of its edition, and of these a row's tests read no more than a row has. Assumes nothing.
-use Prim.Native.Nat.{ℕ, ◌≤◌, ◌<◌}
+use Prim.Native.Nat.{ℕ, ◌<◌}
 use native.Mathlib.Omega.{arith}
-use mathlib.Core.Path.{◌≡◌, sym}
+use mathlib.Core.Path.{◌≡◌}
 use mathlib.Core.List.{List}
-use lib.ListN.{get_or, length, take}
-use lib.Seq.{get_or-take, length-take-le}
+use lib.ListN.{get_or, take}
+use lib.Seq.{get_or-take}
 use Rattle.row.specs.Row.{row_length, right_row_match, right_row_action}
-use Rattle.section.specs.Numbers.{atom_length_in}
 use Rattle.section.specs.Sections.{record_length}
-use Rattle.section.specs.declared.Edition.{Edition}
 use Rattle.section.specs.declared.Edition.TheVariants.{First}
 use Rattle.section.specs.declared.Section.{Section}
 use Rattle.section.specs.declared.Section.TheVariants.{Operators, Atoms, Nodes}
@@ -32,12 +30,6 @@ match-first r =
 pub action-first : (r : List ℕ) → right_row_action (take row_length r) ≡ right_row_action r
 unfolding right_row_action
 action-first r = rw (get_or-take row_length r 9 0 (omega arith), get_or-take row_length r 10 0 (omega arith))
-
-pub row-long : (e : Edition) (r : List ℕ) → e ≡ First → atom_length_in e ≤ length r → row_length ≡ length (take row_length r)
-row-long e r p h = let g : atom_length_in First ≤ length r = rw p at h in sym (length-take-le row_length r g)
-
-pub atom-long : (s : Section) (e : Edition) (n : ℕ) → s ≡ Atoms e → record_length s ≤ n → atom_length_in e ≤ n
-atom-long s e n p h = rw p at h
 
 -- a record has a word at least
 pub record-some : (s : Section) (n : ℕ) → n ≡ record_length s → 0 < n

@@ -11,7 +11,7 @@ use borrow.Author.Tests.{ltb-true, lt-ltb, leb-true, le-leb}
 use Rattle.words.specs.Records.{records}
 use Rattle.words.proofs.Records.{length-records}
 use Rattle.std.specs.Prelude.{Ok}
-use Rattle.section.specs.Numbers.{header_length_in, most_atoms, most_children, wrong_match, wrong_action, wrong_cell, wrong_node}
+use Rattle.section.specs.Numbers.{most_atoms, most_children, wrong_match, wrong_action, wrong_cell, wrong_node}
 use Rattle.section.specs.Sections.{unless, each, cell_fault, cells_fault, atom_fault, node_fault, record_length, least, most, header_fault, count_fault}
 use Rattle.section.specs.Sections.{record_fault, section_fault, inner_of, parent_of, sibling_of, own_of, children_of}
 use Rattle.section.specs.Atom.{right_atom_match, right_atom_action}
@@ -61,10 +61,6 @@ header-passed First f p = refl
 
 pub passed-header : (e : Edition) (f : List ℕ) → RightHeader e f → header_fault e f ≡ Ok tt
 passed-header First f p = refl
-
--- and then the first count may follow
-pub header-long : (e : Edition) (f : List ℕ) → header_fault e f ≡ Ok tt → header_length_in e ≤ length f
-header-long First f p = omega arith
 
 -- a node's indexes and counts
 pub node-fault : (a at : ℕ) (r : List ℕ) → node_fault a at r ≡ Ok tt → RightNode a r

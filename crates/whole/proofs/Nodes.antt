@@ -2,7 +2,7 @@
 use Prim.Native.Nat.{ℕ, ◌<◌}
 use mathlib.Core.Path.{◌≡◌, refl, sym, ap, ◌∙◌}
 use mathlib.Core.Bool.{Bool, true, false, ◌||◌}
-use mathlib.Core.List.{List, [], ◌∷◌}
+use mathlib.Core.List.{List, ◌∷◌}
 use Rattle.action.specs.Operator.{cells_of}
 use Rattle.action.specs.Laws.{law_search}
 use Rattle.action.specs.declared.Lawful.{Lawful}
@@ -33,9 +33,6 @@ operator-long ed = record-some (Operators ed) (operator_length_in ed) refl
 
 pub operators-next : (ed : Edition) (x : List ℕ) (xs : List (List ℕ)) → operator_rows ed (x ∷ xs) ≡ operator_row ed x ∷ operator_rows ed xs
 operators-next First x xs = refl
-
-pub operators-none : (ed : Edition) → operator_rows ed [] ≡ []
-operators-none First = refl
 
 module _ (ns : List (List ℕ)) (i : ℕ) (o : List ℕ) (t : Bool) (e : t ≡ named i ns) where
   pub tested : (l : Lawful) (cells : List ℕ) (x : Test) → t ≡ true → cells ≡ cells_of o → l ≡ law_search cells → x ≡ broken i l → x ≡ operator_fault ns i o

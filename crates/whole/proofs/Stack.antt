@@ -53,11 +53,3 @@ enter w (suc d) k h g =
     (ap₂ (λ x xs. x ∷ xs)
     (get_or-set_other v (suc d) d k 0 (λ e. omega arith) ∙ get_or-set_same w d (get_or w d 0 - 1) 0 (omega arith) ∙ q)
     (stacked-above v d (suc d) k (omega arith) ∙ stacked-above w d d (get_or w d 0 - 1) (omega arith))))
-
-pub settle-none : (w : List ℕ) (d : ℕ) → d ≤ 0 → stacked w d ≡ waiting_nodes (stacked w d)
-settle-none w zero h = refl
-settle-none w (suc d) h = absurd (omega arith)
-
-pub positive : (n : ℕ) → (n ≡ 0 → ⊥) → 0 < n
-positive zero h = absurd (h refl)
-positive (suc n) h = omega arith

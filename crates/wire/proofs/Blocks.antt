@@ -1,7 +1,6 @@
 -- Words of bytes and bytes of words in a buffer that they fill from its start. Assumes nothing.
 use Rattle.std.proofs.Common.{◌≡◌, ap, ◌∙◌, List, [], ◌∷◌, ◌++◌, ℕ, suc, ◌+◌}
-use Rattle.std.proofs.Common.{◌*◌, ◌≤◌, ◌<◌, length, take, get_or, arith, drop_of_length-le, append-nil, drop, ◌-◌}
-use Rattle.std.proofs.Math.Seq.{take-add}
+use Rattle.std.proofs.Common.{◌*◌, ◌≤◌, ◌<◌, length, take, get_or, arith, drop_of_length-le, append-nil, ◌-◌}
 use borrow.Rule.Slice.PartMut.{put_mid}
 use Rattle.std.proofs.lemmas.Slice.{take-put_mid}
 use Rattle.words.specs.Words.{copied}
@@ -34,15 +33,6 @@ bytes_stored words l m e h =
     let n : length (flat bytes_of words) ≡ word_bytes * length words = length-bytes words in
     ap (take (word_bytes * length words)) (e ∙ copied-fits 0 (flat bytes_of words) l (omega arith))
     ∙ take-laid (flat bytes_of words) l (word_bytes * length words) n h
-
--- one more block of words, behind those before it
-pub block_more : (m n : ℕ) (words : List ℕ) → m ≤ n → n ≤ length words
-    → flat bytes_of (take n words) ≡ flat bytes_of (take m words) ++ flat bytes_of (take (n - m) (drop m words))
-block_more m n words h k =
-    let e : n ≡ m + (n - m) = omega arith in
-    ap (λ i. flat bytes_of (take i words)) e
-    ∙ ap (flat bytes_of) (take-add m (n - m) words)
-    ∙ flat_append bytes_of (take m words) (take (n - m) (drop m words))
 
 -- the same of a block that was read
 pub block_read : (a n : ℕ) (xs ys : List ℕ) → n ≡ a + length ys → a ≤ length xs

@@ -1,5 +1,5 @@
 -- Known bytes that are read, and that are written, one part after the other. Assumes nothing.
-use Rattle.std.proofs.Common.{◌≡◌, sym, ap, ◌∙◌, List, ◌++◌, ℕ, append_assoc, None, Some, Ok, Err}
+use Rattle.std.proofs.Common.{sym, ap, ◌∙◌, List, ◌++◌, ℕ, append_assoc, None, Some, Ok, Err}
 use Rattle.std.specs.declared.option.Option.{Option}
 use Rattle.std.specs.declared.result.Result.{Result}
 use Rattle.std.specs.Result.{OnOk}

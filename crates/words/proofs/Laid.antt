@@ -80,10 +80,7 @@ length-copied a F l =
     (λ h. rw (copied-fits a F l h) (length-laid a F l))
     (λ h. rw (copied-not a F l h))
 
--- the loop that copies: its start, a turn, and its end
-pub copy_start : (a : ℕ) (F l : List ℕ) → laid (a + 0) (drop 0 F) l ≡ laid a F l
-copy_start a F l = ap (λ k. laid k F l) (add-zero a)
-
+-- the loop that copies: a turn, and its end
 pub copy-turn : (a i : ℕ) (F l whole : List ℕ) → i < length F → laid (a + i) (drop i F) l ≡ whole
     → laid (a + (i + 1)) (drop (i + 1) F) (set l (a + i) (get_or F i 0)) ≡ whole
 copy-turn a i F l whole h e =
