@@ -1,45 +1,45 @@
 -- The finite search refuses exactly the operators that break a law, at any rates: what holds along the list carries over by a change of rates.
 use Prim.Native.Nat.{ℕ}
 use native.Mathlib.Omega.{arith}
-use mathlib.Core.Path.{◌≡◌, refl}
+use mathlib.Core.Path.{◌≡◌, refl, sym}
+use Rattle.std.specs.Prelude.{Ok, Err}
 use mathlib.Core.Bool.{Bool, true, false, cond}
 use mathlib.Core.List.{List}
 use Rattle.logic.proofs.Tests.{by-test}
 use Rattle.action.specs.Action.{rate_of, in_range}
 use Rattle.action.specs.Operator.{join}
 use Rattle.action.specs.Laws.{◌among◌, Commutative, Associative, same, shown, pairs, triples, commutes, associates, first_pair, first_triple, law_search}
-use Rattle.action.specs.Laws.{Shows}
+use Rattle.action.specs.Laws.{Searched, failure, told, Shows}
 use Rattle.action.specs.Theorems.{SearchExact, SearchShows, ShownInRange}
 use Rattle.action.specs.declared.Action.{Action}
 use Rattle.action.specs.declared.Action.TheVariants.{DontCare, Allow, Deny, Gmb}
-use Rattle.action.specs.declared.Law.{Law}
 use Rattle.action.specs.declared.Law.TheVariants.{Commutativity, Associativity}
-use Rattle.action.specs.declared.Lawful.TheVariants.{Yes, Broken}
-use Rattle.action.proofs.Along.{else-left, else-right, along-yes, yes-along, else-broken, along-broken, all_among}
+use Rattle.action.specs.declared.LawFailure.{LawFailure}
+use Rattle.action.proofs.Along.{else-left, else-right, along-ok, ok-along, else-failure, along-failure, all_among}
 use Rattle.action.proofs.Product.{among-product, product-among}
 use Rattle.action.proofs.Joined.{identity}
 use Rattle.action.proofs.Same.{same-eq, eq-same, unequal}
 use Rattle.action.proofs.Rates.{Shown, Spread, spread, shown_of, commutes-rerate, associates-rerate}
 
-tested : (b : Bool) (l : Law) (x y z : Action) → cond b Yes (Broken l x y z) ≡ Yes → b ≡ true
-tested true l x y z e = refl
-tested false l x y z e = cc
+tested : (b : Bool) (f : LawFailure) → told b f ≡ Ok tt → b ≡ true
+tested true f e = refl
+tested false f e = cc
 
 -- where nothing is found, the laws hold at the actions of the list
-module _ (o : List ℕ) (quiet : law_search o ≡ Yes) where
+module _ (o : List ℕ) (quiet : law_search o ≡ Ok tt) where
   commutes-shown : (u v : Action) → u among shown → v among shown → join o u v ≡ join o v u
   unfolding commutes pairs first_pair law_search
   commutes-shown u v m n =
       same-eq (join o u v) (join o v u)
-      (tested _ _ _ _ _
-      (along-yes (commutes o) pairs (else-left (first_pair o) (first_triple o) quiet) (u, v) (among-product (u, v) shown shown m n)))
+      (tested _ _
+      (along-ok (commutes o) pairs (else-left (first_pair o) (first_triple o) quiet) (u, v) (among-product (u, v) shown shown m n)))
 
   associates-shown : (u v w : Action) → u among shown → v among shown → w among shown → join o (join o u v) w ≡ join o u (join o v w)
   unfolding associates pairs triples first_triple law_search
   associates-shown u v w m n k =
       same-eq (join o (join o u v) w) (join o u (join o v w))
-      (tested _ _ _ _ _
-      (along-yes (associates o) triples (else-right (first_pair o) (first_triple o) quiet) (u, (v, w))
+      (tested _ _
+      (along-ok (associates o) triples (else-right (first_pair o) (first_triple o) quiet) (u, (v, w))
       (among-product (u, (v, w)) shown pairs m (among-product (v, w) shown shown n k))))
 
 by-care : {X : Type 0} (a : Action) → (a ≡ DontCare → X) → (¬ (a ≡ DontCare) → X) → X
@@ -49,7 +49,7 @@ by-care Deny f g = g (λ e. let z : ◌≡◌ {A = ℕ} 0 1 = cc in omega arith)
 by-care (Gmb n) f g = g (λ e. let z : ◌≡◌ {A = ℕ} 0 1 = cc in omega arith)
 
 -- the search is enough: where nothing is found the laws hold, at all rates
-pub quiet-commutative : (o : List ℕ) → law_search o ≡ Yes → (a b : Action) → join o a b ≡ join o b a
+pub quiet-commutative : (o : List ℕ) → law_search o ≡ Ok tt → (a b : Action) → join o a b ≡ join o b a
 quiet-commutative o quiet a b =
     by-care a
     (λ e. rw (e, (identity o b).0, (identity o b).1))
@@ -62,7 +62,7 @@ quiet-commutative o quiet a b =
     commutes-rerate s.f s.rising o x.from y.from a b x.becomes y.becomes
     (commutes-shown o quiet x.from y.from x.listed y.listed)))
 
-pub quiet-associative : (o : List ℕ) → law_search o ≡ Yes → (a b c : Action) → join o (join o a b) c ≡ join o a (join o b c)
+pub quiet-associative : (o : List ℕ) → law_search o ≡ Ok tt → (a b c : Action) → join o (join o a b) c ≡ join o a (join o b c)
 quiet-associative o quiet a b c =
     by-care a
     (λ e. rw (e, (identity o b).0, (identity o (join o b c)).0))
@@ -83,23 +83,23 @@ pub shown-in-range : ShownInRange
 unfolding shown in_range
 shown-in-range = all_among in_range shown refl
 
-kept : (x y : Action) (l : Law) (a b c : Action) → x ≡ y → cond (same x y) Yes (Broken l a b c) ≡ Yes
-kept x y l a b c e = rw (eq-same x y e)
+kept : (x y : Action) (f : LawFailure) → x ≡ y → told (same x y) f ≡ Ok tt
+kept x y f e = rw (eq-same x y e)
 
-pub lawful-quiet : (o : List ℕ) → Commutative o → Associative o → law_search o ≡ Yes
+pub lawful-quiet : (o : List ℕ) → Commutative o → Associative o → law_search o ≡ Ok tt
 unfolding commutes associates pairs triples first_pair first_triple law_search
-lawful-quiet o commutative associative = rw (yes-along (commutes o) pairs pair) (yes-along (associates o) triples triple)
+lawful-quiet o commutative associative = rw (ok-along (commutes o) pairs pair) (ok-along (associates o) triples triple)
   where
-    pair : (p : Action × Action) → p among pairs → commutes o p ≡ Yes
+    pair : (p : Action × Action) → p among pairs → commutes o p ≡ Ok tt
     pair p m =
         let h = product-among p shown shown m in
-        kept _ _ _ _ _ _ (commutative p.0 p.1 (shown-in-range _ h.0) (shown-in-range _ h.1))
+        kept _ _ _ (commutative p.0 p.1 (shown-in-range _ h.0) (shown-in-range _ h.1))
 
-    triple : (t : Action × (Action × Action)) → t among triples → associates o t ≡ Yes
+    triple : (t : Action × (Action × Action)) → t among triples → associates o t ≡ Ok tt
     triple t m =
         let h = product-among t shown pairs m in
         let k = product-among t.1 shown shown h.1 in
-        kept _ _ _ _ _ _
+        kept _ _ _
         (associative t.0 t.1.0 t.1.1 (shown-in-range _ h.0) (shown-in-range _ k.0) (shown-in-range _ k.1))
 
 -- both together, of which neither asks for right codes
@@ -110,37 +110,36 @@ search-exact o right = (
 )
 
 -- what the search names breaks the law: by the entry that shows it
-broken : (P : Law → Action → Action → Action → Type 0) (x y : Action) (k : Law) (u v w : Action) {l : Law} {a b c : Action}
-    → (¬ (x ≡ y) → P k u v w) → cond (same x y) Yes (Broken k u v w) ≡ Broken l a b c → P l a b c
-broken P x y k u v w {l} {a} {b} {c} f e =
+broken : (P : LawFailure → Type 0) (x y : Action) (g : LawFailure) {f : LawFailure} → (¬ (x ≡ y) → P g) → told (same x y) g ≡ Err f → P f
+broken P x y g {f} p e =
     by-test (same x y)
-    (λ t. let z : Yes ≡ Broken l a b c = rw t at e in let n : ◌≡◌ {A = ℕ} 0 1 = cc in absurd (omega arith))
+    (λ t. let z : ◌≡◌ {A = Searched} (Ok tt) (Err f) = rw t at e in let n : ◌≡◌ {A = ℕ} 0 1 = cc in absurd (omega arith))
     (λ t.
-    let z : Broken k u v w ≡ Broken l a b c = rw t at e in
-    let p : l ≡ k = cc in
-    let q : a ≡ u = cc in
-    let r : b ≡ v = cc in
-    let s : c ≡ w = cc in
-    rw (p, q, r, s) (f (unequal x y t)))
+    let z : ◌≡◌ {A = Searched} (Err g) (Err f) = rw t at e in
+    let q : g ≡ f = cc in
+    rw (← q) (p (unequal x y t)))
 
 pub search-shows : SearchShows
 unfolding commutes associates pairs triples first_pair first_triple law_search
-search-shows o l a b c e =
-    else-broken (first_pair o) (first_triple o) l a b c
-    (along-broken (commutes o) pairs l a b c pair)
-    (along-broken (associates o) triples l a b c triple)
+search-shows o f e =
+    else-failure (first_pair o) (first_triple o) f
+    (along-failure (commutes o) pairs f pair)
+    (along-failure (associates o) triples f triple)
     e
   where
-    pair : (p : Action × Action) → p among pairs → commutes o p ≡ Broken l a b c → Shows o l a b c
+    Breaks : LawFailure → Type 0
+    Breaks g = Shows o g.law g.first g.second g.third
+
+    pair : (p : Action × Action) → p among pairs → commutes o p ≡ Err f → Breaks f
     pair p m =
         let (u, v) = p in
         let h = product-among p shown shown m in
-        broken (Shows o) (join o u v) (join o v u) Commutativity u v DontCare (λ n. (h.0, h.1, refl, n))
+        broken Breaks (join o u v) (join o v u) (failure Commutativity u v DontCare) (λ n. (h.0, h.1, refl, n))
 
-    triple : (t : Action × (Action × Action)) → t among triples → associates o t ≡ Broken l a b c → Shows o l a b c
+    triple : (t : Action × (Action × Action)) → t among triples → associates o t ≡ Err f → Breaks f
     triple t m =
         let (u, p) = t in
         let (v, w) = p in
         let h = product-among t shown pairs m in
         let k = product-among p shown shown h.1 in
-        broken (Shows o) (join o (join o u v) w) (join o u (join o v w)) Associativity u v w (λ n. (h.0, k.0, k.1, n))
+        broken Breaks (join o (join o u v) w) (join o u (join o v w)) (failure Associativity u v w) (λ n. (h.0, k.0, k.1, n))

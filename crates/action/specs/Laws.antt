@@ -2,25 +2,28 @@
 --
 --   Commutative o, Associative o   the laws, over all actions in range
 --   same a b                       equal actions
---   commutes o (a, b)              Yes, or the failure that a pair shows; associates o (a, (b, c)) for a triple
+--   failure l a b c                a broken law and the actions that show it
+--   Searched                       what a search finds: nothing, or a failure
+--   told kept f                    nothing where a law is kept, else its failure
+--   commutes o (a, b)              nothing, or the failure that a pair shows; associates o (a, (b, c)) for a triple
 --   shown, pairs, triples          the showing actions, and what the search tries, in order
 --   product xs ys                  each entry of xs with each of ys, those of xs slowest
 --   x else y, along t xs           the first failure of two answers, and along a list
 --   first_pair o, first_triple o   the first pair, and the first triple, that shows a failure
---   with_third o a b               the first triple of a, b and some third
+--   with_second o a                the first pair of a and some second
+--   with_pair o a                  the first triple of a and some pair; with_third o a b that of a, b and some third
 --   law_search o                   the search: pairs, then triples
 --   x among xs                     an entry of a list
 --   Shows o l a b c                actions of the list that break the law l
-use Rattle.std.specs.Prelude.{ℕ, ◌≡◌, Bool, true, cond, ◌&&◌, eqb}
+use Rattle.std.specs.Prelude.{ℕ, ◌≡◌, Bool, true, cond, ◌&&◌, eqb, Result, Ok, Err}
 use mathlib.Core.List.{List, [], ◌∷◌, ◌++◌, map, Memᴰ}
 use Rattle.action.specs.Action.{kind_of, rate_of, in_range}
 use Rattle.action.specs.Operator.{join}
 use Rattle.action.specs.declared.Action.{Action}
 use Rattle.action.specs.declared.Action.TheVariants.{DontCare, Allow, Deny, Gmb}
 use Rattle.action.specs.declared.Law.{Law}
-use Rattle.action.specs.declared.Law.TheVariants.{Unnamed, Commutativity, Associativity}
-use Rattle.action.specs.declared.Lawful.{Lawful}
-use Rattle.action.specs.declared.Lawful.TheVariants.{Yes, Broken}
+use Rattle.action.specs.declared.Law.TheVariants.{Commutativity, Associativity}
+use Rattle.action.specs.declared.LawFailure.{LawFailure}
 
 -- commutative over all actions in range
 abbrev pub Commutative : List ℕ → Type 0
@@ -36,16 +39,30 @@ Associative o =
 abbrev pub same : Action → Action → Bool
 same a b = eqb (kind_of a) (kind_of b) && eqb (rate_of a) (rate_of b)
 
--- Yes, or the failure of commutativity that a pair shows
-unfoldable pub commutes : List ℕ → Action × Action → Lawful
-commutes o p = let (a, b) = p in cond (same (join o a b) (join o b a)) Yes (Broken Commutativity a b DontCare)
+-- a broken law and the actions that show it
+abbrev pub failure : Law → Action → Action → Action → LawFailure
+failure l a b c = record { law = l; first = a; second = b; third = c }
 
--- Yes, or the failure of associativity that a triple shows
-unfoldable pub associates : List ℕ → Action × (Action × Action) → Lawful
+-- what a search finds: nothing, or a failure
+abbrev pub Searched : Type 0
+Searched = Result (Unit {0}) LawFailure
+
+-- nothing where a law is kept, else its failure
+abbrev pub told : Bool → LawFailure → Searched
+told kept f = cond kept (Ok tt) (Err f)
+
+-- nothing, or the failure of commutativity that a pair shows
+unfoldable pub commutes : List ℕ → Action × Action → Searched
+commutes o p =
+    let (a, b) = p in
+    told (same (join o a b) (join o b a)) (failure Commutativity a b DontCare)
+
+-- nothing, or the failure of associativity that a triple shows
+unfoldable pub associates : List ℕ → Action × (Action × Action) → Searched
 associates o t =
     let (a, p) = t in
     let (b, c) = p in
-    cond (same (join o (join o a b) c) (join o a (join o b c))) Yes (Broken Associativity a b c)
+    told (same (join o (join o a b) c) (join o a (join o b c))) (failure Associativity a b c)
 
 -- the showing actions
 unfoldable pub shown : List Action
@@ -66,29 +83,37 @@ triples = product shown pairs
 
 -- the first of two answers that is a failure
 infixr 20 ◌else◌
-abbrev pub ◌else◌ : Lawful → Lawful → Lawful
-◌else◌ Yes y = y
-◌else◌ (Broken l a b c) y = Broken l a b c
+abbrev pub ◌else◌ : Searched → Searched → Searched
+◌else◌ (Ok u) y = y
+◌else◌ (Err f) y = Err f
 
 -- the first failure along a list
-abbrev pub along : {X : Type 0} → (X → Lawful) → List X → Lawful
-along t [] = Yes
+abbrev pub along : {X : Type 0} → (X → Searched) → List X → Searched
+along t [] = Ok tt
 along t (x ∷ xs) = t x else along t xs
 
 -- the first pair that breaks commutativity
-unfoldable pub first_pair : List ℕ → Lawful
+unfoldable pub first_pair : List ℕ → Searched
 first_pair o = along (commutes o) pairs
 
 -- the first triple that breaks associativity
-unfoldable pub first_triple : List ℕ → Lawful
+unfoldable pub first_triple : List ℕ → Searched
 first_triple o = along (associates o) triples
 
+-- the first pair of an action and some second that breaks commutativity
+unfoldable pub with_second : List ℕ → Action → Searched
+with_second o a = along (λ b. commutes o (a, b)) shown
+
+-- the first triple of an action and some pair that breaks associativity
+unfoldable pub with_pair : List ℕ → Action → Searched
+with_pair o a = along (λ p. associates o (a, p)) pairs
+
 -- the first triple of two actions and some third that breaks it
-unfoldable pub with_third : List ℕ → Action → Action → Lawful
+unfoldable pub with_third : List ℕ → Action → Action → Searched
 with_third o a b = along (λ c. associates o (a, (b, c))) shown
 
 -- the search
-unfoldable pub law_search : List ℕ → Lawful
+unfoldable pub law_search : List ℕ → Searched
 law_search o = first_pair o else first_triple o
 
 -- an entry of a list
@@ -98,7 +123,6 @@ x among xs = Memᴰ x xs
 
 -- actions of the list that break a law; for a pair the third is don't care
 abbrev pub Shows : List ℕ → Law → Action → Action → Action → Type 0
-Shows o Unnamed a b c = ⊥
 Shows o Commutativity a b c = (a among shown) × (b among shown) × (c ≡ DontCare) × ¬ (join o a b ≡ join o b a)
 Shows o Associativity a b c =
     (a among shown) × (b among shown) × (c among shown) × ¬ (join o (join o a b) c ≡ join o a (join o b c))

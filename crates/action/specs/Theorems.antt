@@ -1,28 +1,27 @@
 -- What is proved of actions, operators and the search: a statement each.
 --
---   SearchExact        the search answers Yes exactly where both laws hold over all actions in range
+--   SearchExact        the search finds nothing exactly where both laws hold over all actions in range
 --   SearchShows        the actions that it names come from the list and break the law that it names
 --   ShownInRange       the actions of the list are in range
 --   Identity           don't care is the identity of every operator, on both sides
 --   ActionOfWords      an action is what its two words say
 --   WordsOfAction      two right words are the words of the action that they say
 --   RightWords         an action has right words exactly where it is in range
-use Rattle.std.specs.Prelude.{ℕ, ◌≡◌, ◌↔◌, true, List}
+use Rattle.std.specs.Prelude.{ℕ, ◌≡◌, ◌↔◌, true, List, Ok, Err}
 use Rattle.action.specs.Action.{kind_of, rate_of, action_of, right_action, in_range}
 use Rattle.action.specs.Operator.{join, RightCodes}
 use Rattle.action.specs.Laws.{Commutative, Associative, ◌among◌, shown, law_search, Shows}
 use Rattle.action.specs.declared.Action.{Action}
 use Rattle.action.specs.declared.Action.TheVariants.{DontCare}
-use Rattle.action.specs.declared.Law.{Law}
-use Rattle.action.specs.declared.Lawful.TheVariants.{Yes, Broken}
+use Rattle.action.specs.declared.LawFailure.{LawFailure}
 
 -- the search refuses exactly the operators that break a law at any allowed rates
 abbrev pub SearchExact : Type 0
-SearchExact = (o : List ℕ) → RightCodes o → (law_search o ≡ Yes) ↔ (Commutative o × Associative o)
+SearchExact = (o : List ℕ) → RightCodes o → (law_search o ≡ Ok tt) ↔ (Commutative o × Associative o)
 
 -- what the search names are actions of the list, and they break the law that it names, whatever the operator's codes
 abbrev pub SearchShows : Type 0
-SearchShows = (o : List ℕ) (l : Law) (a b c : Action) → law_search o ≡ Broken l a b c → Shows o l a b c
+SearchShows = (o : List ℕ) (f : LawFailure) → law_search o ≡ Err f → Shows o f.law f.first f.second f.third
 
 -- the actions of the list are in range
 abbrev pub ShownInRange : Type 0

@@ -1,12 +1,13 @@
 // Actions, operators, how an operator joins two actions, and the search for a broken law.
 #![tactic(auto)]
 
-ghost use Rattle.std.specs.Prelude.{◌≡◌, ◌≤◌, max, min, get_or};
+ghost use Rattle.std.specs.Prelude.{◌≡◌, ◌≤◌, max, min};
 ghost use Rattle.action.specs.Action.{kind_of, rate_of, action_of, right_action};
 ghost use Rattle.action.specs.Operator.{kinds, cells_of, coded, join, sibling, parent};
 ghost use Rattle.action.specs.Operator.{rate_cells, largest_in, right_cell};
-ghost use Rattle.action.specs.Laws.{shown, first_pair, first_triple, with_third, law_search};
+ghost use Rattle.action.specs.Laws.{first_pair, with_second, first_triple, with_pair, with_third, law_search};
 
+use std::array;
 use words::word;
 
 // The largest rate, in kbit/s.
@@ -30,17 +31,33 @@ const KINDS: u32 = GMB;
 // The ninth cell, in which both actions have a rate.
 const RATE_CELL: usize = CELLS - 1;
 
+// What a cell's code gives: an action of its own, one of the two that meet, or a GMB of the larger or the smaller rate.
+const GIVES_ALLOW: u32 = 1;
+
+const GIVES_DENY: u32 = 2;
+
+const GIVES_LEFT: u32 = 3;
+
+const GIVES_RIGHT: u32 = 4;
+
+const GIVES_LARGER: u32 = 5;
+
+const GIVES_SMALLER: u32 = 6;
+
 // The largest code that is right in every cell.
-const LARGEST_CODE: u32 = 4;
+const LARGEST_CODE: u32 = GIVES_RIGHT;
 
 // The largest code that is right in the ninth cell.
-const LARGEST_RATE_CODE: u32 = 6;
+const LARGEST_RATE_CODE: u32 = GIVES_SMALLER;
 
-// How many actions the search takes.
-const SHOWN: usize = 5;
-
-// How many pairs they make.
-const PAIRS: usize = SHOWN * SHOWN;
+// The actions that the search takes, in list order.
+static SHOWN: [Action; 5] = [
+    Action::Allow,
+    Action::Deny,
+    Action::Gmb(1),
+    Action::Gmb(2),
+    Action::Gmb(3),
+];
 
 #[derive(Clone, Copy, PartialEq, Eq)]
 pub enum Action {
@@ -53,6 +70,48 @@ pub enum Action {
 impl Action {
     // The identity of every operator.
     pub const DONT_CARE: Action = Action::DontCare;
+
+    // The number of its kind.
+    pub fn kind(self) -> u32
+        ensures { (result ≡ kind_of self) × (result ≤ kinds) }
+    {
+        match self {
+            Action::DontCare => DONT_CARE,
+            Action::Allow => ALLOW,
+            Action::Deny => DENY,
+            Action::Gmb(_) => GMB,
+        }
+    }
+
+    // Its rate, 0 where it has none.
+    pub fn rate(self) -> u32
+        ensures { result ≡ rate_of self }
+    {
+        match self {
+            Action::DontCare | Action::Allow | Action::Deny => 0,
+            Action::Gmb(rate) => rate,
+        }
+    }
+
+    // The action of a kind and a rate. A kind that is not known gives don't care.
+    #[tactic(auto, unfolding(crate::specs::Action::action_of))]
+    pub fn from_words(kind: u32, rate: u32) -> Action
+        ensures { result ≡ action_of kind rate }
+    {
+        match kind {
+            ALLOW => Action::Allow,
+            DENY => Action::Deny,
+            GMB => Action::Gmb(rate),
+            _ => Action::DONT_CARE,
+        }
+    }
+
+    // Whether two words are an action's: a kind, a rate that is not too large, and a rate other than 0 for GMB alone.
+    pub fn right_words(kind: u32, rate: u32) -> bool
+        ensures { result ≡ right_action kind rate }
+    {
+        (kind <= GMB) & (rate <= LARGEST_RATE) & ((kind == GMB) == (rate != 0))
+    }
 }
 
 // The codes of the cells: the left action's kind slowest, the right's fastest.
@@ -61,19 +120,20 @@ pub struct Operator {
     pub cells: [u32; CELLS],
 }
 
-// Unnamed is no law, as in every answer that is no failure of one.
-#[derive(Clone, Copy)]
+// The laws that an operator has to keep.
+#[derive(Clone, Copy, PartialEq, Eq)]
 pub enum Law {
-    Unnamed,
     Commutativity,
     Associativity,
 }
 
-// Whether an operator keeps the laws, or the first failure: the law, and the actions that show it.
-#[derive(Clone, Copy)]
-pub enum Lawful {
-    Yes,
-    Broken(Law, Action, Action, Action),
+// A broken law and the actions that show it. Two show that an operator is not commutative: the third is don't care.
+#[derive(Clone, Copy, PartialEq, Eq)]
+pub struct LawFailure {
+    pub law: Law,
+    pub first: Action,
+    pub second: Action,
+    pub third: Action,
 }
 
 impl Operator {
@@ -99,6 +159,15 @@ impl Operator {
         Operator::PARENT
     }
 
+    // The operator whose cells the first words are. Words that are missing count as 0.
+    pub fn from_words(words: &[u32]) -> Operator
+        ensures { result.cells ≡ cells_of words.now }
+    {
+        Operator {
+            cells: array::from_fn(|i| word(words, i)),
+        }
+    }
+
     // Two actions joined.
     pub fn join(self, left: Action, right: Action) -> Action
         ensures { result ≡ join self.cells left right }
@@ -107,13 +176,11 @@ impl Operator {
     }
 
     // The first pair that breaks commutativity, or else the first triple that breaks associativity.
-    pub fn law_search(self) -> Lawful
+    #[tactic(auto, unfolding(crate::specs::Laws::law_search))]
+    pub fn law_search(self) -> Result<(), LawFailure>
         ensures { result ≡ law_search self.cells }
     {
-        let found = first_pair(&self.cells);
-        if let Lawful::Broken(_, _, _, _) = found {
-            return found;
-        }
+        first_pair(&self.cells)?;
         first_triple(&self.cells)
     }
 }
@@ -122,8 +189,8 @@ impl Operator {
 fn join(cells: &[u32], left: Action, right: Action) -> Action
     ensures { result ≡ join cells.now left right }
 {
-    let k = kind(left);
-    let l = kind(right);
+    let k = left.kind();
+    let l = right.kind();
     if k == DONT_CARE {
         return right;
     }
@@ -132,60 +199,6 @@ fn join(cells: &[u32], left: Action, right: Action) -> Action
     }
     let cell = (k - 1) * KINDS + (l - 1);
     coded(word(cells, cell as usize), left, right)
-}
-
-pub fn kind(a: Action) -> u32
-    ensures { (result ≡ kind_of a) × (result ≤ kinds) }
-{
-    match a {
-        Action::DontCare => DONT_CARE,
-        Action::Allow => ALLOW,
-        Action::Deny => DENY,
-        Action::Gmb(_) => GMB,
-    }
-}
-
-pub fn rate(a: Action) -> u32
-    ensures { result ≡ rate_of a }
-{
-    match a {
-        Action::DontCare => 0,
-        Action::Allow => 0,
-        Action::Deny => 0,
-        Action::Gmb(n) => n,
-    }
-}
-
-// The action of a kind and a rate. A kind that is not known gives don't care.
-#[tactic(auto, unfolding(crate::specs::Action::action_of))]
-pub fn action_of(kind: u32, rate: u32) -> Action
-    ensures { result ≡ action_of kind rate }
-{
-    match kind {
-        ALLOW => Action::Allow,
-        DENY => Action::Deny,
-        GMB => Action::Gmb(rate),
-        _ => Action::DONT_CARE,
-    }
-}
-
-// The operator whose cells the first words are. Words that are missing count as 0.
-pub fn operator_of(words: &[u32]) -> Operator
-    ensures { result.cells ≡ cells_of words.now }
-{
-    let mut cells = [0u32; CELLS];
-    // The first i cells are the first i words.
-    for i in 0..CELLS {
-        cells[i] = word(words, i);
-    }
-    Operator { cells }
-}
-
-// Whether two words are an action's: a kind, a rate that is not too large, and a rate other than 0 for GMB alone.
-pub fn right_action(kind: u32, rate: u32) -> bool
-    ensures { result ≡ right_action kind rate }
-{
-    (kind <= GMB) & (rate <= LARGEST_RATE) & ((kind == GMB) == (rate != 0))
 }
 
 // Whether a cell may have a code.
@@ -211,75 +224,85 @@ fn largest_code(cell: usize) -> u32
 fn coded(code: u32, left: Action, right: Action) -> Action
     ensures { result ≡ coded code left right }
 {
-    let m = rate(left);
-    let n = rate(right);
+    let m = left.rate();
+    let n = right.rate();
     match code {
-        1 => Action::Allow,
-        2 => Action::Deny,
-        3 => left,
-        4 => right,
-        5 => Action::Gmb(m.max(n)),
-        6 => Action::Gmb(m.min(n)),
+        GIVES_ALLOW => Action::Allow,
+        GIVES_DENY => Action::Deny,
+        GIVES_LEFT => left,
+        GIVES_RIGHT => right,
+        GIVES_LARGER => Action::Gmb(m.max(n)),
+        GIVES_SMALLER => Action::Gmb(m.min(n)),
         _ => Action::DONT_CARE,
     }
 }
 
 // The pairs in order, the first action slowest.
-fn first_pair(cells: &[u32]) -> Lawful
+fn first_pair(cells: &[u32]) -> Result<(), LawFailure>
     ensures { result ≡ first_pair cells.now }
 {
-    // The first k pairs commute.
-    for k in 0..PAIRS {
-        let a = showing(k / SHOWN);
-        let b = showing(k % SHOWN);
-        if join(cells, a, b) != join(cells, b, a) {
-            return Lawful::Broken(Law::Commutativity, a, b, Action::DONT_CARE);
-        }
+    // Each action before commutes with all.
+    for a in &SHOWN {
+        with_second(cells, *a)?;
     }
-    Lawful::Yes
+    Ok(())
 }
 
-// The triples in order: each pair with all showing actions.
-fn first_triple(cells: &[u32]) -> Lawful
-    ensures { result ≡ first_triple cells.now }
+// The first pair of an action and some second.
+fn with_second(cells: &[u32], a: Action) -> Result<(), LawFailure>
+    ensures { result ≡ with_second cells.now a }
 {
-    // The first k pairs associate with every showing action.
-    for k in 0..PAIRS {
-        let found = with_third(cells, showing(k / SHOWN), showing(k % SHOWN));
-        if let Lawful::Broken(_, _, _, _) = found {
-            return found;
+    // The action commutes with each before.
+    for b in &SHOWN {
+        if join(cells, a, *b) != join(cells, *b, a) {
+            return Err(LawFailure {
+                law: Law::Commutativity,
+                first: a,
+                second: *b,
+                third: Action::DONT_CARE,
+            });
         }
     }
-    Lawful::Yes
+    Ok(())
+}
+
+// The triples in order, the first action slowest.
+fn first_triple(cells: &[u32]) -> Result<(), LawFailure>
+    ensures { result ≡ first_triple cells.now }
+{
+    // Each action before associates with all pairs.
+    for a in &SHOWN {
+        with_pair(cells, *a)?;
+    }
+    Ok(())
+}
+
+// The first triple of an action and some pair.
+fn with_pair(cells: &[u32], a: Action) -> Result<(), LawFailure>
+    ensures { result ≡ with_pair cells.now a }
+{
+    // The action and each second before associate with all thirds.
+    for b in &SHOWN {
+        with_third(cells, a, *b)?;
+    }
+    Ok(())
 }
 
 // The first triple of two actions and some third.
-fn with_third(cells: &[u32], a: Action, b: Action) -> Lawful
+fn with_third(cells: &[u32], a: Action, b: Action) -> Result<(), LawFailure>
     ensures { result ≡ with_third cells.now a b }
 {
     let ab = join(cells, a, b);
-    // The two associate with the first k showing actions.
-    for k in 0..SHOWN {
-        let c = showing(k);
-        if join(cells, ab, c) != join(cells, a, join(cells, b, c)) {
-            return Lawful::Broken(Law::Associativity, a, b, c);
+    // The two associate with each third before.
+    for c in &SHOWN {
+        if join(cells, ab, *c) != join(cells, a, join(cells, b, *c)) {
+            return Err(LawFailure {
+                law: Law::Associativity,
+                first: a,
+                second: b,
+                third: *c,
+            });
         }
     }
-    Lawful::Yes
-}
-
-// The showing actions, in list order. A match keeps them out of memory, where an array would be laid down anew for each
-// use.
-#[tactic(auto, unfolding(crate::specs::Laws::shown))]
-fn showing(i: usize) -> Action
-    ensures { result ≡ get_or shown i Action.DontCare }
-{
-    match i {
-        0 => Action::Allow,
-        1 => Action::Deny,
-        2 => Action::Gmb(1),
-        3 => Action::Gmb(2),
-        4 => Action::Gmb(3),
-        _ => Action::DONT_CARE,
-    }
+    Ok(())
 }

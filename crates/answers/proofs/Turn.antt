@@ -1,36 +1,30 @@
--- A call's number is read, then what stands behind it, and the reply is written; of a listing too. Assumes nothing.
-use Rattle.std.proofs.Common.{◌≡◌, List, ◌++◌, ℕ, ◌≤◌, length, take, Ok, Err}
-use Rattle.std.proofs.lemmas.List.{length-take-le}
+-- A call that was taken, and its reply, are an exchange. Assumes nothing.
+use Rattle.std.proofs.Common.{List, ℕ, Ok, Err}
 use Rattle.std.specs.declared.option.Option.{Option}
 use Rattle.std.specs.declared.result.Result.{Result}
 use Rattle.std.specs.Result.{OnOk}
 use Rattle.std.specs.Io.KnownBytes.{Appends, Consumes}
-use Rattle.words.specs.Bytes.{bytes_of}
-use Rattle.wire.proofs.Known.{consumes_then}
-use Rattle.wire.specs.Sent.{padding, counted}
-use Rattle.text.specs.Listing.{listing_of}
-use Rattle.answers.specs.Exchange.{text_reply, Exchange, Answered}
+use Rattle.replies.specs.Calls.{Sent, reply_of}
+use Rattle.replies.specs.declared.calls.Call.{Call}
+use Rattle.replies.specs.declared.calls.Call.TheVariants.{Read, TreeAction, Compile, Scan, Number, List as Listing, Hidden}
+use Rattle.answers.specs.Exchange.{Exchange, Answered, read, tree_action, compile, scan, number, list, hidden}
 
--- what a success says, carried on
-pub on_ok_then : {T E P Q : Type 0} (r : Result T E) → OnOk r P → (P → Q) → OnOk r Q
-on_ok_then (Ok x) p f = f p
-on_ok_then (Err e) p f = tt
+pub exchange_of : (call : Call) (s : List ℕ) → Sent call s → Exchange s (reply_of call)
+exchange_of (Read f) s e = rw e (read f.items)
+exchange_of (TreeAction f p) s e = rw e (tree_action f.items p.items)
+exchange_of (Compile f t c) s e = rw e (compile f.items t.items c.items)
+exchange_of (Scan t p) s e = rw e (scan t.items p.items)
+exchange_of (Number t ps cs) s e = rw e (number t.items ps.items cs.items)
+exchange_of (Listing b) s (pad, l, e) = rw e (list b.items pad l)
+exchange_of (Hidden t) s e = rw e (hidden t.items)
 
-pub answered : (a b c o n : Option (List ℕ)) (w k : ℕ) (body reply : List ℕ) → Consumes a b (bytes_of w) → w ≡ k
-    → Consumes b c body → Appends o n reply → Exchange (bytes_of k ++ body) reply → Answered a c o n
-answered a b c o n w k body reply h e p q x = record {
-  call = bytes_of k ++ body;
-  reply = reply;
-  exchange = x;
-  taken = consumes_then a b c (bytes_of k) body (rw (← e) h) p;
+pub answered : {T E : Type 0} (r : Result T E) (a b o n : Option (List ℕ)) (call : Call) (s : List ℕ) → Sent call s → Consumes a b s
+    → OnOk r (Appends o n (reply_of call)) → OnOk r (Answered a b o n)
+answered (Ok x) a b o n call s e p q = record {
+  call = s;
+  reply = reply_of call;
+  exchange = exchange_of call s e;
+  taken = p;
   written = q;
 }
-
--- the first bytes of a buffer are the input that was sent
-pub listed : (a b o n : Option (List ℕ)) (buffer : List ℕ) (count : ℕ) → count ≤ length buffer
-    → (pad : List ℕ) × (length pad ≡ padding count) × Consumes a b (counted count (take count buffer) pad)
-    → Appends o n (text_reply (listing_of (take count buffer)))
-    → (x pad : List ℕ) × (length pad ≡ padding (length x)) × Consumes a b (counted (length x) x pad) × Appends o n (text_reply (listing_of x))
-listed a b o n buffer count h (pad, l, p) q =
-    let e : length (take count buffer) ≡ count = length-take-le count buffer h in
-    (take count buffer, pad, rw e l, rw e p, q)
+answered (Err x) a b o n call s e p q = tt

@@ -1,20 +1,14 @@
 -- A call as it is sent, and the reply that it gets, both as bytes. See tests/README.md, "The calls of `answers`".
 --
---   text_reply t      a text: how many bytes there are, they, and zeros up to a whole word
 --   Exchange c r      the bytes c are a call, and r are the reply that it gets
 --   Answered          one call was taken from the input, and its reply was written
-use Rattle.std.specs.Prelude.{ℕ, ◌%◌, ◌^◌, ◌≡◌, List, ◌++◌, length, replicate}
+use Rattle.std.specs.Prelude.{ℕ, ◌≡◌, List, ◌++◌, length}
 use Rattle.std.specs.declared.option.Option.{Option}
 use Rattle.std.specs.Io.KnownBytes.{Appends, Consumes}
 use Rattle.words.specs.Bytes.{bytes_of}
 use Rattle.wire.specs.Sent.{slice_bytes, padding, counted}
-use Rattle.replies.specs.Replies.{read_reply, action_reply, compile_reply, scan_reply, number_reply}
-use Rattle.passes.specs.Replies.{hidden_reply}
+use Rattle.replies.specs.Replies.{read_reply, action_reply, compile_reply, scan_reply, number_reply, hidden_reply, text_reply}
 use Rattle.text.specs.Listing.{listing_of}
-
--- a text: how many bytes there are, they, and zeros up to a whole word
-abbrev pub text_reply : List ℕ → List ℕ
-text_reply t = counted (length t % 2 ^ 32) t (replicate (padding (length t)) 0)
 
 -- each call begins with its number
 pub data Exchange : List ℕ → List ℕ → Type 0 where

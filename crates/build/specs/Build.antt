@@ -9,7 +9,7 @@
 --   NodeBuilt, TreeBuilt, ChildrenBuilt, JoinBuilt   what each step leaves
 --   AtNode, AtPlace, OfNode, OfBuilt                 what each step asks
 use Rattle.std.specs.Prelude.{ℕ, ◌≤◌, ◌<◌, ◌≡◌, List, length, Option, Some, None}
-use Rattle.theory.specs.Rows.{Row}
+use Rattle.theory.specs.declared.Row.{Row}
 use Rattle.theory.specs.Tree.{Forest, compile, compiles}
 use Rattle.flow.specs.Match.{is_empty, common}
 use Rattle.flow.specs.declared.Match.{Match}

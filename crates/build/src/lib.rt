@@ -2,6 +2,7 @@
 // built, and is joined with the one before it. Only the compile calls the walk: it asks for a place
 // that was reached in an accepted file, and where there is no room it does not say what words are
 // left, since the compile then clears both buffers.
+// The buffers and the place stay parameters, for the reason at `common::common_rows`.
 #![tactic(auto)]
 
 ghost use Rattle.nodes.specs.Nodes.{cells_at};

@@ -68,6 +68,10 @@ pub record Going (at : ℕ) (whole old : List ℕ) (done : ℕ) (rest here : Lis
 pub start : (at : ℕ) (whole old : List ℕ) → at ≤ length old → Going at whole old at whole old
 start at whole old h = record { below = h; count = refl; ahead = refl; same = refl }
 
+-- the same, where what is to come is the whole
+pub started : {at : ℕ} {whole old rest : List ℕ} → rest ≡ whole → at ≤ length old → Going at whole old at rest old
+started {at} {whole} {old} e h = subst (λ rest. Going at whole old at rest old) (sym e) (start at whole old h)
+
 module _ {at : ℕ} {whole old : List ℕ} {done : ℕ} where
   -- a part that fits brings it further
   pub step : (rest' : List ℕ) {rest here new W : List ℕ} {r : Option ℕ} {e : ℕ} → Going at whole old done rest here → rest ≡ W ++ rest'

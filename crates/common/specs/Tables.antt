@@ -5,7 +5,8 @@
 --   common_with_words o r ws   the common rows of the row r and each row of a table
 --   common_rows_words o l r    the common rows of two tables
 use Rattle.std.specs.Prelude.{ℕ, List}
-use Rattle.theory.specs.Rows.{Row, kept, common_row, common_with, common_rows}
+use Rattle.theory.specs.Rows.{kept, common_row, common_with, common_rows}
+use Rattle.theory.specs.declared.Row.{Row}
 use Rattle.flow.specs.Match.{is_empty, common}
 use Rattle.flow.specs.declared.Match.{Match}
 use Rattle.action.specs.Operator as operator

@@ -4,17 +4,18 @@
 #![tactic(auto)]
 
 ghost use Rattle.std.specs.Prelude.{◌≤◌, length};
-ghost use Rattle.row.specs.Row.{row_of};
 ghost use Rattle.common.specs.Lays.{Lays};
 ghost use Rattle.common.specs.Tables.{common_words, common_with_words, common_rows_words};
 
-use action::{Action, Operator};
-use flow::{Match, common, overlap, read_match};
-use row::{ROW_WORDS, row_action, words_of_row};
+use action::Operator;
+use flow::Match;
+use row::{ROW_WORDS, Row, Rows, row_action, words_of_row};
 use words::copy;
 
 // The common rows of two tables: each row of the left in order, with each row of the right in
-// order. Each function answers the place past what it stored.
+// order. Each function answers the place past what it stored. The buffer and the place stay two
+// parameters: with both in one struct (tried), the proof of what the buffer holds once the struct
+// is gone did not close, in `rows::join_atom`.
 pub fn common_rows(
     operator: Operator,
     left: &[u32],
@@ -27,12 +28,9 @@ pub fn common_rows(
         out.old out.new result }
 {
     let mut done = at;
-    let mut i = 0;
-    // From at up to done stand the common rows of the rows in the first i words of the left and
-    // those of the right.
-    while i + ROW_WORDS <= left.len() {
-        done = common_with(operator, &left[i..i + ROW_WORDS], right, out, done)?;
-        i += ROW_WORDS;
+    // From at up to done stand the common rows of the left rows so far and those of the right.
+    for row in Rows::of(left) {
+        done = common_with(operator, row, right, out, done)?;
     }
     Some(done)
 }
@@ -40,47 +38,43 @@ pub fn common_rows(
 // The common rows of one row and a table.
 pub fn common_with(
     operator: Operator,
-    row: &[u32],
+    row: Row,
     table: &[u32],
     out: &mut [u32],
     at: usize,
 ) -> Option<usize>
     requires { at ≤ length out.old }
-    ensures { Lays at (common_with_words operator.cells (row_of row.now) table.now)
-        out.old out.new result }
+    ensures { Lays at (common_with_words operator.cells row table.now) out.old out.new result }
 {
-    let m = read_match(row);
-    let a = row_action(row);
     let mut done = at;
-    let mut i = 0;
-    // From at up to done stand the common rows of the row and the rows in the first i words of the
-    // table.
-    while i + ROW_WORDS <= table.len() {
-        done = add_common(operator, m, a, &table[i..i + ROW_WORDS], out, done)?;
-        i += ROW_WORDS;
+    // From at up to done stand the common rows of the row and the first i rows of the table. By
+    // place: over `Rows`, which reads a row's action before its match is tested, the compile took
+    // up to 1.46 times as long, and over chunks up to 1.4 times.
+    for i in 0..table.len() / ROW_WORDS {
+        let from = i * ROW_WORDS;
+        done = add_common(operator, row, &table[from..from + ROW_WORDS], out, done)?;
     }
     Some(done)
 }
 
-// The common row of a match and action and another row; none where the two do not overlap.
+// The common row of a row and the row that some words are; none where their matches do not overlap.
 fn add_common(
     operator: Operator,
-    m: Match,
-    a: Action,
-    row: &[u32],
+    row: Row,
+    other: &[u32],
     out: &mut [u32],
     at: usize,
 ) -> Option<usize>
     requires { at ≤ length out.old }
-    ensures { Lays at (common_words operator.cells (record { match = m; action = a }) row.now)
-        out.old out.new result }
+    ensures { Lays at (common_words operator.cells row other.now) out.old out.new result }
 {
-    let other = read_match(row);
-    if !overlap(m, other) {
+    let matching = Match::read(other);
+    if !row.matching.overlap(matching) {
         return Some(at);
     }
-    let words = words_of_row(common(m, other), operator.join(a, row_action(row)));
-    append(out, at, &words)
+    let matching = row.matching.common(matching);
+    let action = operator.join(row.action, row_action(other));
+    append(out, at, &words_of_row(matching, action))
 }
 
 // Stores some words from a place on, if they fit.

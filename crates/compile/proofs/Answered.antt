@@ -9,8 +9,8 @@ use lib.ListN.{length, get_or, drop}
 use lib.Seq.{take_at}
 use borrow.Author.Tests.{lt-ltb, le-ltb, ltb-true, ltb-false}
 use Rattle.logic.proofs.Tests.{by-test, and_left, and_right, and_both}
-use Rattle.words.proofs.Records.{length-records}
-use Rattle.theory.specs.Rows.{Row}
+use Rattle.words.proofs.RecordLaws.{length-records}
+use Rattle.theory.specs.declared.Row.{Row}
 use Rattle.theory.specs.Tree.{EveryNode, GoodNode}
 use Rattle.theory.proofs.Every.{listed-every, compile-every}
 use Rattle.flow.specs.Match.{is_empty, common, right_match}
@@ -21,7 +21,9 @@ use Rattle.action.specs.Operator as operator
 use Rattle.action.specs.declared.Action.{Action}
 use Rattle.row.specs.Row.{row_length, row_of, right_row_match, RightRow, words_of, InRange, table_rows}
 use Rattle.section.specs.Numbers.{atom_length, node_length}
-use Rattle.refusal.specs.Plain.{plain}
+use Rattle.refusal.specs.Refusals.{refusal_at, refusal_number}
+use Rattle.refusal.specs.declared.Reason.TheVariants.{NoRoom, NoScratch, WrongRate}
+use Rattle.refusal.specs.declared.Refusal.{Refusal}
 use Rattle.std.specs.Prelude.{Ok, Err}
 use Rattle.policy.specs.Read.{Reading, read_of, nodes_at, operator_records, atom_records, node_records}
 use Rattle.section.specs.Sections.{own_of}
@@ -30,19 +32,18 @@ use Rattle.whole.specs.Meaning.{operator_at}
 use Rattle.policy.specs.File.{held, tree_of, atoms_of}
 use Rattle.section.specs.Due.{RightNode}
 use Rattle.policy.specs.declared.Layout.{Layout}
-use Rattle.refusal.specs.declared.Refusal.{Refusal}
 use Rattle.policy.proofs.Accepted.{accepted-exactly, accepted-tree}
 use Rattle.words.specs.Words.{zeros}
-use Rattle.compile.specs.Compile.{no_room, no_scratch, wrong_rate, room, compiled_rows, fine, accepted_answer, after_reading, answer_of, table_after}
-use Rattle.compile.specs.Compile.{Compiled, scratch_after, compile_refusal}
+use Rattle.compile.specs.Compile.{room, compiled_rows, fine, accepted_answer, after_reading, answer_of, table_after}
+use Rattle.compile.specs.Compile.{Compiled, scratch_after}
 use Rattle.compile.specs.Theorems.{RoomExactly, RowsAnswered, AnswerTells, AnswersRows}
-use Rattle.row.proofs.Rows.{words_count}
+use Rattle.row.proofs.RowLaws.{words_count}
 use Rattle.logic.specs.Lists.{All}
 use Rattle.logic.proofs.Lists.{all_take, all_drop, all_map}
 
 -- an atom whose match is right
 RightMatch : Row Match Action → Type 0
-RightMatch r = right_match r.match ≡ true
+RightMatch r = right_match r.matching ≡ true
 
 -- the nodes of a file whose operators have the property K and whose atoms have the property T
 module _ (K : List ℕ → Type 0) (T : Row Match Action → Type 0) where
@@ -69,11 +70,11 @@ module _ (K : List ℕ → Type 0) (T : Row Match Action → Type 0) where
       listed-every (GoodNode K T) (tree_of f l) (subst (All (λ n. GoodNode K T n.what)) (sym (accepted-tree f l e).lists) good)
 
 -- every row in which the rates lie in range is right
-every-right : (N : List (Row Match Action)) → All (λ r. RightMatch r × (is_empty r.match ≡ false)) N → fine N ≡ true → All RightRow N
+every-right : (N : List (Row Match Action)) → All (λ r. RightMatch r × (is_empty r.matching ≡ false)) N → fine N ≡ true → All RightRow N
 unfolding RightMatch
 every-right [] f h = tt
 every-right (r ∷ N) f h = (
-  record { match = f.0.0; not_empty = f.0.1; action = and_left (in_range r.action) (fine N) h },
+  record { matching = f.0.0; not_empty = f.0.1; action = and_left (in_range r.action) (fine N) h },
   every-right N f.1 (and_right (in_range r.action) (fine N) h),
 )
 
@@ -84,10 +85,10 @@ every-fine (r ∷ N) f = and_both f.0 (every-fine N f.1)
 
 module _ (f : List ℕ) (l : Layout) (e : read_of f ≡ Ok l) where
   -- every row has a right match, and none is empty
-  every-compiled : All (λ r. RightMatch r × (is_empty r.match ≡ false)) (compiled_rows f l)
+  every-compiled : All (λ r. RightMatch r × (is_empty r.matching ≡ false)) (compiled_rows f l)
   unfolding RightMatch compiled_rows right_row_match
   every-compiled =
-      compile-every operator.join common is_empty (λ o. Unit {0}) RightMatch (λ o r s k g h. common-right r.match s.match g h) (tree_of f l)
+      compile-every operator.join common is_empty (λ o. Unit {0}) RightMatch (λ o r s k g h. common-right r.matching s.matching g h) (tree_of f l)
       (accepted-good (λ o. Unit {0}) RightMatch f l e (λ i h. tt) (λ i h. ((accepted-exactly f l).0 e).otherwise.matches i h))
 
   -- the rows, and zeros behind them
@@ -103,9 +104,9 @@ unfolding table_after
 accepted-rows f t s n l e =
     let N : List (Row Match Action) = compiled_rows f l in
     by-test (ltb (length s) (row_length * room (length t)))
-    (λ a q. let q' : Err (plain no_scratch 0) ≡ Ok n = rw a at q in no_rows q')
+    (λ a q. let q' : Err (refusal_at NoScratch 0) ≡ Ok n = rw a at q in no_rows q')
     (λ a. by-test (ltb (room (length t)) (length N))
-    (λ b q. let q' : Err (plain no_room 0) ≡ Ok n = rw (a, b) at q in no_rows q')
+    (λ b q. let q' : Err (refusal_at NoRoom 0) ≡ Ok n = rw (a, b) at q in no_rows q')
     (λ b. by-test (fine N)
     (λ c q.
     let q' : Ok (length N) ≡ Ok n = rw (a, b, c) at q in
@@ -119,7 +120,7 @@ accepted-rows f t s n l e =
       stands = rw (e, a, b, c)
           (ap (λ k. table_rows k (words_of N ++ zeros (length t - length (words_of N)))) (sym m) ∙ front f l e (zeros (length t - length (words_of N))));
     })
-    (λ c q. let q' : Err (plain wrong_rate 0) ≡ Ok n = rw (a, b, c) at q in no_rows q')))
+    (λ c q. let q' : Err (refusal_at WrongRate 0) ≡ Ok n = rw (a, b, c) at q in no_rows q')))
 
 pub answers-rows : AnswersRows
 unfolding answer_of
@@ -143,11 +144,14 @@ room-exactly f t s l e enough =
     let N : List (Row Match Action) = compiled_rows f l in
     let no-13 : ltb (length s) (row_length * room (length t)) ≡ false = le-ltb _ _ enough in (
       (λ q. by-test (ltb (room (length t)) (length N)) (λ b. ltb-true _ _ b) (λ b.
-          let q' : cond (fine N) (Ok (length N)) (Err (plain wrong_rate 0)) ≡ Err (plain no_room 0) = rw (e, no-13, b) at q in absurd
+          let q' : cond (fine N) (Ok (length N)) (Err (refusal_at WrongRate 0)) ≡ Err (refusal_at NoRoom 0) = rw (e, no-13, b) at q in absurd
           (other (fine N) (length N) q'))),
       (λ h. rw (e, no-13, lt-ltb _ _ h)),
     )
   where
-    other : (x : Bool) (n : ℕ) → cond x (Ok n) (Err (plain wrong_rate 0)) ≡ Err (plain no_room 0) → ⊥
+    other : (x : Bool) (n : ℕ) → cond x (Ok n) (Err (refusal_at WrongRate 0)) ≡ Err (refusal_at NoRoom 0) → ⊥
     other true n q = let z : ◌≡◌ {A = ℕ} 0 1 = cc in absurd (omega arith)
-    other false n q = let z : wrong_rate ≡ no_room = ap (λ (c : Compiled). (compile_refusal c).number) q in absurd (omega arith)
+    other false n q =
+        let q' : refusal_at WrongRate 0 ≡ refusal_at NoRoom 0 = cc in
+        let z : ◌≡◌ {A = ℕ} 14 12 = ap refusal_number q' in
+        absurd (omega arith)

@@ -11,29 +11,27 @@ use borrow.Author.Tests.{lt-ltb, le-ltb}
 use Rattle.words.specs.Records.{rows_of}
 use Rattle.words.specs.Words.{laid, cleared, zeros}
 use Rattle.words.proofs.Laid.{laid-is}
-use Rattle.words.proofs.Records.{rows_more, rows_none}
-use Rattle.words.proofs.Chunks.{rows-next, rows-none}
+use Rattle.words.proofs.RecordLaws.{rows_more, rows_none}
 use Rattle.std.specs.Prelude.{Ok, Err, Option, Some, None}
-use Rattle.std.specs.Borrow.{Bor}
-use Rattle.std.specs.Slice.Iter.{chunks_exact_steps}
-use Rattle.std.specs.declared.slice.ChunksExact.{ChunksExact}
-use Rattle.theory.specs.Rows.{Row}
+use Rattle.theory.specs.declared.Row.{Row}
 use Rattle.flow.specs.declared.Match.{Match}
 use Rattle.action.specs.declared.Action.{Action}
 use Rattle.action.proofs.Words.{right-words}
 use Rattle.row.specs.Row.{row_length, row_words, right_row_action, words_of}
-use Rattle.row.proofs.Rows.{row-long, words_count}
-use Rattle.refusal.specs.Plain.{plain}
+use Rattle.row.specs.Spelled.{row-long}
+use Rattle.row.proofs.RowLaws.{words_count}
+use Rattle.refusal.specs.Refusals.{refusal_at}
+use Rattle.refusal.specs.declared.Reason.TheVariants.{NoRoom, NoScratch, WrongRate}
+use Rattle.refusal.specs.declared.Refusal.{Refusal}
 use Rattle.policy.specs.Read.{Reading, read_of}
 use Rattle.policy.specs.File.{PolicyTree}
 use Rattle.policy.specs.declared.Layout.{Layout}
-use Rattle.refusal.specs.declared.Refusal.{Refusal}
 use Rattle.nodes.specs.Nodes.{root_spot}
 use Rattle.nodes.specs.declared.Spot.{Spot}
 use Rattle.nodes.proofs.Walk.{root-tree}
 use Rattle.common.specs.Lays.{Lays}
 use Rattle.build.specs.Build.{compile_tree, tree_words, Builds, TreeBuilt, Within}
-use Rattle.compile.specs.Compile.{no_room, no_scratch, wrong_rate, room, compiled_rows, fine, all_right, fine_words, answer_of, table_after, scratch_after}
+use Rattle.compile.specs.Compile.{room, compiled_rows, fine, all_right, fine_words, answer_of, table_after, scratch_after}
 use Rattle.compile.specs.Compile.{Compiled, Compiles, AcceptedCompiles, Settled, Settles}
 use Rattle.build.specs.declared.Part.{Part}
 use Rattle.common.proofs.Turns.{some_words}
@@ -45,25 +43,6 @@ counted n = Ok n
 
 abbrev refused : Refusal → Compiled
 refused r = Err r
-
--- the loop over the rates: a turn, a wrong one, the end
-module _ (s t : ChunksExact ℕ) {W : Bool} (e : fine_words s.rest.now ≡ W) (z : s.size ≡ row_length) where
-  module _ (x : Bor (List ℕ)) (g : chunks_exact_steps s (Some x) t) {b : Bool} (q : b ≡ right_row_action x.now) where
-    pub rates-more : b ≡ true → fine_words t.rest.now ≡ W
-    unfolding fine_words
-    rates-more p =
-        let r : right_row_action x.now ≡ true = sym q ∙ p in
-        sym (ap all_right (rows-next row_length (λ w. w) s t x some_words z g) ∙ rw r) ∙ e
-
-    pub rates-wrong : b ≡ false → false ≡ W
-    unfolding fine_words
-    rates-wrong p =
-        let r : right_row_action x.now ≡ false = sym q ∙ p in
-        sym (ap all_right (rows-next row_length (λ w. w) s t x some_words z g) ∙ rw r) ∙ e
-
-  pub rates-end : chunks_exact_steps s None t → true ≡ W
-  unfolding fine_words
-  rates-end g = sym (ap all_right (rows-none row_length (λ w. w) s t z g)) ∙ e
 
 -- the words of rows, row by row
 rows_words : (N : List (Row Match Action)) → rows_of row_length (λ w. w) (words_of N) ≡ map row_words N
@@ -96,7 +75,7 @@ cleared-all l = let q : length l - 0 ≡ length l = omega arith in ap zeros q
 
 -- the three answers of `settle`
 module _ {t s t' s' : List ℕ} {b : Option Part} (k : s' ≡ cleared 0 s) where
-  pub settles-full : {r : Refusal} → b ≡ None → t' ≡ cleared 0 t → r ≡ plain no_room 0 → Settles t s t' s' b (Err r)
+  pub settles-full : {r : Refusal} → b ≡ None → t' ≡ cleared 0 t → r ≡ refusal_at NoRoom 0 → Settles t s t' s' b (Err r)
   settles-full {r} e h q = record { is = subst (Settled t t' (Err r)) (sym e) (ap refused q, h ∙ cleared-all t); scratch = k ∙ cleared-all s }
 
   pub settles-rows : {p : Part} {x : Bool} → b ≡ Some p → x ≡ fine_words (take p.end t) → x ≡ true → t' ≡ cleared p.end t
@@ -107,7 +86,7 @@ module _ {t s t' s' : List ℕ} {b : Option Part} (k : s' ≡ cleared 0 s) where
       record { is = subst (Settled t t' (Ok (p.end / row_length))) (sym e) (rw i, rw i g); scratch = k ∙ cleared-all s }
 
   pub settles-wrong : {p : Part} {x : Bool} {r : Refusal} → b ≡ Some p → x ≡ fine_words (take p.end t) → x ≡ false → t' ≡ cleared 0 t
-      → r ≡ plain wrong_rate 0 → Settles t s t' s' b (Err r)
+      → r ≡ refusal_at WrongRate 0 → Settles t s t' s' b (Err r)
   settles-wrong {p} {x} {r} e q h g a =
       let i : fine_words (take p.end t) ≡ false = sym q ∙ h in
       record { is = subst (Settled t t' (Err r)) (sym e) (rw i (ap refused a), rw i (g ∙ cleared-all t)); scratch = k ∙ cleared-all s }
@@ -124,7 +103,7 @@ laid-first-words F X E h =
 
 -- THE ANSWER OF AN ACCEPTED FILE: no scratch
 pub no-scratch : (f : List ℕ) (l : Layout) {t s : List ℕ} {n : ℕ} {r : Refusal} → n ≡ room (length t) → length s < row_length * n
-    → r ≡ plain no_scratch 0 → AcceptedCompiles f l t s t s (Err r)
+    → r ≡ refusal_at NoScratch 0 → AcceptedCompiles f l t s t s (Err r)
 no-scratch f l {t} {s} {n} {r} q h a =
     let c : ltb (length s) (row_length * room (length t)) ≡ true = lt-ltb _ _ (subst (λ x. length s < row_length * x) q h) in
     record { answer = rw c (ap refused a); table = rw c; scratch = rw c }
@@ -161,7 +140,7 @@ module _ (f : List ℕ) (l : Layout) (e : read_of f ≡ Ok l) (root : Spot) (sta
   no-13 = le-ltb _ _ (subst (λ x. row_length * x ≤ length s) is enough)
 
   -- there was no room
-  too_many : Lays 0 F (take (row_length * n) t) new None → (r ≡ Err (plain no_room 0)) × (t' ≡ zeros (length mid)) → s' ≡ zeros (length clean)
+  too_many : Lays 0 F (take (row_length * n) t) new None → (r ≡ Err (refusal_at NoRoom 0)) × (t' ≡ zeros (length mid)) → s' ≡ zeros (length clean)
       → AcceptedCompiles f l t s t' s' r
   unfolding N
   too_many k b c =
@@ -171,7 +150,7 @@ module _ (f : List ℕ) (l : Layout) (e : read_of f ≡ Ok l) (root : Spot) (sta
 
   -- the rows stand there
   some : {end : ℕ} → Lays 0 F (take (row_length * n) t) new (Some end)
-      → (r ≡ cond (fine_words (take end mid)) (Ok (end / row_length)) (Err (plain wrong_rate 0)))
+      → (r ≡ cond (fine_words (take end mid)) (Ok (end / row_length)) (Err (refusal_at WrongRate 0)))
       × (t' ≡ cond (fine_words (take end mid)) (take end mid ++ zeros (length mid - end)) (zeros (length mid)))
       → s' ≡ zeros (length clean) → AcceptedCompiles f l t s t' s' r
   unfolding N
@@ -185,7 +164,7 @@ module _ (f : List ℕ) (l : Layout) (e : read_of f ≡ Ok l) (root : Spot) (sta
       let many : end / row_length ≡ length N = omega (arith, m.end, count) in
       let last : length mid - end ≡ length t - length (words_of N) = omega (arith, whole, m.end, ap length are) in
       record {
-        answer = rw (no-13, no-12) (b.0 ∙ ap₂ (λ x k. cond x (counted k) (Err (plain wrong_rate 0))) right many);
+        answer = rw (no-13, no-12) (b.0 ∙ ap₂ (λ x k. cond x (counted k) (Err (refusal_at WrongRate 0))) right many);
         table = rw (no-13, no-12)
             (b.1 ∙ ap₂ (λ x y. cond x (y ++ zeros (length mid - end)) (zeros (length mid))) right front
             ∙ ap₂ (λ x y. cond (fine N) (words_of N ++ zeros x) (zeros y)) last whole);

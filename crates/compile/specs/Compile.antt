@@ -9,36 +9,24 @@
 --   accepted_answer, accepted_table, accepted_scratch   the answer and the buffers for an accepted file
 --   answer_of, table_after, scratch_after               the same for every file
 --   Compiles                                            all three
---   compile_refusal, compile_count                      the number, place, law and actions of an answer, and its row
---                                                       count
+--   compile_count                                       the row count of an answer
 use Rattle.std.specs.Prelude.{ℕ, ◌*◌, ◌-◌, ◌/◌, min, ◌≡◌, Bool, true, cond, ◌&&◌, List, [], ◌∷◌, ◌++◌, ltb, length, take}
 use Rattle.std.specs.Prelude.{Result, Ok, Err, Option, Some, None}
-use Rattle.theory.specs.Rows.{Row}
+use Rattle.theory.specs.declared.Row.{Row}
 use Rattle.flow.specs.declared.Match.{Match}
 use Rattle.action.specs.Action.{in_range}
 use Rattle.action.specs.declared.Action.{Action}
 use Rattle.words.specs.Records.{rows_of}
 use Rattle.row.specs.Row.{row_length, most_rows, right_row_action, words_of}
-use Rattle.refusal.specs.Plain.{plain}
+use Rattle.refusal.specs.Refusals.{refusal_at}
+use Rattle.refusal.specs.declared.Reason.TheVariants.{NoRoom, NoScratch, WrongRate}
+use Rattle.refusal.specs.declared.Refusal.{Refusal}
 use Rattle.policy.specs.Read.{Reading, read_of}
 use Rattle.policy.specs.File.{tree_of}
 use Rattle.policy.specs.declared.Layout.{Layout}
-use Rattle.refusal.specs.declared.Refusal.{Refusal}
 use Rattle.build.specs.Build.{compile_tree}
 use Rattle.build.specs.declared.Part.{Part}
 use Rattle.words.specs.Words.{zeros}
-
--- more rows than room
-abbrev pub no_room : ℕ
-no_room = 12
-
--- scratch under 11 words for each row of room
-abbrev pub no_scratch : ℕ
-no_scratch = 13
-
--- a rate made in joining lies outside its range
-abbrev pub wrong_rate : ℕ
-wrong_rate = 14
 
 -- the buffer's words divided by a row's, rounded down, at most 4,096
 abbrev pub room : ℕ → ℕ
@@ -76,7 +64,7 @@ Compiled = Result ℕ Refusal
 -- the answer for an accepted file with the rows N: 13, then 12, then 14, else the row count
 abbrev pub accepted_answer : List (Row Match Action) → List ℕ → List ℕ → Compiled
 accepted_answer N t s =
-    by_case N t s (Err (plain no_scratch 0)) (Err (plain no_room 0)) (Err (plain wrong_rate 0))
+    by_case N t s (Err (refusal_at NoScratch 0)) (Err (refusal_at NoRoom 0)) (Err (refusal_at WrongRate 0))
     (Ok (length N))
 
 -- the table after it: unchanged after 13, all zero after 12 and 14, else the rows and then zeros
@@ -120,18 +108,13 @@ pub record AcceptedCompiles (f : List ℕ) (l : Layout) (t s t' s' : List ℕ) (
 -- what settling a build leaves: its answer and the table, by the words that were built
 abbrev pub Settled : List ℕ → List ℕ → Compiled → Option Part → Type 0
 Settled t t' r (Some p) =
-    (r ≡ cond (fine_words (take p.end t)) (Ok (p.end / row_length)) (Err (plain wrong_rate 0)))
+    (r ≡ cond (fine_words (take p.end t)) (Ok (p.end / row_length)) (Err (refusal_at WrongRate 0)))
     × (t' ≡ cond (fine_words (take p.end t)) (take p.end t ++ zeros (length t - p.end)) (zeros (length t)))
-Settled t t' r None = (r ≡ Err (plain no_room 0)) × (t' ≡ zeros (length t))
+Settled t t' r None = (r ≡ Err (refusal_at NoRoom 0)) × (t' ≡ zeros (length t))
 
 pub record Settles (t s t' s' : List ℕ) (b : Option Part) (r : Compiled) : Type 0 where
   pub is : Settled t t' r b
   pub scratch : s' ≡ zeros (length s)
-
--- the number, place, law and actions of an answer: 0, 0, no law and three don't cares where there are rows
-abbrev pub compile_refusal : Compiled → Refusal
-compile_refusal (Ok n) = plain 0 0
-compile_refusal (Err r) = r
 
 -- the row count of an answer: 0 where it is a refusal
 abbrev pub compile_count : Compiled → ℕ

@@ -6,17 +6,18 @@
 --                              table
 use Rattle.std.specs.Prelude.{ℕ, ◌*◌, ◌-◌, ◌≤◌, ◌<◌, ◌≡◌, List, ◌++◌, ◌↔◌, Ok, Err, length}
 use Rattle.row.specs.Row.{row_length, RightRow, words_of, InRange, table_rows}
-use Rattle.refusal.specs.Plain.{plain}
+use Rattle.refusal.specs.Refusals.{refusal_at}
+use Rattle.refusal.specs.declared.Reason.TheVariants.{NoRoom}
 use Rattle.policy.specs.Read.{read_of}
 use Rattle.policy.specs.declared.Layout.{Layout}
 use Rattle.words.specs.Words.{zeros}
-use Rattle.compile.specs.Compile.{no_room, room, compiled_rows, answer_of, table_after, scratch_after}
+use Rattle.compile.specs.Compile.{room, compiled_rows, answer_of, table_after, scratch_after}
 use Rattle.logic.specs.Lists.{All}
 
 -- with scratch enough, an accepted file is refused with 12 exactly when its rows outnumber the room (room-exactly)
 abbrev pub RoomExactly : Type 0
 RoomExactly = (f t s : List ℕ) (l : Layout) → read_of f ≡ Ok l → row_length * room (length t) ≤ length s
-    → (answer_of f t s ≡ Err (plain no_room 0)) ↔ (room (length t) < length (compiled_rows f l))
+    → (answer_of f t s ≡ Err (refusal_at NoRoom 0)) ↔ (room (length t) < length (compiled_rows f l))
 
 -- with scratch and room enough and rates in their range, an accepted file gets its rows: their count is answered, they
 -- stand in the table with zeros behind them, and scratch is zero (rows-answered)

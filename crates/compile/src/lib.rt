@@ -10,16 +10,9 @@ ghost use Rattle.compile.specs.Compile.{room, fine_words, Compiles, AcceptedComp
 use build::{Part, subtree};
 use nodes::root;
 use policy::{Layout, read};
-use refusal::{Refusal, plain};
+use refusal::{Reason, Refusal};
 use row::{MOST_ROWS, ROW_WORDS, right_row_action};
 use words::clear_from;
-
-// The numbers of the refusals: more rows than room, scratch too short, a rate out of its range.
-pub const NO_ROOM: u32 = 12;
-
-pub const NO_SCRATCH: u32 = 13;
-
-pub const WRONG_RATE: u32 = 14;
 
 // Compiles the policy in a file into a table, within the table and the scratch. Answers how many
 // rows the table has.
@@ -44,7 +37,7 @@ fn compile_accepted(
 {
     let words = ROW_WORDS * room_of(table.len());
     if scratch.len() < words {
-        return Err(plain(NO_SCRATCH, 0));
+        return Err(Reason::NoScratch.at(0));
     }
     let start = root(layout);
     let built = subtree(file, start, &mut table[..words], &mut scratch[..words], 0);
@@ -60,12 +53,12 @@ fn settle(table: &mut [u32], scratch: &mut [u32], built: Option<Part>) -> Result
     clear_from(scratch, 0);
     let Some(part) = built else {
         clear_from(table, 0);
-        return Err(plain(NO_ROOM, 0));
+        return Err(Reason::NoRoom.at(0));
     };
     let end = part.end;
     if !rates_right(&table[..end]) {
         clear_from(table, 0);
-        return Err(plain(WRONG_RATE, 0));
+        return Err(Reason::WrongRate.at(0));
     }
     clear_from(table, end);
     Ok(end / ROW_WORDS)
@@ -75,12 +68,7 @@ fn settle(table: &mut [u32], scratch: &mut [u32], built: Option<Part>) -> Result
 fn rates_right(rows: &[u32]) -> bool
     ensures { result ≡ fine_words rows.now }
 {
-    for row in rows.chunks_exact(ROW_WORDS) {
-        if !right_row_action(row) {
-            return false;
-        }
-    }
-    true
+    rows.chunks_exact(ROW_WORDS).all(right_row_action)
 }
 
 // The rows that a buffer of so many words has room for.

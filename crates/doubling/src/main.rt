@@ -33,6 +33,7 @@ fn show_both(rt: &impl Print) -> io::Result<()> {
 
 // Writes the answer for the file with so many atoms: the row count, or the refusal's number.
 fn show(rt: &impl Print, atoms: usize) -> io::Result<()> {
+    // Arrays, since no function over words takes memory from a heap.
     let mut file = [0u32; BEFORE + ATOM_WORDS * MANY + BEHIND];
     let mut table = [0u32; ROW_WORDS * MOST_ROWS];
     let mut scratch = [0u32; ROW_WORDS * MOST_ROWS];
@@ -45,6 +46,6 @@ fn show(rt: &impl Print, atoms: usize) -> io::Result<()> {
     copy(&mut file, behind, &[1, 0, 0, 0, count, 0]);
     match compile(&file[..behind + BEHIND], &mut table, &mut scratch) {
         Ok(rows) => print!(rt; "{rows}"),
-        Err(refusal) => print!(rt; "{}", refusal.number),
+        Err(refusal) => print!(rt; "{}", refusal.reason.number()),
     }
 }

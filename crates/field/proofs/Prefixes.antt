@@ -1,9 +1,10 @@
 -- Laws of prefixes, over the width w: numbers that agree in n bits agree in any fewer, and all else follows. Assumes nothing.
 use mathlib.Core.Path.{◌≡◌, refl, sym, ap, ◌∙◌, subst}
 use mathlib.Core.Bool.{Bool, true, false, cond, ◌&&◌, and_comm}
-use Prim.Native.Nat.{ℕ, zero, suc, ◌+◌, ◌-◌, ◌*◌, ◌/◌, ◌%◌, ◌^◌, ◌≤◌, ◌<◌}
+use Prim.Native.Nat.{ℕ, zero, suc, ◌+◌, ◌-◌, ◌*◌, ◌/◌, ◌%◌, ◌^◌, ◌≤◌, ◌<◌, min}
 use native.Mathlib.Omega.{arith}
 use native.Mathlib.Nat.{le_of_lt, add-mul-div_right}
+use Rattle.std.proofs.Math.Nat.{min-eq_left, min-eq_right}
 use lib.Dec.{eqb, leb}
 use lib.Pow.{shr-shr, shr_lt, high, pow-add, pow_pos, pow-lt, mod-pow-add}
 use lib.Arith.{digits_lt}
@@ -53,6 +54,13 @@ pub one-test : (w p m q n : ℕ) (t : Bool) → in_prefix w p (cond t m n) q ≡
 unfolding in_prefix
 one-test w p m q n true = refl
 one-test w p m q n false = eqb_swap (leading w n p) (leading w n q)
+
+-- the lesser of two lengths is the one that the test picks
+pub min-picked : (m n : ℕ) → min m n ≡ cond (leb m n) m n
+min-picked m n =
+    by-test (leb m n)
+    (λ e. let h : m ≤ n = leb-true m n e in rw e (min-eq_left h))
+    (λ f. let h : n ≤ m = le_of_lt (leb-false m n f) in rw f (min-eq_right h))
 
 -- AN ADDRESS LIES IN BOTH exactly when the prefixes meet and it lies in the longer
 pub in_both : InBoth

@@ -1,3 +1,4 @@
 pub mod Prefix
+pub mod Longer
 pub mod Value
 pub mod Theorems

@@ -1,57 +1,89 @@
 // One field of a match: a prefix of an address, or a value that may be constrained.
 #![tactic(auto)]
 
-ghost use Rattle.std.specs.Prelude.{◌≡◌, cond, ◌-◌};
+ghost use Rattle.std.specs.Prelude.{◌≡◌, ◌-◌};
 ghost use Rattle.field.specs.Prefix.{address_bits, in_prefix, right_prefix, prefixes_meet, covers};
-ghost use Rattle.field.specs.Prefix.{longer_address, longer_length};
+ghost use Rattle.field.specs.Longer.{longer};
 ghost use Rattle.field.specs.Value.{meets_value, values_meet, value_inside, common_value, right_value};
 
 // How many bits an address has.
 pub const ADDRESS_BITS: u32 = 32;
 
-// Whether the address x lies in the prefix p of n bits. A length beyond 32 counts as 32.
-pub fn in_prefix(p: u32, n: u32, x: u32) -> bool
-    ensures { result ≡ in_prefix address_bits p n x }
-{
-    ((p ^ x) as u64) >> bits_beyond(n) == 0
+// The addresses that agree with one in their first bits, as many as the length says. A length beyond 32 counts as 32,
+// but where two are compared.
+#[derive(Clone, Copy, PartialEq)]
+pub struct Prefix {
+    pub address: u32,
+    pub length: u32,
 }
 
-// Whether a prefix is right: a length of at most 32, and 0 in the bits beyond it, so that the address has no more bits
-// up to its last 1.
-pub fn right_prefix(p: u32, n: u32) -> bool
-    ensures { result ≡ right_prefix address_bits p n }
-{
-    (ADDRESS_BITS - u32::trailing_zeros(p) <= n) & (n <= ADDRESS_BITS)
+impl Prefix {
+    // Whether an address lies in the prefix.
+    pub fn contains(self, x: u32) -> bool
+        ensures { result ≡ in_prefix address_bits self.address self.length x }
+    {
+        ((self.address ^ x) as u64) >> self.bits_beyond() == 0
+    }
+
+    // Whether the prefix is right: a length of at most 32, and 0 in the bits beyond it, so that the address has no more
+    // bits up to its last 1.
+    pub fn is_right(self) -> bool
+        ensures { result ≡ right_prefix address_bits self.address self.length }
+    {
+        (ADDRESS_BITS - u32::trailing_zeros(self.address) <= self.length)
+            & (self.length <= ADDRESS_BITS)
+    }
+
+    // Whether two prefixes have an address in common.
+    pub fn meets(self, other: Prefix) -> bool
+        ensures { result ≡ prefixes_meet address_bits self.address self.length other.address other.length }
+    {
+        let shorter = Prefix {
+            length: u32::min(self.length, other.length),
+            ..self
+        };
+        shorter.contains(other.address)
+    }
+
+    // Whether the prefix is no longer than another, and every address of that lies in it. Lengths beyond 32 are
+    // compared as they are.
+    pub fn covers(self, other: Prefix) -> bool
+        ensures { result ≡ covers address_bits self.address self.length other.address other.length }
+    {
+        (self.length <= other.length) & self.contains(other.address)
+    }
+
+    // The longer of two prefixes.
+    pub fn longer(self, other: Prefix) -> Prefix
+        ensures { result ≡ longer self other }
+    {
+        // Field by field: picked as a whole, the common match of two took 1.1 to 1.2 times as long.
+        Prefix {
+            address: if self.length <= other.length {
+                other.address
+            } else {
+                self.address
+            },
+            length: u32::max(self.length, other.length),
+        }
+    }
+
+    // How many bits of an address stand beyond the length.
+    fn bits_beyond(self) -> u32
+        ensures { result ≡ address_bits - self.length }
+    {
+        // By saturating_sub, a scan took up to 1.7 times as long.
+        if self.length < ADDRESS_BITS {
+            ADDRESS_BITS - self.length
+        } else {
+            0
+        }
+    }
 }
 
-// Whether the prefixes p of m bits and q of n bits have an address in common.
-pub fn prefixes_meet(p: u32, m: u32, q: u32, n: u32) -> bool
-    ensures { result ≡ prefixes_meet address_bits p m q n }
-{
-    in_prefix(p, pick(m <= n, m, n), q)
-}
-
-// Whether p of m bits is no longer than the prefix q of n bits, and every address of q lies in it. Lengths beyond 32
-// are compared as they are.
-pub fn prefix_covers(p: u32, m: u32, q: u32, n: u32) -> bool
-    ensures { result ≡ covers address_bits p m q n }
-{
-    (m <= n) & in_prefix(p, m, q)
-}
-
-// The address of the longer of two prefixes.
-pub fn longer_address(p: u32, m: u32, q: u32, n: u32) -> u32
-    ensures { result ≡ longer_address p m q n }
-{
-    pick(m <= n, q, p)
-}
-
-// The length of the longer of two prefixes.
-pub fn longer_length(m: u32, n: u32) -> u32
-    ensures { result ≡ longer_length m n }
-{
-    pick(m <= n, n, m)
-}
+// A value of a match and the flag that says whether it is constrained stay two parameters. Both other forms were tried:
+// as an Option<u32>, whether two matches overlap took 1.4 to 3.3 times as long; as a struct of the two, a scan of rows
+// that every packet meets took 1.15 times as long.
 
 // Whether x meets the value v, which is constrained where on says so.
 pub fn meets_value(on: bool, v: u32, x: u32) -> bool
@@ -78,7 +110,7 @@ pub fn value_inside(a: bool, v: u32, b: bool, w: u32) -> bool
 pub fn common_value(on: bool, v: u32, w: u32) -> u32
     ensures { result ≡ common_value on v w }
 {
-    pick(on, v, w)
+    if on { v } else { w }
 }
 
 // Whether a value is right: below the limit, and 0 where it is unconstrained.
@@ -86,21 +118,4 @@ pub fn right_value(on: bool, limit: u32, v: u32) -> bool
     ensures { result ≡ right_value on limit v }
 {
     (v < limit) & (on | (v == 0))
-}
-
-// How many bits of an address stand beyond a length.
-fn bits_beyond(n: u32) -> u32
-    ensures { result ≡ address_bits - n }
-{
-    if n < ADDRESS_BITS {
-        ADDRESS_BITS - n
-    } else {
-        0
-    }
-}
-
-fn pick(t: bool, a: u32, b: u32) -> u32
-    ensures { result ≡ cond t a b }
-{
-    if t { a } else { b }
 }

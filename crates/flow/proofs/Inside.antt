@@ -55,9 +55,9 @@ inside-meets a b p e f =
       protocol = value-meets _ a.protocol _ b.protocol p.protocol h.protocol t.protocol;
       source_port = value-meets _ a.source_port _ b.source_port p.source_port h.source_port t.source_port;
       destination_port = value-meets _ a.destination_port _ b.destination_port p.destination_port h.destination_port t.destination_port;
-      source = covers-in address_bits b.source b.source_length a.source a.source_length p.source h.source t.source;
+      source = covers-in address_bits b.source.address b.source.length a.source.address a.source.length p.source h.source t.source;
       destination =
-          covers-in address_bits b.destination b.destination_length a.destination a.destination_length p.destination
+          covers-in address_bits b.destination.address b.destination.length a.destination.address a.destination.length p.destination
           h.destination t.destination;
     })
 
@@ -75,11 +75,11 @@ inside-trans a b c e f = by-test (is_empty a) (empty-inside a c) (λ l. whole a 
           destination_port =
               value-trans _ a.destination_port _ b.destination_port _ c.destination_port h.destination_port k.destination_port;
           source =
-              covers-trans address_bits c.source c.source_length b.source b.source_length a.source a.source_length
+              covers-trans address_bits c.source.address c.source.length b.source.address b.source.length a.source.address a.source.length
               k.source h.source;
           destination =
-              covers-trans address_bits c.destination c.destination_length b.destination b.destination_length
-              a.destination a.destination_length k.destination h.destination;
+              covers-trans address_bits c.destination.address c.destination.length b.destination.address b.destination.length
+              a.destination.address a.destination.length k.destination h.destination;
         }
 
 -- a number below a limit that meets a value
@@ -133,16 +133,16 @@ module _ (a b : Match) (ra : right_match a ≡ true) (rb : right_match b ≡ tru
   destination_port : Chosen port_limit (constrains destination_port_flag a) a.destination_port
   destination_port = own_value port_limit _ a.destination_port (ranges a ra).destination_port
 
-  source : Picked a.source a.source_length
-  source = own-address a.source _ (ranges a ra).source
+  source : Picked a.source.address a.source.length
+  source = own-address a.source.address _ (ranges a ra).source
 
-  destination : Picked a.destination a.destination_length
-  destination = own-address a.destination _ (ranges a ra).destination
+  destination : Picked a.destination.address a.destination.length
+  destination = own-address a.destination.address _ (ranges a ra).destination
 
   -- a packet of such values
   abbrev packet : Chosen port_limit (constrains in_port_flag a) a.in_port → Spoken a
       → Chosen port_limit (constrains source_port_flag a) a.source_port → Chosen port_limit (constrains destination_port_flag a) a.destination_port
-      → Picked a.source a.source_length → Picked a.destination a.destination_length → Packet
+      → Picked a.source.address a.source.length → Picked a.destination.address a.destination.length → Packet
   packet i q s d x y = record {
     in_port = i.number;
     source = x.address;
@@ -155,7 +155,7 @@ module _ (a b : Match) (ra : right_match a ≡ true) (rb : right_match b ≡ tru
   -- what the other asks of a packet of values that this one lets through
   asks : (i : Chosen port_limit (constrains in_port_flag a) a.in_port) (q : Spoken a)
       (s : Chosen port_limit (constrains source_port_flag a) a.source_port) (d : Chosen port_limit (constrains destination_port_flag a) a.destination_port)
-      (x : Picked a.source a.source_length) (y : Picked a.destination a.destination_length) → Tests b (packet i q s d x y)
+      (x : Picked a.source.address a.source.length) (y : Picked a.destination.address a.destination.length) → Tests b (packet i q s d x y)
   unfolding right_packet
   asks i q s d x y =
       tests b (packet i q s d x y) (all (packet i q s d x y)
@@ -193,10 +193,10 @@ module _ (a b : Match) (ra : right_match a ≡ true) (rb : right_match b ≡ tru
         (λ n h e. (asks in_port protocol (record { number = n; below = h; met = e }) destination_port source destination).source_port);
     destination_port = (value-inside-exactly port_limit _ a.destination_port _ b.destination_port (omega arith) (ranges a ra).destination_port).1
         (λ n h e. (asks in_port protocol source_port (record { number = n; below = h; met = e }) source destination).destination_port);
-    source = (covers-exactly address_bits b.source b.source_length a.source a.source_length (ranges b rb).source_length (ranges a ra).source).1
+    source = (covers-exactly address_bits b.source.address b.source.length a.source.address a.source.length (ranges b rb).source_length (ranges a ra).source).1
         (λ n h e. (asks in_port protocol source_port destination_port (record { address = n; within = h; met = e }) destination).source);
     destination =
-        (covers-exactly address_bits b.destination b.destination_length a.destination a.destination_length (ranges b rb).destination_length
+        (covers-exactly address_bits b.destination.address b.destination.length a.destination.address a.destination.length (ranges b rb).destination_length
         (ranges a ra).destination).1
         (λ n h e. (asks in_port protocol source_port destination_port source (record { address = n; within = h; met = e })).destination);
   }

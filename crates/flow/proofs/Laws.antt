@@ -36,8 +36,8 @@ meets-agree a b p = record { eq = joined.eq ∙ ap (λ (t : Bool). t && meets (b
         (flagged-joins protocol_flag a.flags b.flags a.protocol b.protocol p.protocol))
         (flagged-joins source_port_flag a.flags b.flags a.source_port b.source_port p.source_port))
         (flagged-joins destination_port_flag a.flags b.flags a.destination_port b.destination_port p.destination_port))
-        (prefix-joins address_bits a.source a.source_length b.source b.source_length p.source))
-        (prefix-joins address_bits a.destination a.destination_length b.destination b.destination_length p.destination))
+        (prefix-joins address_bits a.source.address a.source.length b.source.address b.source.length p.source))
+        (prefix-joins address_bits a.destination.address a.destination.length b.destination.address b.destination.length p.destination))
         (ports-join port_flags a.flags b.flags p.protocol)
 
 -- where they overlap, since none meets both together if that is empty
@@ -74,8 +74,8 @@ own_protocol m = cond (constrains protocol_flag m) m.protocol tcp
 abbrev own_packet : Match → Packet
 own_packet m = record {
   in_port = m.in_port;
-  source = m.source;
-  destination = m.destination;
+  source = m.source.address;
+  destination = m.destination.address;
   protocol = own_protocol m;
   source_port = m.source_port;
   destination_port = m.destination_port;
@@ -118,20 +118,20 @@ meets-own m live =
       protocol = own-protocol-met m;
       source_port = meets-own-value (constrains source_port_flag m) m.source_port;
       destination_port = meets-own-value (constrains destination_port_flag m) m.destination_port;
-      source = in-own address_bits m.source m.source_length;
-      destination = in-own address_bits m.destination m.destination_length;
+      source = in-own address_bits m.source.address m.source.length;
+      destination = in-own address_bits m.destination.address m.destination.length;
     })
 
 -- the values of a right match are in a packet's ranges, its prefixes no longer than an address
 pub record Ranges (m : Match) : Type 0 where
-  pub source : m.source < 2 ^ address_bits
-  pub destination : m.destination < 2 ^ address_bits
+  pub source : m.source.address < 2 ^ address_bits
+  pub destination : m.destination.address < 2 ^ address_bits
   pub in_port : m.in_port < port_limit
   pub protocol : m.protocol < protocol_limit
   pub source_port : m.source_port < port_limit
   pub destination_port : m.destination_port < port_limit
-  pub source_length : m.source_length ≤ address_bits
-  pub destination_length : m.destination_length ≤ address_bits
+  pub source_length : m.source.length ≤ address_bits
+  pub destination_length : m.destination.length ≤ address_bits
 
 pub ranges : (m : Match) → right_match m ≡ true → Ranges m
 unfolding right_match is_none is_plain right_value right_prefix
@@ -150,8 +150,8 @@ own-right : (a b : Match) → Ranges a → Ranges b → right_packet (own_packet
 unfolding right_packet both
 own-right a b r s =
     and_both (and_both (and_both (and_both (and_both
-    (lt-ltb _ _ (longer-within address_bits a.source a.source_length b.source b.source_length r.source s.source))
-    (lt-ltb _ _ (longer-within address_bits a.destination a.destination_length b.destination b.destination_length r.destination s.destination)))
+    (lt-ltb _ _ (longer-within address_bits a.source.address a.source.length b.source.address b.source.length r.source s.source))
+    (lt-ltb _ _ (longer-within address_bits a.destination.address a.destination.length b.destination.address b.destination.length r.destination s.destination)))
     (lt-ltb _ _ (common-value-below (constrains in_port_flag a) port_limit a.in_port b.in_port r.in_port s.in_port)))
     (lt-ltb _ _
     (own-protocol-below (both a b) (common-value-below (constrains protocol_flag a) protocol_limit a.protocol b.protocol r.protocol s.protocol))))
@@ -229,8 +229,8 @@ both-plain a b =
     (flagged-right protocol_flag a.flags b.flags protocol_limit a.protocol b.protocol))
     (flagged-right source_port_flag a.flags b.flags port_limit a.source_port b.source_port))
     (flagged-right destination_port_flag a.flags b.flags port_limit a.destination_port b.destination_port))
-    (longer-right address_bits a.source a.source_length b.source b.source_length))
-    (longer-right address_bits a.destination a.destination_length b.destination b.destination_length)
+    (longer-right address_bits a.source.address a.source.length b.source.address b.source.length))
+    (longer-right address_bits a.destination.address a.destination.length b.destination.address b.destination.length)
 
 -- two matches without flag 16 together have it neither
 unflagged-both : (a b : Match) → constrains empty_flag (both a b) ≡ false → (constrains empty_flag a ≡ false) × (constrains empty_flag b ≡ false)

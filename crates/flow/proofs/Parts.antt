@@ -14,8 +14,8 @@ pub record Parts (a b : Match) : Type 0 where
   pub protocol : value_inside (constrains protocol_flag a) a.protocol (constrains protocol_flag b) b.protocol ≡ true
   pub source_port : value_inside (constrains source_port_flag a) a.source_port (constrains source_port_flag b) b.source_port ≡ true
   pub destination_port : value_inside (constrains destination_port_flag a) a.destination_port (constrains destination_port_flag b) b.destination_port ≡ true
-  pub source : covers address_bits b.source b.source_length a.source a.source_length ≡ true
-  pub destination : covers address_bits b.destination b.destination_length a.destination a.destination_length ≡ true
+  pub source : covers address_bits b.source.address b.source.length a.source.address a.source.length ≡ true
+  pub destination : covers address_bits b.destination.address b.destination.length a.destination.address a.destination.length ≡ true
 
 pub parts : (a b : Match) → is_empty a ≡ false → inside a b ≡ true → Parts a b
 unfolding inside

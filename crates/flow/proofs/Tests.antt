@@ -20,8 +20,8 @@ pub record Tests (m : Match) (p : Packet) : Type 0 where
   pub protocol : meets_value (constrains protocol_flag m) m.protocol p.protocol ≡ true
   pub source_port : meets_value (constrains source_port_flag m) m.source_port p.source_port ≡ true
   pub destination_port : meets_value (constrains destination_port_flag m) m.destination_port p.destination_port ≡ true
-  pub source : in_prefix address_bits m.source m.source_length p.source ≡ true
-  pub destination : in_prefix address_bits m.destination m.destination_length p.destination ≡ true
+  pub source : in_prefix address_bits m.source.address m.source.length p.source ≡ true
+  pub destination : in_prefix address_bits m.destination.address m.destination.length p.destination ≡ true
   pub ports : meets_ports (constrains port_flags m) p.protocol ≡ true
 
 pub tests : (m : Match) (p : Packet) → meets m p ≡ true → Tests m p

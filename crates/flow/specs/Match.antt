@@ -27,7 +27,8 @@
 --   LiesIn a b              every packet in range that meets a meets b
 use Rattle.std.specs.Prelude.{ℕ, ◌+◌, ◌-◌, ◌≡◌, Bool, true, false, cond, not, ◌&&◌, ◌||◌, List, [], ◌∷◌, ◌++◌, eqb, get_or, replicate}
 use Rattle.std.specs.Int.Bits.{bit_and, bit_or}
-use Rattle.field.specs.Prefix.{address_bits, in_prefix, right_prefix, prefixes_meet, covers, longer_address, longer_length}
+use Rattle.field.specs.Prefix.{address_bits, in_prefix, right_prefix, prefixes_meet, covers}
+use Rattle.field.specs.Longer.{longer}
 use Rattle.field.specs.Value.{meets_value, values_meet, value_inside, common_value, right_value}
 use Rattle.flow.specs.Packet.{port_limit, protocol_limit, right_packet}
 use Rattle.flow.specs.declared.Match.{Match}
@@ -69,13 +70,11 @@ empty_flag = 16
 abbrev pub match_of : List ℕ → Match
 match_of l = record {
   in_port = get_or l 0 0;
-  source = get_or l 1 0;
-  destination = get_or l 2 0;
+  source = record { address = get_or l 1 0; length = get_or l 6 0 };
+  destination = record { address = get_or l 2 0; length = get_or l 7 0 };
   protocol = get_or l 3 0;
   source_port = get_or l 4 0;
   destination_port = get_or l 5 0;
-  source_length = get_or l 6 0;
-  destination_length = get_or l 7 0;
   flags = get_or l 8 0;
 }
 
@@ -83,13 +82,13 @@ match_of l = record {
 abbrev pub match_words : Match → List ℕ
 match_words m =
     m.in_port
-    ∷ m.source
-    ∷ m.destination
+    ∷ m.source.address
+    ∷ m.destination.address
     ∷ m.protocol
     ∷ m.source_port
     ∷ m.destination_port
-    ∷ m.source_length
-    ∷ m.destination_length
+    ∷ m.source.length
+    ∷ m.destination.length
     ∷ m.flags
     ∷ []
 
@@ -154,8 +153,8 @@ is_plain m =
     && right_value (constrains protocol_flag m) protocol_limit m.protocol
     && right_value (constrains source_port_flag m) port_limit m.source_port
     && right_value (constrains destination_port_flag m) port_limit m.destination_port
-    && right_prefix address_bits m.source m.source_length
-    && right_prefix address_bits m.destination m.destination_length
+    && right_prefix address_bits m.source.address m.source.length
+    && right_prefix address_bits m.destination.address m.destination.length
 
 -- the words of a match are right
 unfoldable pub right_match : Match → Bool
@@ -170,8 +169,8 @@ fits m p =
     && meets_value (constrains protocol_flag m) m.protocol p.protocol
     && meets_value (constrains source_port_flag m) m.source_port p.source_port
     && meets_value (constrains destination_port_flag m) m.destination_port p.destination_port
-    && in_prefix address_bits m.source m.source_length p.source
-    && in_prefix address_bits m.destination m.destination_length p.destination
+    && in_prefix address_bits m.source.address m.source.length p.source
+    && in_prefix address_bits m.destination.address m.destination.length p.destination
 
 -- the packet p meets the match m: it fits in each field, and its protocol has ports where one is constrained
 unfoldable pub meets : Match → Packet → Bool
@@ -185,20 +184,18 @@ agree a b =
     && values_meet (constrains source_port_flag a) a.source_port (constrains source_port_flag b) b.source_port
     && values_meet (constrains destination_port_flag a) a.destination_port (constrains destination_port_flag b)
     b.destination_port
-    && prefixes_meet address_bits a.source a.source_length b.source b.source_length
-    && prefixes_meet address_bits a.destination a.destination_length b.destination b.destination_length
+    && prefixes_meet address_bits a.source.address a.source.length b.source.address b.source.length
+    && prefixes_meet address_bits a.destination.address a.destination.length b.destination.address b.destination.length
 
 -- both together: what either constrains, and the longer prefixes
 unfoldable pub both : Match → Match → Match
 both a b = record {
   in_port = common_value (constrains in_port_flag a) a.in_port b.in_port;
-  source = longer_address a.source a.source_length b.source b.source_length;
-  destination = longer_address a.destination a.destination_length b.destination b.destination_length;
+  source = longer a.source b.source;
+  destination = longer a.destination b.destination;
   protocol = common_value (constrains protocol_flag a) a.protocol b.protocol;
   source_port = common_value (constrains source_port_flag a) a.source_port b.source_port;
   destination_port = common_value (constrains destination_port_flag a) a.destination_port b.destination_port;
-  source_length = longer_length a.source_length b.source_length;
-  destination_length = longer_length a.destination_length b.destination_length;
   flags = bit_or a.flags b.flags;
 }
 
@@ -220,8 +217,8 @@ inside a b =
     && value_inside (constrains source_port_flag a) a.source_port (constrains source_port_flag b) b.source_port
     && value_inside (constrains destination_port_flag a) a.destination_port (constrains destination_port_flag b)
     b.destination_port
-    && covers address_bits b.source b.source_length a.source a.source_length
-    && covers address_bits b.destination b.destination_length a.destination a.destination_length)
+    && covers address_bits b.source.address b.source.length a.source.address a.source.length
+    && covers address_bits b.destination.address b.destination.length a.destination.address a.destination.length)
 
 -- a packet in range that meets two matches
 pub record SharedPacket (a b : Match) : Type 0 where

@@ -14,8 +14,8 @@ abbrev pub packet_length : ℕ
 packet_length = 6
 
 -- the number of words that are no packet
-abbrev pub wrong_packet : ℕ
-wrong_packet = 11
+abbrev pub WrongPacket : ℕ
+WrongPacket = 11
 
 -- in-ports and ports are below this number
 abbrev pub port_limit : ℕ

@@ -2,13 +2,8 @@
 // match that both together are.
 #![tactic(auto)]
 
-pub use crate::matches::{
-    common, constrains, contradicts, is_empty, is_plain, lies_inside, meets, overlap, read_match,
-    right_match, words_of_match, write_match,
-};
-pub use crate::packets::{
-    read_packet, right_packet, right_packet_words, words_of_packet, write_packet,
-};
+pub use crate::packets::right_packet_words;
+use field::Prefix;
 
 mod matches;
 mod packets;
@@ -21,9 +16,6 @@ pub const MATCH_WORDS: usize = 9;
 pub type PacketWords = [u32; PACKET_WORDS];
 
 pub type MatchWords = [u32; MATCH_WORDS];
-
-// The number of the refusal for words that are no packet.
-pub const WRONG_PACKET: u32 = 11;
 
 // The flags: which values of a match are constrained, and that no packet meets it.
 pub const IN_PORT: u32 = 1;
@@ -65,30 +57,13 @@ pub struct Packet {
     pub destination_port: u32,
 }
 
-#[derive(Clone, Copy)]
+#[derive(Clone, Copy, PartialEq)]
 pub struct Match {
     pub in_port: u32,
-    pub source: u32,
-    pub destination: u32,
+    pub source: Prefix,
+    pub destination: Prefix,
     pub protocol: u32,
     pub source_port: u32,
     pub destination_port: u32,
-    pub source_length: u32,
-    pub destination_length: u32,
     pub flags: u32,
-}
-
-impl Match {
-    // The empty match of flag 16.
-    pub const NONE: Match = Match {
-        in_port: 0,
-        source: 0,
-        destination: 0,
-        protocol: 0,
-        source_port: 0,
-        destination_port: 0,
-        source_length: 0,
-        destination_length: 0,
-        flags: EMPTY,
-    };
 }

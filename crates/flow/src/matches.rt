@@ -11,219 +11,232 @@ use crate::{
     DESTINATION_PORT, EMPTY, EMPTY_FLAGS, IN_PORT, KNOWN_FLAGS, Match, MatchWords, PORT_LIMIT,
     PORTS, PROTOCOL, PROTOCOL_LIMIT, Packet, SOURCE_PORT, TCP, UDP,
 };
-use field::{
-    common_value, in_prefix, longer_address, longer_length, meets_value, prefix_covers,
-    prefixes_meet, right_prefix, right_value, value_inside, values_meet,
-};
+use field::{Prefix, common_value, meets_value, right_value, value_inside, values_meet};
 use words::{copy, word};
 
-// Whether a packet meets a match. The addresses are tested first, as in overlap.
-pub fn meets(m: Match, p: Packet) -> bool
-    ensures { result ≡ meets m p }
-{
-    if !in_prefix(m.destination, m.destination_length, p.destination) {
-        return false;
-    }
-    if !in_prefix(m.source, m.source_length, p.source) {
-        return false;
-    }
-    !constrains(m, EMPTY)
-        & meets_value(constrains(m, IN_PORT), m.in_port, p.in_port)
-        & meets_value(constrains(m, PROTOCOL), m.protocol, p.protocol)
-        & meets_value(constrains(m, SOURCE_PORT), m.source_port, p.source_port)
-        & meets_value(
-            constrains(m, DESTINATION_PORT),
-            m.destination_port,
-            p.destination_port,
-        )
-        & meets_ports(constrains(m, PORTS), p.protocol)
-}
+impl Match {
+    // The empty match of flag 16.
+    pub const NONE: Match = Match {
+        in_port: 0,
+        source: Prefix {
+            address: 0,
+            length: 0,
+        },
+        destination: Prefix {
+            address: 0,
+            length: 0,
+        },
+        protocol: 0,
+        source_port: 0,
+        destination_port: 0,
+        flags: EMPTY,
+    };
 
-// Whether some packet meets both matches. The addresses are tested first: most that do not overlap differ there.
-pub fn overlap(a: Match, b: Match) -> bool
-    ensures { result ≡ overlap a b }
-{
-    if !prefixes_meet(
-        a.destination,
-        a.destination_length,
-        b.destination,
-        b.destination_length,
-    ) {
-        return false;
+    // Whether a packet meets the match. The addresses are tested first, as in overlap.
+    pub fn meets(self, p: Packet) -> bool
+        ensures { result ≡ meets self p }
+    {
+        self.destination.contains(p.destination)
+            && self.source.contains(p.source)
+            && (!self.constrains(EMPTY)
+                & meets_value(self.constrains(IN_PORT), self.in_port, p.in_port)
+                & meets_value(self.constrains(PROTOCOL), self.protocol, p.protocol)
+                & meets_value(
+                    self.constrains(SOURCE_PORT),
+                    self.source_port,
+                    p.source_port,
+                )
+                & meets_value(
+                    self.constrains(DESTINATION_PORT),
+                    self.destination_port,
+                    p.destination_port,
+                )
+                & meets_ports(self.constrains(PORTS), p.protocol))
     }
-    if !prefixes_meet(a.source, a.source_length, b.source, b.source_length) {
-        return false;
-    }
-    if !agree_in(
-        a,
-        b,
-        DESTINATION_PORT,
-        a.destination_port,
-        b.destination_port,
-    ) {
-        return false;
-    }
-    if !agree_in(a, b, SOURCE_PORT, a.source_port, b.source_port) {
-        return false;
-    }
-    if !agree_in(a, b, IN_PORT, a.in_port, b.in_port) {
-        return false;
-    }
-    if !agree_in(a, b, PROTOCOL, a.protocol, b.protocol) {
-        return false;
-    }
-    !unmet(
-        a.flags | b.flags,
-        common_value(constrains(a, PROTOCOL), a.protocol, b.protocol),
-    )
-}
 
-// Whether every packet that meets the first match meets the second. The addresses are tested first, as in overlap.
-pub fn lies_inside(a: Match, b: Match) -> bool
-    ensures { result ≡ inside a b }
-{
-    if is_empty(a) {
-        return true;
+    // Whether some packet meets both matches. The addresses are tested first: most that do not overlap differ there.
+    pub fn overlap(self, other: Match) -> bool
+        ensures { result ≡ overlap self other }
+    {
+        self.destination.meets(other.destination)
+            && self.source.meets(other.source)
+            && self.agrees_in(
+                other,
+                DESTINATION_PORT,
+                self.destination_port,
+                other.destination_port,
+            )
+            && self.agrees_in(other, SOURCE_PORT, self.source_port, other.source_port)
+            && self.agrees_in(other, IN_PORT, self.in_port, other.in_port)
+            && self.agrees_in(other, PROTOCOL, self.protocol, other.protocol)
+            && !unmet(
+                self.flags | other.flags,
+                common_value(self.constrains(PROTOCOL), self.protocol, other.protocol),
+            )
     }
-    if !prefix_covers(
-        b.destination,
-        b.destination_length,
-        a.destination,
-        a.destination_length,
-    ) {
-        return false;
+
+    // Whether every packet that meets the match meets the other. The addresses are tested first, as in overlap.
+    pub fn lies_inside(self, other: Match) -> bool
+        ensures { result ≡ inside self other }
+    {
+        self.is_empty()
+            || (other.destination.covers(self.destination)
+                && other.source.covers(self.source)
+                && self.inside_in(
+                    other,
+                    DESTINATION_PORT,
+                    self.destination_port,
+                    other.destination_port,
+                )
+                && self.inside_in(other, SOURCE_PORT, self.source_port, other.source_port)
+                && (!other.is_empty()
+                    & self.inside_in(other, IN_PORT, self.in_port, other.in_port)
+                    & self.inside_in(other, PROTOCOL, self.protocol, other.protocol)))
     }
-    if !prefix_covers(b.source, b.source_length, a.source, a.source_length) {
-        return false;
+
+    // The match that exactly the packets meet that meet both: empty where there are none.
+    pub fn common(self, other: Match) -> Match
+        ensures { result ≡ common self other }
+    {
+        if self.overlap(other) {
+            self.both(other)
+        } else {
+            Match::NONE
+        }
     }
-    if !inside_in(
-        a,
-        b,
-        DESTINATION_PORT,
-        a.destination_port,
-        b.destination_port,
-    ) {
-        return false;
+
+    // Whether no packet meets the match: it has flag 16, or contradicts itself.
+    pub fn is_empty(self) -> bool
+        ensures { result ≡ is_empty self }
+    {
+        self.constrains(EMPTY) | self.contradicts()
     }
-    if !inside_in(a, b, SOURCE_PORT, a.source_port, b.source_port) {
-        return false;
+
+    // Whether the match contradicts itself: it constrains a port, and the protocol to one without ports.
+    pub fn contradicts(self) -> bool
+        ensures { result ≡ contradicts self }
+    {
+        clash(self.flags, self.protocol)
     }
-    !is_empty(b)
-        & inside_in(a, b, IN_PORT, a.in_port, b.in_port)
-        & inside_in(a, b, PROTOCOL, a.protocol, b.protocol)
-}
 
-// The match that exactly the packets meet that meet both: empty where there are none.
-pub fn common(a: Match, b: Match) -> Match
-    ensures { result ≡ common a b }
-{
-    if overlap(a, b) {
-        both(a, b)
-    } else {
-        Match::NONE
+    // Whether the match has a flag; of several flags together, whether it has any of them.
+    pub fn constrains(self, flag: u32) -> bool
+        ensures { result ≡ constrains flag self }
+    {
+        (self.flags & flag) != 0
     }
-}
 
-// Whether no packet meets a match: it has flag 16, or contradicts itself.
-pub fn is_empty(m: Match) -> bool
-    ensures { result ≡ is_empty m }
-{
-    constrains(m, EMPTY) | contradicts(m)
-}
-
-// Whether a match contradicts itself: it constrains a port, and the protocol to one without ports.
-pub fn contradicts(m: Match) -> bool
-    ensures { result ≡ contradicts m }
-{
-    clash(m.flags, m.protocol)
-}
-
-// Whether a match has a flag; of several flags together, whether it has any of them.
-pub fn constrains(m: Match, flag: u32) -> bool
-    ensures { result ≡ constrains flag m }
-{
-    (m.flags & flag) != 0
-}
-
-// Whether the words of a match are right.
-pub fn right_match(m: Match) -> bool
-    ensures { result ≡ right_match m }
-{
-    if is_plain(m) {
-        return true;
+    // Whether the words of the match are right.
+    pub fn is_right(self) -> bool
+        ensures { result ≡ right_match self }
+    {
+        self.is_plain() || self.is_none()
     }
-    is_none(m)
-}
 
-// Whether a match is right and has not flag 16. The limit of in-port and ports is a power of two: they are below it
-// exactly if all their bits together are.
-pub fn is_plain(m: Match) -> bool
-    ensures { result ≡ is_plain m }
-{
-    ((m.flags & KNOWN_FLAGS) == m.flags)
-        & ((m.in_port | m.source_port | m.destination_port) < PORT_LIMIT)
-        & (constrains(m, IN_PORT) | (m.in_port == 0))
-        & right_value(constrains(m, PROTOCOL), PROTOCOL_LIMIT, m.protocol)
-        & (constrains(m, SOURCE_PORT) | (m.source_port == 0))
-        & (constrains(m, DESTINATION_PORT) | (m.destination_port == 0))
-        & right_prefix(m.source, m.source_length)
-        & right_prefix(m.destination, m.destination_length)
-}
-
-// The match that the first nine words are; words that are missing count as 0.
-pub fn read_match(words: &[u32]) -> Match
-    ensures { result ≡ match_of words.now }
-{
-    Match {
-        in_port: word(words, 0),
-        source: word(words, 1),
-        destination: word(words, 2),
-        protocol: word(words, 3),
-        source_port: word(words, 4),
-        destination_port: word(words, 5),
-        source_length: word(words, 6),
-        destination_length: word(words, 7),
-        flags: word(words, 8),
+    // Whether the match is right and has not flag 16. The limit of in-port and ports is a power of two: they are below
+    // it exactly if all their bits together are.
+    pub fn is_plain(self) -> bool
+        ensures { result ≡ is_plain self }
+    {
+        ((self.flags & KNOWN_FLAGS) == self.flags)
+            & ((self.in_port | self.source_port | self.destination_port) < PORT_LIMIT)
+            & (self.constrains(IN_PORT) | (self.in_port == 0))
+            & right_value(self.constrains(PROTOCOL), PROTOCOL_LIMIT, self.protocol)
+            & (self.constrains(SOURCE_PORT) | (self.source_port == 0))
+            & (self.constrains(DESTINATION_PORT) | (self.destination_port == 0))
+            & self.source.is_right()
+            & self.destination.is_right()
     }
-}
 
-// Stores a match's nine words at the start of a buffer that has room for them.
-pub fn write_match(words: &mut [u32], m: Match)
-    ensures { words.new ≡ copied 0 (match_words m) words.old }
-{
-    let nine = words_of_match(m);
-    copy(words, 0, &nine);
-}
+    // The match that the first nine words are; words that are missing count as 0.
+    pub fn read(words: &[u32]) -> Match
+        ensures { result ≡ match_of words.now }
+    {
+        Match {
+            in_port: word(words, 0),
+            source: Prefix {
+                address: word(words, 1),
+                length: word(words, 6),
+            },
+            destination: Prefix {
+                address: word(words, 2),
+                length: word(words, 7),
+            },
+            protocol: word(words, 3),
+            source_port: word(words, 4),
+            destination_port: word(words, 5),
+            flags: word(words, 8),
+        }
+    }
 
-// A match's nine words.
-pub fn words_of_match(m: Match) -> MatchWords
-    ensures { result ≡ match_words m }
-{
-    [
-        m.in_port,
-        m.source,
-        m.destination,
-        m.protocol,
-        m.source_port,
-        m.destination_port,
-        m.source_length,
-        m.destination_length,
-        m.flags,
-    ]
-}
+    // The match's nine words.
+    pub fn write(self) -> MatchWords
+        ensures { result ≡ match_words self }
+    {
+        [
+            self.in_port,
+            self.source.address,
+            self.destination.address,
+            self.protocol,
+            self.source_port,
+            self.destination_port,
+            self.source.length,
+            self.destination.length,
+            self.flags,
+        ]
+    }
 
-// Whether two matches agree in the value that a flag is for: v in the one, w in the other.
-fn agree_in(a: Match, b: Match, flag: u32, v: u32, w: u32) -> bool
-    ensures { result ≡ values_meet (constrains flag a) v (constrains flag b) w }
-{
-    values_meet(constrains(a, flag), v, constrains(b, flag), w)
-}
+    // Stores the match's nine words at the start of a buffer that has room for them.
+    pub fn store(self, words: &mut [u32])
+        ensures { words.new ≡ copied 0 (match_words self) words.old }
+    {
+        copy(words, 0, &self.write());
+    }
 
-// Whether one match lies inside another in the value that a flag is for: v in the one, w in the other.
-fn inside_in(a: Match, b: Match, flag: u32, v: u32, w: u32) -> bool
-    ensures { result ≡ value_inside (constrains flag a) v (constrains flag b) w }
-{
-    value_inside(constrains(a, flag), v, constrains(b, flag), w)
+    // This and the next are one line each, over another test: with the test as a parameter they are no shorter.
+    // Whether two matches agree in the value that a flag is for: v in the one, w in the other.
+    fn agrees_in(self, other: Match, flag: u32, v: u32, w: u32) -> bool
+        ensures { result ≡ values_meet (constrains flag self) v (constrains flag other) w }
+    {
+        values_meet(self.constrains(flag), v, other.constrains(flag), w)
+    }
+
+    // Whether the match lies inside another in the value that a flag is for: v in the one, w in the other.
+    fn inside_in(self, other: Match, flag: u32, v: u32, w: u32) -> bool
+        ensures { result ≡ value_inside (constrains flag self) v (constrains flag other) w }
+    {
+        value_inside(self.constrains(flag), v, other.constrains(flag), w)
+    }
+
+    // Both matches together, where they overlap: what either constrains, and the longer prefixes.
+    fn both(self, other: Match) -> Match
+        ensures { result ≡ both self other }
+    {
+        Match {
+            in_port: common_value(self.constrains(IN_PORT), self.in_port, other.in_port),
+            source: self.source.longer(other.source),
+            destination: self.destination.longer(other.destination),
+            protocol: common_value(self.constrains(PROTOCOL), self.protocol, other.protocol),
+            source_port: common_value(
+                self.constrains(SOURCE_PORT),
+                self.source_port,
+                other.source_port,
+            ),
+            destination_port: common_value(
+                self.constrains(DESTINATION_PORT),
+                self.destination_port,
+                other.destination_port,
+            ),
+            flags: self.flags | other.flags,
+        }
+    }
+
+    // Whether the match is the empty match of flag 16 in its only right form.
+    fn is_none(self) -> bool
+        ensures { result ≡ is_none self }
+    {
+        self == Match::NONE
+    }
 }
 
 // Whether a packet of a protocol passes the ports of a match, whatever their values: `on` says whether one is
@@ -259,45 +272,4 @@ fn has_ports(protocol: u32) -> bool
     ensures { result ≡ has_ports protocol }
 {
     (protocol == TCP) | (protocol == UDP)
-}
-
-// Both matches together, where they overlap: what either constrains, and the longer prefixes.
-fn both(a: Match, b: Match) -> Match
-    ensures { result ≡ both a b }
-{
-    Match {
-        in_port: common_value(constrains(a, IN_PORT), a.in_port, b.in_port),
-        source: longer_address(a.source, a.source_length, b.source, b.source_length),
-        destination: longer_address(
-            a.destination,
-            a.destination_length,
-            b.destination,
-            b.destination_length,
-        ),
-        protocol: common_value(constrains(a, PROTOCOL), a.protocol, b.protocol),
-        source_port: common_value(constrains(a, SOURCE_PORT), a.source_port, b.source_port),
-        destination_port: common_value(
-            constrains(a, DESTINATION_PORT),
-            a.destination_port,
-            b.destination_port,
-        ),
-        source_length: longer_length(a.source_length, b.source_length),
-        destination_length: longer_length(a.destination_length, b.destination_length),
-        flags: a.flags | b.flags,
-    }
-}
-
-// Whether a match is the empty match of flag 16 in its only right form.
-fn is_none(m: Match) -> bool
-    ensures { result ≡ is_none m }
-{
-    (m.in_port == 0)
-        & (m.source == 0)
-        & (m.destination == 0)
-        & (m.protocol == 0)
-        & (m.source_port == 0)
-        & (m.destination_port == 0)
-        & (m.source_length == 0)
-        & (m.destination_length == 0)
-        & (m.flags == EMPTY)
 }

@@ -16,9 +16,10 @@ use Rattle.action.specs.declared.Action.{Action}
 use Rattle.action.specs.declared.Action.TheVariants.{DontCare}
 use Rattle.row.specs.Row.{row_length, most_rows, RightRow, rows_in, words_of, table_rows}
 use Rattle.table.specs.Table.{row_count, check_of, RightTable}
-use Rattle.table.specs.Scan.{scan_number, scan_action}
+use Rattle.refusal.specs.Refusals.{answer_number}
+use Rattle.refusal.specs.declared.Refusal.{Refusal}
+use Rattle.table.specs.Scan.{scan_action}
 use Rattle.std.specs.Prelude.{Result, Ok, Err}
-use Rattle.refusal.specs.declared.Fault.{Fault}
 use Rattle.table.proofs.Tables.{length-rows, check-exactly, table-rows, table-words, rows-read}
 use Rattle.table.proofs.Scans.{scan-found, scan-refused}
 use Rattle.hidden.specs.Hidden.{kept_rows, kept_words, kept_by, kept_of, table_by, table_kept}
@@ -60,12 +61,12 @@ unfolding kept_of
 right_kept ws t = ap (kept_by ws) ((check-exactly ws (row_count ws)).1 (t, refl))
 
 -- by what the check finds
-by-check : (ws : List ℕ) (X : Result ℕ Fault → Type 0) → ((n : ℕ) → check_of ws ≡ Ok n → X (Ok n))
-    → ((f : Fault) → check_of ws ≡ Err f → X (Err f))
+by-check : (ws : List ℕ) (X : Result ℕ Refusal → Type 0) → ((n : ℕ) → check_of ws ≡ Ok n → X (Ok n))
+    → ((f : Refusal) → check_of ws ≡ Err f → X (Err f))
     → X (check_of ws)
 by-check ws X rows wrong = go (check_of ws) refl
   where
-    go : (x : Result ℕ Fault) → check_of ws ≡ x → X x
+    go : (x : Result ℕ Refusal) → check_of ws ≡ x → X x
     go (Ok n) e = rows n e
     go (Err f) e = wrong f e
 
@@ -95,7 +96,7 @@ same-action ws packet n e =
     (λ p.
     let after = scan-found t packet right p in
     let before = scan-found ws packet k.right p in (
-      ap scan_number after ∙ sym (ap scan_number before),
+      ap answer_number after ∙ sym (ap answer_number before),
       ap scan_action after
           ∙ ap (λ N. scan meets DontCare N (packet_of packet)) k.rows
           ∙ scan-hidden meets DontCare inside inside-meets (rows_in ws) (packet_of packet)
@@ -104,4 +105,4 @@ same-action ws packet n e =
     (λ p.
     let after = (scan-refused t packet).0 p in
     let before = (scan-refused ws packet).0 p in
-    (ap scan_number after ∙ sym (ap scan_number before), ap scan_action after ∙ sym (ap scan_action before)))
+    (ap answer_number after ∙ sym (ap answer_number before), ap scan_action after ∙ sym (ap scan_action before)))

@@ -10,15 +10,15 @@ use Rattle.theory.proofs.HiddenLaws.{hidden-less}
 use Rattle.flow.specs.Match.{inside}
 use Rattle.action.specs.declared.Action.{Action}
 use Rattle.row.specs.Row.{row_length, rows_in}
-use Rattle.row.proofs.Rows.{words_count}
+use Rattle.row.proofs.RowLaws.{words_count}
 use Rattle.table.specs.Table.{check_of}
 use Rattle.table.proofs.Tables.{length-rows}
-use Rattle.refusal.specs.declared.Fault.{Fault}
+use Rattle.refusal.specs.declared.Refusal.{Refusal}
 use Rattle.std.specs.Prelude.{Result, Ok, Err}
 use Rattle.hidden.specs.Hidden.{kept_rows, kept_words, kept_by, kept_of, table_by, table_kept}
 
 -- an answer of n rows
-abbrev pub counted : ℕ → Result ℕ Fault
+abbrev pub counted : ℕ → Result ℕ Refusal
 counted n = Ok n
 
 -- the words of the rows that stay are so many
@@ -48,7 +48,7 @@ module _ (ws : List ℕ) where
         (length-laid 0 (kept_words ws) ws)
         ∙ ap (table_by ws) (sym right)
 
-  module _ {f : Fault} (wrong : check_of ws ≡ Err f) where
+  module _ {f : Refusal} (wrong : check_of ws ≡ Err f) where
     pub wrong_answer : Err f ≡ kept_of ws
     unfolding kept_of
     wrong_answer = ap (kept_by ws) (sym wrong)

@@ -4,13 +4,13 @@ use native.Mathlib.Numerals.{add-one}
 use native.Mathlib.Omega.{arith}
 use mathlib.Core.Path.{◌≡◌, refl, sym, ap, ap₂, ◌∙◌}
 use mathlib.Core.Bool.{Bool, true, false, cond}
-use mathlib.Core.List.{List, [], ◌∷◌, ◌++◌, append-nil, map}
+use mathlib.Core.List.{List, [], ◌∷◌, ◌++◌, append-nil}
 use lib.ListN.{length, get_or, take, drop, length-append}
 use lib.Seq.{drop-drop, take_all}
 use Rattle.words.specs.Words.{laid, copied}
 use Rattle.words.proofs.Laid.{laid_none, length-laid, laid_then, take-laid, drop-laid, copied-fits}
-use Rattle.words.proofs.Records.{flat_append}
-use Rattle.theory.specs.Rows.{Row}
+use Rattle.words.proofs.RecordLaws.{flat_append}
+use Rattle.theory.specs.declared.Row.{Row}
 use Rattle.theory.specs.Hidden.{inside_one, staying}
 use Rattle.theory.proofs.HiddenLaws.{hidden-step}
 use Rattle.flow.specs.Match.{match_of, inside}
@@ -18,7 +18,7 @@ use Rattle.flow.specs.declared.Match.{Match}
 use Rattle.flow.proofs.Inside.{inside-trans}
 use Rattle.action.specs.declared.Action.{Action}
 use Rattle.row.specs.Row.{row_length, row_of, row_action, row_words, rows_in, words_of}
-use Rattle.row.proofs.Rows.{row-long}
+use Rattle.row.specs.Spelled.{row-long}
 use Rattle.table.specs.Table.{row_count, past}
 use Rattle.table.proofs.Tables.{length-rows, row-at, rows-read}
 use Rattle.hidden.specs.Hidden.{kept_words}
@@ -29,18 +29,6 @@ nth ws i = take (i * row_length + row_length - i * row_length) (drop (i * row_le
 
 nth-row : (ws : List ℕ) (i : ℕ) → nth ws i ≡ take row_length (drop (i * row_length) ws)
 nth-row ws i = let e : i * row_length + row_length - i * row_length ≡ row_length = omega arith in rw e
-
--- the loop that looks for a row which a match lies inside, of which row x and those behind it are left: one that it does, one that it does not, and the end
-module _ (m : Match) (ys : List (List ℕ)) (whole : Bool) (inv : inside_one inside m (map row_of ys) ≡ whole) where
-  module _ (x : List ℕ) (xs : List (List ℕ)) (e : ys ≡ x ∷ xs) where
-    pub inside-here : inside m (match_of x) ≡ true → true ≡ whole
-    inside-here t = sym (rw (e, t)) ∙ inv
-
-    pub inside-later : inside m (match_of x) ≡ false → inside_one inside m (map row_of xs) ≡ whole
-    inside-later t = sym (rw (e, t)) ∙ inv
-
-  pub inside-none : ys ≡ [] → false ≡ whole
-  inside-none e = sym (rw e) ∙ inv
 
 -- of the first i rows, those that stay
 abbrev stayed : List ℕ → ℕ → List (Row Match Action)
@@ -99,8 +87,8 @@ module _ {ws table : List ℕ} {i to : ℕ} (k : Keeping ws table i to) where
           ∙ hidden-step Action inside inside-trans past (rows_in ws) i (omega (arith, length-rows ws, one_more))
           ∙ ap (λ (t : Bool). stayed ws i ++ cond t [] (next ∷ [])) (sym asked)
         where
-          asked : b ≡ inside_one inside next.match (stayed ws i)
-          asked = e ∙ ap (inside_one inside m) keeping-front ∙ ap (λ n. inside_one inside n (stayed ws i)) (q ∙ ap (λ r. r.match) next-words)
+          asked : b ≡ inside_one inside next.matching (stayed ws i)
+          asked = e ∙ ap (inside_one inside m) keeping-front ∙ ap (λ n. inside_one inside n (stayed ws i)) (q ∙ ap (λ r. r.matching) next-words)
 
       -- it goes
       pub keeping-goes : b ≡ true → Keeping ws table (i + 1) to
@@ -113,10 +101,10 @@ module _ {ws table : List ℕ} {i to : ℕ} (k : Keeping ws table i to) where
           }
 
       -- it stays, and is stored behind those that do
-      module _ (a : Action) (p : a ≡ row_action (nth table i)) (row : List ℕ) (w : row ≡ row_words (record { match = m; action = a }))
+      module _ (a : Action) (p : a ≡ row_action (nth table i)) (row : List ℕ) (w : row ≡ row_words (record { matching = m; action = a }))
           (table' : List ℕ) (s : table' ≡ copied to row table) where
         row_next : row ≡ row_words next
-        row_next = w ∙ ap₂ (λ x y. row_words (record { match = x; action = y })) q p ∙ ap row_words next-words
+        row_next = w ∙ ap₂ (λ x y. row_words (record { matching = x; action = y })) q p ∙ ap row_words next-words
 
         pub keeping-stays : b ≡ false → Keeping ws table' (i + 1) (to + row_length)
         keeping-stays t =

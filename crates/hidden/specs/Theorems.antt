@@ -10,8 +10,9 @@ use Rattle.std.specs.Prelude.{ℕ, ◌-◌, ◌≤◌, ◌≡◌, List, ◌++◌
 use Rattle.words.specs.Words.{zeros}
 use Rattle.row.specs.Row.{rows_in, words_of, table_rows}
 use Rattle.table.specs.Table.{row_count, check_of, RightTable}
-use Rattle.table.specs.Scan.{scan_of, scan_number, scan_action}
-use Rattle.refusal.specs.declared.Fault.{Fault}
+use Rattle.refusal.specs.Refusals.{answer_number}
+use Rattle.refusal.specs.declared.Refusal.{Refusal}
+use Rattle.table.specs.Scan.{scan_of, scan_action}
 use Rattle.hidden.specs.Hidden.{kept_rows, kept_of, table_kept}
 
 -- n rows stay of a right table: their words stand at its front with zeros behind them, and they are a right table
@@ -33,15 +34,15 @@ RightKept = (ws : List ℕ) → RightTable ws → kept_of ws ≡ Ok (length (kep
 
 -- a table that is not right is refused as the check has it, and no other
 abbrev pub RefusedExactly : Type 0
-RefusedExactly = (ws : List ℕ) (f : Fault) → (kept_of ws ≡ Err f) ↔ (check_of ws ≡ Err f)
+RefusedExactly = (ws : List ℕ) (f : Refusal) → (kept_of ws ≡ Err f) ↔ (check_of ws ≡ Err f)
 
 -- and stays
 abbrev pub RefusedStays : Type 0
-RefusedStays = (ws : List ℕ) (f : Fault) → kept_of ws ≡ Err f → table_kept ws ≡ ws
+RefusedStays = (ws : List ℕ) (f : Refusal) → kept_of ws ≡ Err f → table_kept ws ≡ ws
 
 -- the rows that stay have the same action for every packet; words that are no packet are refused alike
 abbrev pub SameAction : Type 0
 SameAction = (ws packet : List ℕ) (n : ℕ) → kept_of ws ≡ Ok n
     → let t : List ℕ = table_rows n (table_kept ws) in
-    (scan_number (scan_of t packet) ≡ scan_number (scan_of ws packet))
+    (answer_number (scan_of t packet) ≡ answer_number (scan_of ws packet))
     × (scan_action (scan_of t packet) ≡ scan_action (scan_of ws packet))

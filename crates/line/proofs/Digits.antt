@@ -1,48 +1,32 @@
--- The digits of a number, and the turns of the loop that puts a text byte by byte. Assumes nothing.
-use Prim.Native.Nat.{ℕ, zero, suc, ◌+◌, ◌-◌, ◌/◌, ◌%◌, ◌≤◌, ◌<◌}
+-- The digits of a number are those that std's decimal has. Assumes nothing.
+use Prim.Native.Nat.{ℕ, zero, suc, ◌*◌, ◌/◌, ◌%◌, ◌^◌, ◌≤◌, ◌<◌}
 use native.Mathlib.Omega.{arith}
-use native.Mathlib.Numerals.{add-one}
-use mathlib.Core.Path.{◌≡◌, subst}
-use mathlib.Core.List.{List, [], ◌∷◌, ◌++◌}
-use lib.ListN.{length, get_or, drop, drop_of_length-le}
-use lib.Seq.{drop-cons}
-use borrow.Author.Tests.{lt-ltb, le-ltb}
-use Rattle.line.specs.Text.{digit, digits}
-use Rattle.line.specs.Puts.{Puts}
-use Rattle.line.proofs.Putting.{puts_none, ◌then◌, Ahead, ahead-start, ahead_step, ahead-end}
+use native.Mathlib.Numerals.{unary_clauses}
+use mathlib.Core.Path.{◌≡◌, ap, ◌∙◌}
+use mathlib.Core.List.{[], ◌∷◌, ◌++◌}
+use lib.Dec.{ltb}
+use borrow.Author.Tests.{ltb-true, ltb-false}
+use Rattle.std.specs.Fmt.{decimal as plain}
+use Rattle.std.proofs.lemmas.Fmt.{decimal_digit, decimal_step}
+use Rattle.logic.proofs.Tests.{by-test, by_le}
+use Rattle.line.specs.Text.{digit, most_digits, digits, decimal}
 
--- no digits, one digit, and more
-pub digits-none : (most n a : ℕ) (l : List ℕ) → most ≡ 0 → Puts (digits most n) l a l a
+plain_digits : (k n : ℕ) → 0 < k → n < 10 ^ k → n < 2 ^ 64 → plain n ≡ digits k n
 unfolding digits
-digits-none zero n a l h = puts_none a l
-digits-none (suc k) n a l h = absurd (omega arith)
+plain_digits zero n p h w = absurd (omega arith)
+plain_digits (suc k) n p h w =
+    by-test (ltb n 10)
+    (λ t. rw t (decimal_digit n (ltb-true n 10 t)))
+    (λ t.
+    let m : 10 ≤ n = ltb-false n 10 t in
+    let q : n < 10 ^ k * 10 = simp unary_clauses at h in
+    let e : 0 < k = by_le k 0 (λ z. let y : k ≡ 0 = omega arith in absurd (small k y q m)) (λ z. z) in
+    rw t (decimal_step n m w ∙ ap (λ ds. ds ++ (digit (n % 10) ∷ [])) (plain_digits k (n / 10) e (omega arith) (omega arith))))
+  where
+    small : (k : ℕ) → k ≡ 0 → n < 10 ^ k * 10 → 10 ≤ n → ⊥
+    small zero e h g = omega arith
+    small (suc k) e h g = omega arith
 
-pub digits-one : (most n : ℕ) {a r : ℕ} {l m : List ℕ} → Puts (digit n ∷ []) l a m r → 0 < most → n < 10 → Puts (digits most n) l a m r
-unfolding digits
-digits-one zero n p h g = absurd (omega arith)
-digits-one (suc k) n p h g = rw (lt-ltb n 10 g) p
-
-pub digits_more : (most n : ℕ) {a b r : ℕ} {l m m' : List ℕ} → Puts (digits (most - 1) (n / 10)) l a m b → Puts (digit (n % 10) ∷ []) m b m' r → 0 < most
-    → 10 ≤ n
-    → Puts (digits most n) l a m' r
-unfolding digits
-digits_more zero n p q h g = absurd (omega arith)
-digits_more (suc k) n {a} {b} {r} {l} {m} {m'} p q h g =
-    let e : suc k - 1 ≡ k = omega arith in
-    rw (le-ltb n 10 g) (subst (λ j. Puts (digits j (n / 10)) l a m b) e p then q)
-
--- a text is still to be put from its byte i on
-pub record TextAhead (text : List ℕ) (i : ℕ) (m : List ℕ) (b : ℕ) (l : List ℕ) (a : ℕ) : Type 0 where
-  pub is : Ahead (drop i text) m b text l a
-
-pub text-start : (text l : List ℕ) (a : ℕ) → TextAhead text 0 l a l a
-text-start text l a = record { is = ahead-start text l a }
-
-pub text-turn : {text m m' l : List ℕ} {i b b' a : ℕ} → TextAhead text i m b l a → Puts (get_or text i 0 ∷ []) m b m' b' → i < length text
-    → TextAhead text (i + 1) m' b' l a
-text-turn {text} {m} {m'} {l} {i} {b} {b'} {a} g p h =
-    let e : drop i text ≡ (get_or text i 0 ∷ []) ++ drop (suc i) text = drop-cons text i 0 h in
-    rw (add-one i) (record { is = ahead_step p (subst (λ x. Ahead x m b text l a) e g.is) })
-
-pub text-end : {text m l : List ℕ} {i b a : ℕ} → TextAhead text i m b l a → length text ≤ i → Puts text l a m b
-text-end {text} {m} {l} {i} {b} {a} g h = ahead-end (subst (λ x. Ahead x m b text l a) (drop_of_length-le text h) g.is)
+pub plain-decimal : (n : ℕ) → n < 2 ^ 64 → plain n ≡ decimal n
+unfolding decimal
+plain-decimal n h = plain_digits most_digits n (omega arith) (omega arith) h

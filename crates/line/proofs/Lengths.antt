@@ -61,7 +61,7 @@ action-long (Gmb n) = quoted (ascii "gmb ") behind number-long n 10
 pub line-within : LineWithin
 unfolding line
 line-within p r =
-    let h : Within (line p r) longest_line = number-long p 32 behind match-long r.match behind action-long r.action in
+    let h : Within (line p r) longest_line = number-long p 32 behind match-long r.matching behind action-long r.action in
     h.is
 
 pub head-within : HeadWithin

@@ -1,13 +1,16 @@
 -- Text put into a buffer part after part, and the turns of a loop that does so: what is still to be put, over what is there, is the whole. Assumes nothing.
 use Prim.Native.Nat.{ℕ, ◌+◌, ◌≤◌, ◌<◌, max}
 use native.Mathlib.Omega.{arith}
-use mathlib.Core.Path.{◌≡◌, refl, sym, ap, ap₂, ◌∙◌}
+use native.Mathlib.Numerals.{add-one}
+use mathlib.Core.Path.{◌≡◌, refl, sym, ap, ap₂, subst, ◌∙◌}
 use mathlib.Core.List.{List, [], ◌∷◌, ◌++◌}
-use lib.ListN.{length, set, length-append}
+use lib.ListN.{length, get_or, set, drop, drop_of_length-le, length-append}
+use lib.Seq.{drop-cons}
 use Rattle.words.specs.Words.{laid}
 use Rattle.words.proofs.Laid.{laid_none, laid_one, laid_then, laid_out, length-laid}
 use Rattle.logic.proofs.Tests.{by_le}
-use Rattle.line.specs.Puts.{stop, Puts}
+use Rattle.line.specs.Puts.{stop, Puts, Adds}
+use Rattle.line.specs.declared.page.Page.{Page}
 
 -- no text changes nothing
 pub puts_none : (a : ℕ) (l : List ℕ) → Puts [] l a l a
@@ -61,24 +64,40 @@ pub ◌then◌ : {F G l m n : List ℕ} {a b c : ℕ} → Puts F l a m b → Put
   end = q.end ∙ ap (λ k. stop k G m) p.end ∙ stop-then F G a l m (puts-length p);
 }
 
--- rest is still to be put into m from b on, and then whole is put into l from a on
-pub record Ahead (rest m : List ℕ) (b : ℕ) (whole l : List ℕ) (a : ℕ) : Type 0 where
-  pub bytes : laid b rest m ≡ laid a whole l
-  pub end : stop b rest m ≡ stop a whole l
-  pub same : length m ≡ length l
+-- and so of pages
+infixl 40 ◌onto◌
+pub ◌onto◌ : {F G : List ℕ} {p q r : Page} → Adds F p q → Adds G q r → Adds (F ++ G) p r
+◌onto◌ f g = record { puts = f.puts then g.puts; same = g.same ∙ f.same }
 
-pub ahead-start : (F l : List ℕ) (a : ℕ) → Ahead F l a F l a
-ahead-start F l a = record { bytes = refl; end = refl; same = refl }
+-- rest is still to be added to the page q, and then whole is behind p
+pub record Ahead (rest : List ℕ) (q : Page) (whole : List ℕ) (p : Page) : Type 0 where
+  pub bytes : laid q.end rest q.bytes.now ≡ laid p.end whole p.bytes.now
+  pub end : stop q.end rest q.bytes.now ≡ stop p.end whole p.bytes.now
+  pub long : length q.bytes.now ≡ length p.bytes.now
+  pub same : q.bytes.ghost_name ≡ p.bytes.ghost_name
 
-pub ahead_step : {F G m m' whole l : List ℕ} {b b' a : ℕ} → Puts F m b m' b' → Ahead (F ++ G) m b whole l a → Ahead G m' b' whole l a
-ahead_step {F} {G} {m} {m'} {b = b} p g = record {
-  bytes = ap₂ (λ k x. laid k G x) p.end p.bytes ∙ laid_stop F G b m ∙ g.bytes;
-  end = ap (λ k. stop k G m') p.end ∙ stop-then F G b m m' (puts-length p) ∙ g.end;
-  same = puts-length p ∙ g.same;
+pub ahead-start : (F : List ℕ) (p : Page) → Ahead F p F p
+ahead-start F p = record { bytes = refl; end = refl; long = refl; same = refl }
+
+pub ahead_step : {F G whole : List ℕ} {q r p : Page} → Adds F q r → Ahead (F ++ G) q whole p → Ahead G r whole p
+ahead_step {F} {G} {q = q} {r} f g = record {
+  bytes = ap₂ (λ k x. laid k G x) f.puts.end f.puts.bytes ∙ laid_stop F G q.end q.bytes.now ∙ g.bytes;
+  end = ap (λ k. stop k G r.bytes.now) f.puts.end ∙ stop-then F G q.end q.bytes.now r.bytes.now (puts-length f.puts) ∙ g.end;
+  long = puts-length f.puts ∙ g.long;
+  same = f.same ∙ g.same;
 }
 
-pub ahead-end : {m whole l : List ℕ} {b a : ℕ} → Ahead [] m b whole l a → Puts whole l a m b
-ahead-end {m} {b = b} g = record {
-  bytes = sym (laid_none b m) ∙ g.bytes;
-  end = (puts_none b m).end ∙ g.end;
+pub ahead-end : {whole : List ℕ} {q p : Page} → Ahead [] q whole p → Adds whole p q
+ahead-end {q = q} g = record {
+  puts = record { bytes = sym (laid_none q.end q.bytes.now) ∙ g.bytes; end = (puts_none q.end q.bytes.now).end ∙ g.end };
+  same = g.same;
 }
+
+-- the bytes of a text from its byte i on
+pub text-turn : (text : List ℕ) (i : ℕ) {q r p : Page} → Ahead (drop i text) q text p → Adds (get_or text i 0 ∷ []) q r → i < length text
+    → Ahead (drop (i + 1) text) r text p
+text-turn text i {q} {r} {p} g a h =
+    rw (add-one i) (ahead_step a (subst (λ x. Ahead x q text p) (drop-cons text i 0 h) g))
+
+pub text-end : (text : List ℕ) (i : ℕ) {q p : Page} → Ahead (drop i text) q text p → length text ≤ i → Adds text p q
+text-end text i {q} {p} g h = ahead-end (subst (λ x. Ahead x q text p) (drop_of_length-le text h) g)

@@ -4,6 +4,7 @@
 --   ascii s         the bytes of a quoted text
 --   decimal n       a number, with no zero before it
 --   number n mark   a number, and the mark behind it
+--   value_text v    a value, or a star where there is none, and a space
 --   value c v       a value that is constrained or not, and a space
 --   address a n     an address with its prefix length, and a space
 --   match_text m    the values and prefixes of a match
@@ -11,10 +12,11 @@
 --   line p r        the line of a row r of priority p
 --   head n l        the first line, for n rows and l priorities
 --   refusal n i     the only line of a refusal: its number and its place
-use Rattle.std.specs.Prelude.{ℕ, zero, suc, ◌+◌, ◌/◌, ◌%◌, Bool, cond, List, [], ◌∷◌, ◌++◌, ltb}
+use Rattle.std.specs.Prelude.{ℕ, zero, suc, ◌+◌, ◌/◌, ◌%◌, Bool, cond, List, [], ◌∷◌, ◌++◌, ltb, None, Some}
+use Rattle.std.specs.declared.option.Option.{Option}
 use Prim.Native.Char.{code}
 use Prim.Native.String.{String, [] as none, ◌∷◌ as ◌then◌}
-use Rattle.theory.specs.Rows.{Row}
+use Rattle.theory.specs.declared.Row.{Row}
 use Rattle.flow.specs.Match.{constrains, in_port_flag, protocol_flag, source_port_flag, destination_port_flag}
 use Rattle.flow.specs.declared.Match.{Match}
 use Rattle.action.specs.declared.Action.{Action}
@@ -46,6 +48,11 @@ decimal n = digits most_digits n
 unfoldable pub number : ℕ → ℕ → List ℕ
 number n mark = decimal n ++ (mark ∷ [])
 
+-- a value and a space: a star where there is none
+unfoldable pub value_text : Option ℕ → List ℕ
+value_text None = ascii "* "
+value_text (Some v) = number v (code " ")
+
 -- a value and a space: a star where it is not constrained
 unfoldable pub value : Bool → ℕ → List ℕ
 value c v = cond c (number v (code " ")) (ascii "* ")
@@ -63,8 +70,8 @@ address a n =
 unfoldable pub match_text : Match → List ℕ
 match_text m =
     value (constrains in_port_flag m) m.in_port
-    ++ address m.source m.source_length
-    ++ address m.destination m.destination_length
+    ++ address m.source.address m.source.length
+    ++ address m.destination.address m.destination.length
     ++ value (constrains protocol_flag m) m.protocol
     ++ value (constrains source_port_flag m) m.source_port
     ++ value (constrains destination_port_flag m) m.destination_port
@@ -78,7 +85,7 @@ action_text (Gmb n) = ascii "gmb " ++ number n (code "\n")
 
 -- the line of a row with its priority
 unfoldable pub line : ℕ → Row Match Action → List ℕ
-line p r = number p (code " ") ++ match_text r.match ++ action_text r.action
+line p r = number p (code " ") ++ match_text r.matching ++ action_text r.action
 
 -- the first line
 unfoldable pub head : ℕ → ℕ → List ℕ

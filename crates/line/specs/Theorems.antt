@@ -6,7 +6,7 @@
 --   LineWithin, HeadWithin, RefusalWithin   no line is longer than longest_line
 use Rattle.std.specs.Prelude.{ℕ, ◌+◌, ◌-◌, ◌*◌, ◌^◌, ◌≤◌, ◌<◌, ◌≡◌, List, [], ◌∷◌, length, get_or}
 use Prim.Native.Char.{code}
-use Rattle.theory.specs.Rows.{Row}
+use Rattle.theory.specs.declared.Row.{Row}
 use Rattle.flow.specs.declared.Match.{Match}
 use Rattle.action.specs.declared.Action.{Action}
 use Rattle.line.specs.Text.{most_digits, decimal, line, head, refusal, longest_line}

@@ -8,8 +8,8 @@ use lib.ListN.{get_or, length, take, drop, length-drop, drop_of_length-le}
 use lib.Seq.{get_or-take, get_or-drop, drop-drop, drop-cons, take_all, take-add, take_at, drop_at, length-take-le}
 use borrow.Author.Tests.{le-leb, lt-leb, le-ltb}
 use Rattle.words.specs.Records.{records, rows_of}
-use Rattle.words.proofs.Records.{length-records, rows_more, rows_none}
-use Rattle.theory.specs.Rows.{Row}
+use Rattle.words.proofs.RecordLaws.{length-records, rows_more, rows_none}
+use Rattle.theory.specs.declared.Row.{Row}
 use Rattle.theory.specs.Nodes.{Listed}
 use Rattle.row.specs.Row.{row_length, row_of}
 use Rattle.flow.specs.declared.Match.{Match}

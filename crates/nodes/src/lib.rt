@@ -7,11 +7,11 @@ ghost use Rattle.action.specs.Operator.{join};
 ghost use Rattle.nodes.specs.Nodes.{node_place, node_at, from_operator, cells_at};
 ghost use Rattle.nodes.specs.Nodes.{atom_words_at, first_atom, root_spot};
 
-use action::{Action, Operator, operator_of};
+use action::{Action, Operator};
 use policy::Layout;
 use section::{
     ATOM_WORDS, CHILDREN, FIRST_OPERATOR, HEADER_WORDS, INNER, LATEST, MOST_OPERATORS, NODE_WORDS,
-    OPERATOR_WORDS, OWN, PARENT, SIBLING, Section, behind,
+    OPERATOR_WORDS, OWN, PARENT, SIBLING, Section,
 };
 use words::word;
 
@@ -61,7 +61,7 @@ pub fn node_at(file: &[u32], left: usize) -> NodeWords
 pub fn operator_at(file: &[u32], index: u32) -> Operator
     ensures { result.cells ≡ cells_at file.now index }
 {
-    operator_of(from_operator(file, index))
+    Operator::from_words(from_operator(file, index))
 }
 
 // Two actions joined by the operator of an index. It is not read where one of them is don't care.
@@ -100,7 +100,7 @@ fn first_atom(operators: usize) -> usize
     if MOST_OPERATORS < operators {
         return 0;
     }
-    behind(HEADER_WORDS, Section::Operators(LATEST), operators) + 1
+    Section::Operators(LATEST).behind(HEADER_WORDS, operators) + 1
 }
 
 // The word where the node stands, or the end of the file.

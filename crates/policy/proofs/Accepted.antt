@@ -10,14 +10,15 @@ use borrow.Author.Tests.{eqb-true, eq-eqb}
 use Rattle.std.specs.Prelude.{Ok, Err}
 use Rattle.section.specs.Sections.{Test}
 use Rattle.logic.specs.Lists.{All}
-use Rattle.words.proofs.Records.{length-records}
-use Rattle.theory.specs.Rows.{Row}
+use Rattle.words.proofs.RecordLaws.{length-records}
+use Rattle.theory.specs.declared.Row.{Row}
 use Rattle.theory.specs.Nodes.{plant}
 use Rattle.theory.specs.Tree.{bare, ◌▸◌}
 use Rattle.row.specs.Row.{row_of}
 use Rattle.flow.specs.declared.Match.{Match}
 use Rattle.action.specs.declared.Action.{Action}
-use Rattle.section.specs.Numbers.{latest, header_length_in, operator_length_in, atom_length, wrong_sum}
+use Rattle.refusal.specs.declared.Reason.TheVariants.{WrongSum}
+use Rattle.section.specs.Numbers.{latest, header_length_in, operator_length_in, atom_length}
 use Rattle.section.specs.Sections.{header_fault, section_fault, children_of, own_of}
 use Rattle.whole.specs.Whole.{shape, shape_fault, own_atoms, sum_fault, laws_fault}
 use Rattle.policy.specs.Read.{extra_fault, atoms_at_in, nodes_at_in, end_in, operators_in, nodes_in, atoms_at, operator_records, atom_records, node_records}
@@ -137,7 +138,7 @@ module _ (e : Edition) (f : List ℕ) (a b c : ℕ) where
       let extra : length f ≤ end_in e a b c = extra-passed f (end_in e a b c) s.extra in
       good-otherwise g (omega (arith, g.nodes.present.whole))
       (shape-one-tree (file_nodes_in e f (layout a b c)) (children-shape ∙ s.tree))
-      (eqb-true _ _ (unless-true (eqb (own_atoms (nodes_in e f a b c)) b) wrong_sum 0 s.sum))
+      (eqb-true _ _ (unless-true (eqb (own_atoms (nodes_in e f a b c)) b) WrongSum 0 s.sum))
 
   -- and the other way round
   pub of-otherwise : OtherwiseIn e f a b c → Stages e f a b c

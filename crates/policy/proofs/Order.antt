@@ -10,14 +10,17 @@ use lib.ListN.{get_or, length, drop, length-map}
 use borrow.Author.Tests.{le-leb, lt-leb, eqb-true, eqb-false, ne_eqb}
 use Rattle.std.specs.Prelude.{Ok, Err}
 use Rattle.policy.specs.Read.{Reading}
-use Rattle.words.proofs.Records.{length-records}
+use Rattle.words.proofs.RecordLaws.{length-records}
 use Rattle.action.specs.Operator.{RightCodes}
-use Rattle.section.specs.Numbers.{header_length_in, operator_length_in, node_length, extra_words, no_tree, wrong_sum, law_broken}
+use Rattle.refusal.specs.Refusals.{law_broken, reason_number, refusal_at}
+use Rattle.refusal.specs.declared.Reason.{Reason}
+use Rattle.refusal.specs.declared.Refusal.{Refusal}
+use Rattle.refusal.specs.declared.Reason.TheVariants.{ExtraWords, NoTree, WrongSum}
+use Rattle.section.specs.Numbers.{header_length_in, operator_length_in, node_length}
 use Rattle.section.specs.Cells.{operator_rows}
-use Rattle.refusal.specs.Plain.{plain}
 use Rattle.section.specs.Sections.{children_of}
 use Rattle.whole.specs.Whole.{shape, shape_fault, own_atoms, sum_fault, laws_fault}
-use Rattle.policy.specs.Read.{atoms_at_in, nodes_at_in, end_in, operators_in, nodes_in, whole_stages, stages, layout, read_as, read_refusal}
+use Rattle.policy.specs.Read.{atoms_at_in, nodes_at_in, end_in, operators_in, nodes_in, whole_stages, stages, layout, read_as}
 use Rattle.policy.specs.Steps.{with_whole}
 use Rattle.whole.specs.Meaning.{operator_at, OneTree, ended, HasPlace}
 use Rattle.policy.specs.File.{file_nodes_in}
@@ -48,17 +51,17 @@ module _ (e : Edition) (f : List ℕ) (a b c : ℕ) where
         good-passed f (nodes_at_in e a b) (Nodes a) c g.nodes,
       ))
 
-  extra-read : end_in e a b c < length f → with_whole e f (header_length_in e) a b c (nodes_at_in e a b) ≡ Err (plain extra_words (end_in e a b c))
+  extra-read : end_in e a b c < length f → with_whole e f (header_length_in e) a b c (nodes_at_in e a b) ≡ Err (refusal_at ExtraWords (end_in e a b c))
   unfolding whole_stages
   extra-read h = rw (lt-leb (length f) (end_in e a b c) h)
 
-  shape-read : length f ≡ end_in e a b c → (i : ℕ) → shape (child_counts_in e f a b c) (1 ∷ []) 0 ≡ Err (plain no_tree i)
-      → with_whole e f (header_length_in e) a b c (nodes_at_in e a b) ≡ Err (plain no_tree i)
+  shape-read : length f ≡ end_in e a b c → (i : ℕ) → shape (child_counts_in e f a b c) (1 ∷ []) 0 ≡ Err (refusal_at NoTree i)
+      → with_whole e f (header_length_in e) a b c (nodes_at_in e a b) ≡ Err (refusal_at NoTree i)
   unfolding whole_stages shape_fault
   shape-read h i x = rw (le-leb (length f) (end_in e a b c) (omega arith), x)
 
   sum-read : length f ≡ end_in e a b c → shape (child_counts_in e f a b c) (1 ∷ []) 0 ≡ Ok tt → ¬ (own_atoms (nodes_in e f a b c) ≡ b)
-      → with_whole e f (header_length_in e) a b c (nodes_at_in e a b) ≡ Err (plain wrong_sum 0)
+      → with_whole e f (header_length_in e) a b c (nodes_at_in e a b) ≡ Err (refusal_at WrongSum 0)
   unfolding whole_stages shape_fault sum_fault
   sum-read h x n = rw (le-leb (length f) (end_in e a b c) (omega arith), x, ne_eqb (own_atoms (nodes_in e f a b c)) b n)
 
@@ -66,9 +69,9 @@ module _ (e : Edition) (f : List ℕ) (a b c : ℕ) where
   nodes-many = length-map (nodes_in e f a b c) children_of ∙ length-records c node_length (drop (nodes_at_in e a b + 1) f)
 
 -- WHAT IS DUE IS GIVEN
-due-read : (e : Edition) (f : List ℕ) {n at : ℕ} → Due e f n at → read_as e f ≡ Err (plain n at)
+due-read : (e : Edition) (f : List ℕ) {why : Reason} {at : ℕ} → Due e f why at → read_as e f ≡ Err (refusal_at why at)
 unfolding read_as stages
-due-read e f (in-header {n} {at} d) = rw (header-due e f n at d)
+due-read e f (in-header {why} {at} d) = rw (header-due e f why at d)
 due-read e f (in-operators h d) = rw (passed-header e f h, section-due f (header_length_in e) (Operators e) d)
 due-read e f (in-atoms {a} h g d) =
     rw g.present.count (rw (passed-header e f h, good-passed f (header_length_in e) (Operators e) a g, section-due f (atoms_at_in e a) (Atoms e) d))
@@ -92,7 +95,7 @@ due-read e f (sum {a} {b} {c} g h t n) =
 
 -- a file is well formed but for the laws, or something is due to it
 abbrev Cases : Edition → List ℕ → Type 0
-Cases e f = ((a : ℕ) × (b : ℕ) × (c : ℕ) × OtherwiseIn e f a b c) ⊎ ((n : ℕ) × (at : ℕ) × Due e f n at)
+Cases e f = ((a : ℕ) × (b : ℕ) × (c : ℕ) × OtherwiseIn e f a b c) ⊎ ((why : Reason) × (at : ℕ) × Due e f why at)
 
 module _ (e : Edition) (f : List ℕ) (a b c : ℕ) (g : GoodSections e f a b c) where
   tree-cases : length f ≡ end_in e a b c → OneTree (file_nodes_in e f (layout a b c)) → Cases e f
@@ -135,9 +138,14 @@ cases e f =
     (λ d. inr (_, _, in-header d.2))
     (header-cases e f)
 
+-- equal answers have equal refusals
+same : {r s : Refusal} → ◌≡◌ {A = Reading} (Err r) (Err s) → r ≡ s
+same q = cc
+
 -- a refusal without a law is given to no file that is well formed but for the laws: it is accepted, or a law is shown
-lawless : (e : Edition) (f : List ℕ) (a b c n at : ℕ) → OtherwiseIn e f a b c → ¬ (read_as e f ≡ Err (plain n at))
-lawless e f a b c n at o r =
+lawless : (e : Edition) (f : List ℕ) (a b c : ℕ) (why : Reason) (at : ℕ) → ¬ (reason_number why ≡ law_broken) → OtherwiseIn e f a b c
+    → ¬ (read_as e f ≡ Err (refusal_at why at))
+lawless e f a b c why at other o r =
     let raw : List (List ℕ) = operators_in e f a in
     let os : List (List ℕ) = operator_rows e raw in
     let ns : List (List ℕ) = nodes_in e f a b c in
@@ -153,23 +161,23 @@ lawless e f a b c n at o r =
     omega arith)
     (λ h.
     let w = broken-refused-as e f a b c o (λ k. h (kept_laws a os ns many codes nodes k)) in
-    let q : n ≡ law_broken = ap (λ (x : Reading). (read_refusal x).number) (sym r ∙ w.1) ∙ w.2 in
-    (refused-law-as e f (plain n at) r q).shows)
+    let q : w.0 ≡ refusal_at why at = same (sym w.1 ∙ r) in
+    other (rw q at w.2))
     (passed-or-not (laws_fault ns os))
 
 -- AND NOTHING ELSE IS
-given-due : (e : Edition) (f : List ℕ) (n at : ℕ) → read_as e f ≡ Err (plain n at) → Due e f n at
-given-due e f n at r = ⊎_elim
-    (λ o. absurd (lawless e f o.0 o.1 o.2 n at o.3 r))
+given-due : (e : Edition) (f : List ℕ) (why : Reason) (at : ℕ) → ¬ (reason_number why ≡ law_broken) → read_as e f ≡ Err (refusal_at why at) → Due e f why at
+given-due e f why at other r = ⊎_elim
+    (λ o. absurd (lawless e f o.0 o.1 o.2 why at other o.3 r))
     (λ d.
-    let q : ◌≡◌ {A = Reading} (Err (plain d.0 d.1)) (Err (plain n at)) = sym (due-read e f d.2) ∙ r in
-    let p : d.0 ≡ n = ap (λ (x : Reading). (read_refusal x).number) q in
-    let w : d.1 ≡ at = ap (λ (x : Reading). (read_refusal x).place) q in
+    let q : refusal_at d.0 d.1 ≡ refusal_at why at = same (sym (due-read e f d.2) ∙ r) in
+    let p : d.0 ≡ why = ap (λ (x : Refusal). x.reason) q in
+    let w : d.1 ≡ at = ap (λ (x : Refusal). x.place) q in
     rw (p, w) at d.2)
     (cases e f)
 
 pub file-order : FileOrder
 file-order = record {
-  due = λ e f n at. (given-due e f n at, due-read e f);
+  due = λ e f why at other. (given-due e f why at other, due-read e f);
   last = λ e f h. ⊎_elim (λ o. o) (λ d. absurd (h d.0 d.1 d.2)) (cases e f);
 }

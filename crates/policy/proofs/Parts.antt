@@ -7,7 +7,7 @@ use mathlib.Core.List.{List, [], ◌∷◌, ◌++◌, append_assoc}
 use lib.ListN.{get_or, length, take, drop, length-append, length-drop, take-append-drop, drop_of_length-le}
 use lib.Seq.{drop-cons, drop-drop, take_at, drop_at, length-take-le}
 use Rattle.words.specs.Records.{records}
-use Rattle.words.proofs.Records.{length-records}
+use Rattle.words.proofs.RecordLaws.{length-records}
 use Rattle.section.specs.Numbers.{header_length_in, header_of, operator_length_in, atom_length_in, node_length, most_operators, most_atoms, most_nodes}
 use Rattle.policy.specs.Read.{atoms_at_in, nodes_at_in, end_in, operators_in, atoms_in, nodes_in, layout}
 use Rattle.section.specs.Due.{Present, RightHeader}

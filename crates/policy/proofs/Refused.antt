@@ -1,24 +1,25 @@
 -- What a refusal says: every stage but the last refuses with a number below 10 and no law, and the last with what the law search found. Assumes nothing.
 use Prim.Native.Nat.{ℕ, suc, ◌+◌, ◌≤◌, ◌<◌}
 use native.Mathlib.Omega.{arith}
-use mathlib.Core.Path.{◌≡◌, refl, ◌∙◌}
+use mathlib.Core.Path.{◌≡◌, refl, sym, ap, subst, ◌∙◌}
 use mathlib.Core.Bool.{Bool, true, false, cond, ◌&&◌}
 use mathlib.Core.List.{List, [], ◌∷◌, ◌++◌, map}
 use mathlib.Core.Logic.{◌⊎◌, inl, inr, ⊎_elim}
 use lib.Dec.{eqb, leb, ltb}
 use lib.ListN.{get_or, length, drop}
-use Rattle.std.specs.Prelude.{Ok, Err}
+use Rattle.std.specs.Prelude.{Ok, Err, None}
 use Rattle.section.specs.Sections.{Test}
 use Rattle.logic.specs.Lists.{All}
-use Rattle.words.proofs.Records.{length-records}
+use Rattle.words.proofs.RecordLaws.{length-records}
 use Rattle.words.specs.Records.{records}
-use Rattle.action.specs.Laws.{law_search, Shows}
-use Rattle.action.specs.declared.Lawful.{Lawful}
-use Rattle.action.specs.declared.Lawful.TheVariants.{Yes, Broken}
+use Rattle.action.specs.Laws.{Searched, law_search, Shows}
+use Rattle.action.specs.declared.LawFailure.{LawFailure}
 use Rattle.action.proofs.Exact.{search-exact, search-shows}
-use Rattle.section.specs.Numbers.{latest, header_length_in, operator_length_in, most_atoms, most_children, deepest, short, wrong_count, wrong_cell, wrong_match}
-use Rattle.section.specs.Numbers.{wrong_action, wrong_node, extra_words, no_tree, wrong_sum, law_broken}
-use Rattle.refusal.specs.Plain.{plain}
+use Rattle.refusal.specs.Refusals.{law_broken, reason_number, failure_of, refusal_at, refusal_number}
+use Rattle.refusal.specs.declared.Reason.{Reason}
+use Rattle.refusal.specs.declared.Reason.TheVariants.{LawBroken, ShortFile, WrongCount, WrongCell, WrongMatch, WrongAction, WrongNode, ExtraWords, NoTree, WrongSum}
+use Rattle.refusal.specs.declared.Refusal.{Refusal}
+use Rattle.section.specs.Numbers.{latest, header_length_in, operator_length_in, most_atoms, most_children, deepest}
 use Rattle.section.specs.Sections.{unless, ◌else◌, each, record_length, least, most, header_fault, count_fault, cell_fault, cells_fault, atom_fault}
 use Rattle.section.specs.Sections.{node_fault, record_fault, behind, section_fault, inner_of, parent_of, sibling_of, own_of, children_of}
 use Rattle.whole.specs.Whole.{waiting_nodes, one_less, shape, shape_fault, own_atoms, sum_fault, named, broken, operator_fault, laws_fault}
@@ -31,7 +32,6 @@ use Rattle.policy.specs.Theorems.{RefusedLawAs, RefusedLaw, BrokenRefusedAs, Bro
 use Rattle.section.specs.declared.Edition.{Edition}
 use Rattle.section.specs.declared.Edition.TheVariants.{First}
 use Rattle.policy.specs.declared.Layout.{Layout}
-use Rattle.refusal.specs.declared.Refusal.{Refusal}
 use Rattle.section.specs.declared.Section.{Section}
 use Rattle.section.specs.declared.Section.TheVariants.{Operators, Atoms, Nodes}
 use Rattle.section.proofs.Each.{FirstFault, each_first}
@@ -42,7 +42,12 @@ use Rattle.action.specs.Operator.{cells_of}
 
 -- a refusal that names no law, with a number from 1 to 9
 abbrev PlainRefusal : Refusal → Type 0
-PlainRefusal r = (1 ≤ r.number) × (r.number < law_broken) × (r ≡ plain r.number r.place)
+PlainRefusal r = (1 ≤ refusal_number r) × (refusal_number r < law_broken) × (failure_of r.reason ≡ None)
+
+-- a reason with another number than that of a broken law names none
+names-none : (why : Reason) → ¬ (reason_number why ≡ law_broken) → failure_of why ≡ None
+names-none (LawBroken f) n = absurd (n refl)
+names-none why n = refl
 
 -- a test whose refusals are such
 record Plain (t : Test) : Type 0 where
@@ -51,12 +56,14 @@ record Plain (t : Test) : Type 0 where
 passed-plain : Plain (Ok tt)
 passed-plain = record { only = λ r e. let z : ◌≡◌ {A = ℕ} 0 1 = cc in absurd (omega arith) }
 
-failed-plain : (n at : ℕ) → 1 ≤ n → n < law_broken → Plain (Err (plain n at))
-failed-plain n at h k = record { only = λ r e. let q : r ≡ plain n at = cc in rw q (h, k, refl) }
+failed-plain : (why : Reason) (at : ℕ) → 1 ≤ reason_number why → reason_number why < law_broken → Plain (Err (refusal_at why at))
+failed-plain why at h k = record {
+  only = λ r e. let q : r ≡ refusal_at why at = cc in rw q (h, k, names-none why (λ z. omega arith));
+}
 
-unless-plain : (b : Bool) (n at : ℕ) → 1 ≤ n → n < law_broken → Plain (unless b n at)
-unless-plain true n at h k = passed-plain
-unless-plain false n at h k = failed-plain n at h k
+unless-plain : (b : Bool) (why : Reason) (at : ℕ) → 1 ≤ reason_number why → reason_number why < law_broken → Plain (unless b why at)
+unless-plain true why at h k = passed-plain
+unless-plain false why at h k = failed-plain why at h k
 
 else-plain : (x y : Test) → Plain x → Plain y → Plain (◌else◌ x y)
 else-plain (Ok u) y p q = q
@@ -69,15 +76,15 @@ each-plain t at k (x ∷ xs) h = else-plain (t at x) (each t (at + k) k xs) (h a
 record-plain : (s : Section) (at : ℕ) (r : List ℕ) → Plain (record_fault s at r)
 unfolding cells_fault atom_fault node_fault
 record-plain (Operators e) at r =
-    each-plain (cell_fault e at) 0 1 r (λ j c. unless-plain (right_cell_in e j c) wrong_cell (at + j) (omega arith) (omega arith))
+    each-plain (cell_fault e at) 0 1 r (λ j c. unless-plain (right_cell_in e j c) WrongCell (at + j) (omega arith) (omega arith))
 record-plain (Atoms e) at r =
-    else-plain (unless (right_atom_match e r) wrong_match at) (unless (right_atom_action e r) wrong_action at)
-    (unless-plain (right_atom_match e r) wrong_match at (omega arith) (omega arith))
-    (unless-plain (right_atom_action e r) wrong_action at (omega arith) (omega arith))
+    else-plain (unless (right_atom_match e r) WrongMatch at) (unless (right_atom_action e r) WrongAction at)
+    (unless-plain (right_atom_match e r) WrongMatch at (omega arith) (omega arith))
+    (unless-plain (right_atom_action e r) WrongAction at (omega arith) (omega arith))
 record-plain (Nodes n) at r =
     unless-plain
     (ltb (inner_of r) n && ltb (parent_of r) n && ltb (sibling_of r) n && leb (own_of r) most_atoms && leb (children_of r) most_children)
-    wrong_node
+    WrongNode
     at
     (omega arith) (omega arith)
 
@@ -89,24 +96,24 @@ unfolding section_fault count_fault
 section-plain f at s =
     let n : ℕ = get_or f at 0 in
     let k : ℕ = record_length s in
-    let there : Test = unless (ltb at (length f)) short (length f) in
-    let limits : Test = unless (leb (least s) n && leb n (most s)) wrong_count at in
-    let whole : Test = unless (leb (behind at s n) (length f)) short (length f) in
+    let there : Test = unless (ltb at (length f)) ShortFile (length f) in
+    let limits : Test = unless (leb (least s) n && leb n (most s)) WrongCount at in
+    let whole : Test = unless (leb (behind at s n) (length f)) ShortFile (length f) in
     let all : Test = each (record_fault s) (at + 1) k (records n k (drop (at + 1) f)) in
     else-plain (◌else◌ there limits) (◌else◌ whole all)
-    (else-plain there limits (unless-plain (ltb at (length f)) short (length f) (omega arith) (omega arith))
-    (unless-plain (leb (least s) n && leb n (most s)) wrong_count at (omega arith) (omega arith)))
-    (else-plain whole all (unless-plain (leb (behind at s n) (length f)) short (length f) (omega arith) (omega arith))
+    (else-plain there limits (unless-plain (ltb at (length f)) ShortFile (length f) (omega arith) (omega arith))
+    (unless-plain (leb (least s) n && leb n (most s)) WrongCount at (omega arith) (omega arith)))
+    (else-plain whole all (unless-plain (leb (behind at s n) (length f)) ShortFile (length f) (omega arith) (omega arith))
     (each-plain (record_fault s) (at + 1) k (records n k (drop (at + 1) f)) (record-plain s)))
 
 shape-plain : (ks st : List ℕ) (i : ℕ) → Plain (shape ks st i)
-shape-plain [] st i = unless-plain (eqb (length (waiting_nodes st)) 0) no_tree i (omega arith) (omega arith)
+shape-plain [] st i = unless-plain (eqb (length (waiting_nodes st)) 0) NoTree i (omega arith) (omega arith)
 shape-plain (k ∷ ks) st i =
     go (leb 1 (length (waiting_nodes st)) && leb (length (waiting_nodes st)) deepest) (shape-plain ks (k ∷ one_less (waiting_nodes st)) (suc i))
   where
-    go : (b : Bool) {t : Test} → Plain t → Plain (cond b t (Err (plain no_tree i)))
+    go : (b : Bool) {t : Test} → Plain t → Plain (cond b t (Err (refusal_at NoTree i)))
     go true p = p
-    go false p = failed-plain no_tree i (omega arith) (omega arith)
+    go false p = failed-plain NoTree i (omega arith) (omega arith)
 
 -- of stages with plain refusals and one more, the answer is plain, or all but the last are passed
 first-refusal : (ts : List Test) (u : Test) (l : Layout) (r : Refusal) → All Plain ts → answer (ts ++ (u ∷ [])) l ≡ Err r
@@ -129,10 +136,10 @@ module _ (e : Edition) (f : List ℕ) (a b c : ℕ) where
         (
           section-plain f (nodes_at_in e a b) (Nodes a),
           (
-            unless-plain _ extra_words (end_in e a b c) (omega arith) (omega arith),
+            unless-plain _ ExtraWords (end_in e a b c) (omega arith) (omega arith),
             (
               shape-plain (map children_of (nodes_in e f a b c)) (1 ∷ []) 0,
-              (unless-plain (eqb (own_atoms (nodes_in e f a b c)) b) wrong_sum 0 (omega arith) (omega arith), tt),
+              (unless-plain (eqb (own_atoms (nodes_in e f a b c)) b) WrongSum 0 (omega arith) (omega arith), tt),
             ),
           ),
         ),
@@ -154,9 +161,10 @@ module _ (e : Edition) (f : List ℕ) (a b c : ℕ) where
 -- what the refusal of the operator i shows: it is named and breaks a law
 record Found (ns : List (List ℕ)) (i : ℕ) (o : List ℕ) (r : Refusal) : Type 0 where
   used : named i ns ≡ true
-  number : r.number ≡ law_broken
+  failure : LawFailure
+  reason : r.reason ≡ LawBroken failure
   place : r.place ≡ i
-  shows : Shows (cells_of o) r.law r.first r.second r.third
+  shows : Shows (cells_of o) failure.law failure.first failure.second failure.third
 
 found : (ns : List (List ℕ)) (i : ℕ) (o : List ℕ) (r : Refusal) → operator_fault ns i o ≡ Err r → Found ns i o r
 unfolding operator_fault
@@ -165,11 +173,15 @@ found ns i o r e =
     (λ t. searched (law_search (cells_of o)) t refl (rw t at e))
     (λ t. let k : ◌≡◌ {A = Test} (Ok tt) (Err r) = rw t at e in let z : ◌≡◌ {A = ℕ} 0 1 = cc in absurd (omega arith))
   where
-    searched : (x : Lawful) → named i ns ≡ true → law_search (cells_of o) ≡ x → broken i x ≡ Err r → Found ns i o r
-    searched Yes t p g = let z : ◌≡◌ {A = ℕ} 0 1 = cc in absurd (omega arith)
-    searched (Broken l a b c) t p g =
-        let q : r ≡ record { number = law_broken; place = i; law = l; first = a; second = b; third = c } = cc in
-        rw q (record { used = t; number = refl; place = refl; shows = search-shows (cells_of o) l a b c p })
+    searched : (x : Searched) → named i ns ≡ true → law_search (cells_of o) ≡ x → broken i x ≡ Err r → Found ns i o r
+    searched (Ok u) t p g = let z : ◌≡◌ {A = ℕ} 0 1 = cc in absurd (omega arith)
+    searched (Err w) t p g =
+        let q : r ≡ refusal_at (LawBroken w) i = cc in
+        rw q (record { used = t; failure = w; reason = refl; place = refl; shows = search-shows (cells_of o) w p })
+
+-- the refusal of a broken law has its number
+numbered : {ns : List (List ℕ)} {i : ℕ} {o : List ℕ} (r : Refusal) → Found ns i o r → refusal_number r ≡ law_broken
+numbered r w = ap reason_number w.reason
 
 -- the laws are refused with the first operator that is
 first-broken : (ns os : List (List ℕ)) (r : Refusal) → laws_fault ns os ≡ Err r
@@ -188,7 +200,7 @@ refused-plain-as e f r g n =
     let c : ℕ = get_or f (nodes_at_in e a b) 0 in
     ⊎_elim
     (λ h. h)
-    (λ h. absurd (n (first-broken (nodes_in e f a b c) (operator_rows e (operators_in e f a)) r h.1).2.number))
+    (λ h. absurd (n (numbered r (first-broken (nodes_in e f a b c) (operator_rows e (operators_in e f a)) r h.1).2)))
     (split e f a b c r g)
 
 -- THE LAST STAGE'S SHOWS A BROKEN LAW
@@ -216,7 +228,9 @@ refused-law-as e f r g n =
       otherwise = o;
       within = omega (arith, w.1.within);
       used = rw z w.2.used;
-      shows = rw z w.2.shows;
+      failure = w.2.failure;
+      reason = w.2.reason;
+      shows = subst (λ k. Shows (operator_at os k) w.2.failure.law w.2.failure.first w.2.failure.second w.2.failure.third) (sym z) w.2.shows;
       first-such = λ i l t.
           (search-exact (operator_at os i) (right-operators e raw a counted o.cells i (omega (arith, w.1.within)))).0
           (passed-search ns i (get_or os i []) (w.1.before i (omega arith) i (omega arith)) t);
@@ -243,7 +257,7 @@ broken-refused-as e f a b c o n =
     (λ i h. o.right-nodes i (rw length-records at h)) p)) in (
       w.0,
       rw (o.operators.count, o.atoms.count, o.nodes.count, s.header, s.operators, s.atoms, s.nodes, s.extra, s.tree, s.sum) w.1,
-      (first-broken ns os w.0 w.2).2.number,
+      numbered w.0 (first-broken ns os w.0 w.2).2,
     )
 
 -- the same for the newest edition

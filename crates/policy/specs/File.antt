@@ -8,7 +8,7 @@
 --   tree_in, tree_of            the tree that they are
 --   all_atoms                   the atoms of some nodes, one node's behind the other's
 use Rattle.std.specs.Prelude.{ℕ, List, [], ◌∷◌, ◌++◌, map, take, drop}
-use Rattle.theory.specs.Rows.{Row}
+use Rattle.theory.specs.declared.Row.{Row}
 use Rattle.theory.specs.Tree.{Tree, Forest, node, bare, ◌▸◌, Node}
 use Rattle.theory.specs.Nodes.{Listed, plant}
 use Rattle.row.specs.Row.{row_of}

@@ -6,11 +6,13 @@
 --
 --   child_counts_in   the child counts of the nodes of a file of an edition
 --   GoodSections      the header and all three sections are good
---   Due e f n at      the refusal n at a place is due to the file f of the edition e
+--   Due e f why at    the refusal for a reason at a place is due to the file f of the edition e
 --   FileOrder         a file of any edition gets the refusal that is due
 use Rattle.std.specs.Prelude.{ℕ, ◌<◌, ◌≡◌, false, List, map, ◌↔◌, length, Err}
-use Rattle.section.specs.Numbers.{header_length_in, extra_words, no_tree, wrong_sum}
-use Rattle.refusal.specs.Plain.{plain}
+use Rattle.refusal.specs.Refusals.{law_broken, reason_number, refusal_at}
+use Rattle.refusal.specs.declared.Reason.{Reason}
+use Rattle.refusal.specs.declared.Reason.TheVariants.{ExtraWords, NoTree, WrongSum}
+use Rattle.section.specs.Numbers.{header_length_in}
 use Rattle.section.specs.Sections.{children_of}
 use Rattle.whole.specs.Whole.{own_atoms}
 use Rattle.policy.specs.Read.{read_as, atoms_at_in, nodes_at_in, end_in, nodes_in}
@@ -32,33 +34,35 @@ pub record GoodSections (e : Edition) (f : List ℕ) (a b c : ℕ) : Type 0 wher
   pub atoms : Good f (atoms_at_in e a) (Atoms e) b
   pub nodes : Good f (nodes_at_in e a b) (Nodes a) c
 
--- WHICH REFUSAL IS DUE to a file of an edition: its number and its place
-pub data Due (e : Edition) (f : List ℕ) : ℕ → ℕ → Type 0 where
-  in-header : {n at : ℕ} → HeaderDue e f n at → Due e f n at
+-- WHICH REFUSAL IS DUE to a file of an edition: its reason and its place
+pub data Due (e : Edition) (f : List ℕ) : Reason → ℕ → Type 0 where
+  in-header : {why : Reason} {at : ℕ} → HeaderDue e f why at → Due e f why at
   -- "Reading goes section by section": a section's refusal, where the header and the sections before it are good
-  in-operators : {n at : ℕ} → RightHeader e f → SectionDue f (header_length_in e) (Operators e) n at → Due e f n at
-  in-atoms : {a n at : ℕ} → RightHeader e f → Good f (header_length_in e) (Operators e) a
-      → SectionDue f (atoms_at_in e a) (Atoms e) n at → Due e f n at
-  in-nodes : {a b n at : ℕ} → RightHeader e f → Good f (header_length_in e) (Operators e) a
-      → Good f (atoms_at_in e a) (Atoms e) b → SectionDue f (nodes_at_in e a b) (Nodes a) n at → Due e f n at
+  in-operators : {why : Reason} {at : ℕ} → RightHeader e f → SectionDue f (header_length_in e) (Operators e) why at
+      → Due e f why at
+  in-atoms : {a at : ℕ} {why : Reason} → RightHeader e f → Good f (header_length_in e) (Operators e) a
+      → SectionDue f (atoms_at_in e a) (Atoms e) why at → Due e f why at
+  in-nodes : {a b at : ℕ} {why : Reason} → RightHeader e f → Good f (header_length_in e) (Operators e) a
+      → Good f (atoms_at_in e a) (Atoms e) b → SectionDue f (nodes_at_in e a b) (Nodes a) why at → Due e f why at
   -- "then 7": words after the last node; the first of them
-  extra : {a b c : ℕ} → GoodSections e f a b c → end_in e a b c < length f → Due e f extra_words (end_in e a b c)
+  extra : {a b c : ℕ} → GoodSections e f a b c → end_in e a b c < length f → Due e f ExtraWords (end_in e a b c)
   -- "8": the first node that the tree has no place for; its index
   no_place : {a b c i : ℕ} → GoodSections e f a b c → length f ≡ end_in e a b c
-      → FirstWrong (HasPlace (child_counts_in e f a b c)) c i → Due e f no_tree i
+      → FirstWrong (HasPlace (child_counts_in e f a b c)) c i → Due e f NoTree i
   -- every node has its place and children are missing; the node count
   missing : {a b c : ℕ} → GoodSections e f a b c → length f ≡ end_in e a b c
       → ((i : ℕ) → i < c → HasPlace (child_counts_in e f a b c) i) → ended (child_counts_in e f a b c) ≡ false
-      → Due e f no_tree c
+      → Due e f NoTree c
   -- "9": the nodes are one tree, and their own-atom counts do not add up to the atoms; place 0
   sum : {a b c : ℕ} → GoodSections e f a b c → length f ≡ end_in e a b c
       → OneTree (file_nodes_in e f (record { operators = a; atoms = b; nodes = c }))
-      → ¬ (own_atoms (nodes_in e f a b c) ≡ b) → Due e f wrong_sum 0
+      → ¬ (own_atoms (nodes_in e f a b c) ≡ b) → Due e f WrongSum 0
 
 -- THE ORDER OF REFUSALS 1 TO 9, in a file of any edition (file-order)
 pub record FileOrder : Type 0 where
   -- a file gets the refusal that is due, and without a law none but that
-  pub due : (e : Edition) (f : List ℕ) (n at : ℕ) → (read_as e f ≡ Err (plain n at)) ↔ Due e f n at
+  pub due : (e : Edition) (f : List ℕ) (why : Reason) (at : ℕ) → ¬ (reason_number why ≡ law_broken)
+      → (read_as e f ≡ Err (refusal_at why at)) ↔ Due e f why at
   -- "10" comes last: where none of these is due the file is well formed but for the laws
-  pub last : (e : Edition) (f : List ℕ) → ((n at : ℕ) → ¬ Due e f n at)
+  pub last : (e : Edition) (f : List ℕ) → ((why : Reason) (at : ℕ) → ¬ Due e f why at)
       → (a : ℕ) × (b : ℕ) × (c : ℕ) × OtherwiseIn e f a b c

@@ -7,18 +7,17 @@
 --   stages, answer     all stages in order
 --   Reading            what a file is read as
 --   read_as, read_of   the answer, for an edition and for the newest
---   read_refusal       the answer's number, place, law and actions
 use Rattle.std.specs.Prelude.{ℕ, ◌+◌, List, [], ◌∷◌, Result, Ok, Err, leb, get_or, length, drop}
 use Rattle.words.specs.Records.{records}
 use Rattle.section.specs.Numbers.{latest, header_length_in, operator_length_in, atom_length_in, node_length}
-use Rattle.section.specs.Numbers.{extra_words}
+use Rattle.refusal.specs.Refusals.{refusal_at}
+use Rattle.refusal.specs.declared.Reason.TheVariants.{ExtraWords}
+use Rattle.refusal.specs.declared.Refusal.{Refusal}
 use Rattle.section.specs.Cells.{operator_rows}
 use Rattle.section.specs.declared.Edition.{Edition}
 use Rattle.policy.specs.declared.Layout.{Layout}
-use Rattle.refusal.specs.declared.Refusal.{Refusal}
 use Rattle.section.specs.declared.Section.TheVariants.{Operators, Atoms, Nodes}
 use Rattle.section.specs.Sections.{Test, unless, header_fault, section_fault, behind}
-use Rattle.refusal.specs.Plain.{plain}
 use Rattle.whole.specs.Whole.{shape_fault, sum_fault, laws_fault}
 
 -- where the count of the atoms stands in a file of a operators
@@ -66,7 +65,7 @@ node_records f a b c = nodes_in latest f a b c
 
 -- no words stand behind the end of a file
 abbrev pub extra_fault : List ℕ → ℕ → Test
-extra_fault f end = unless (leb (length f) end) extra_words end
+extra_fault f end = unless (leb (length f) end) ExtraWords end
 
 -- what is tested once all three sections are good: the count of the operators stands at h, that of the nodes at q
 unfoldable pub whole_stages : Edition → List ℕ → ℕ → ℕ → ℕ → ℕ → ℕ → List Test
@@ -112,8 +111,3 @@ read_as e f =
 -- for the newest edition
 abbrev pub read_of : List ℕ → Reading
 read_of f = read_as latest f
-
--- the number, place, law and actions of an answer: 0, 0, no law and three don't cares where the file is accepted
-abbrev pub read_refusal : Reading → Refusal
-read_refusal (Ok l) = plain 0 0
-read_refusal (Err r) = r

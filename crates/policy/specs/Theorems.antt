@@ -8,14 +8,17 @@
 --   RefusedPlain                           every other refusal names no law
 --   PartsAccepted, AcceptedParts           a file is accepted exactly when its parts are right and lawful
 --   PartsWhole, PartsRead                  a file is what its parts make, and has the parts that it is made of
-use Rattle.std.specs.Prelude.{ℕ, ◌≤◌, ◌<◌, ◌≡◌, true, List, ◌↔◌, Ok, Err}
+use Rattle.std.specs.Prelude.{ℕ, ◌≤◌, ◌<◌, ◌≡◌, true, List, ◌↔◌, Ok, Err, None}
 use Rattle.theory.specs.Tree.{bare, ◌▸◌}
 use Rattle.theory.specs.Nodes.{plant, list_tree}
 use Rattle.action.specs.Laws.{Shows}
-use Rattle.section.specs.Numbers.{latest, deepest, law_broken}
+use Rattle.refusal.specs.Refusals.{law_broken, failure_of, refusal_number}
+use Rattle.refusal.specs.declared.Reason.TheVariants.{LawBroken}
+use Rattle.action.specs.declared.LawFailure.{LawFailure}
+use Rattle.refusal.specs.declared.Refusal.{Refusal}
+use Rattle.section.specs.Numbers.{latest, deepest}
 use Rattle.policy.specs.Read.{operators_in, nodes_in, operator_records, node_records, layout, read_as, read_of}
 use Rattle.whole.specs.Whole.{named}
-use Rattle.refusal.specs.Plain.{plain}
 use Rattle.section.specs.Cells.{operator_rows}
 use Rattle.whole.specs.Meaning.{operator_at, depth, LawsKept, KeepsLaws}
 use Rattle.policy.specs.File.{atoms_of, file_nodes, tree_of, all_atoms}
@@ -23,7 +26,6 @@ use Rattle.policy.specs.WellFormed.{OtherwiseIn, Otherwise, WellFormedIn, WellFo
 use Rattle.policy.specs.Parts.{Parts, file_words_in, parts_in, layout_of_parts, RightPartsIn, LawfulPartsIn}
 use Rattle.section.specs.declared.Edition.{Edition}
 use Rattle.policy.specs.declared.Layout.{Layout}
-use Rattle.refusal.specs.declared.Refusal.{Refusal}
 
 -- a file is accepted exactly when it is well formed (accepted-as, accepted-exactly)
 abbrev pub AcceptedAs : Type 0
@@ -56,8 +58,10 @@ pub record BrokenLawIn (e : Edition) (f : List ℕ) (r : Refusal) : Type 0 where
   pub otherwise : OtherwiseIn e f operators atoms nodes
   pub within : r.place < operators
   pub used : named r.place (nodes_in e f operators atoms nodes) ≡ true
-  pub shows : Shows (operator_at (operator_rows e (operators_in e f operators)) r.place) r.law r.first r.second
-      r.third
+  pub failure : LawFailure
+  pub reason : r.reason ≡ LawBroken failure
+  pub shows : Shows (operator_at (operator_rows e (operators_in e f operators)) r.place) failure.law failure.first
+      failure.second failure.third
   pub first-such : (i : ℕ) → i < r.place → named i (nodes_in e f operators atoms nodes) ≡ true
       → KeepsLaws (operator_at (operator_rows e (operators_in e f operators)) i)
 
@@ -67,29 +71,29 @@ BrokenLaw f r = BrokenLawIn latest f r
 -- the refusal for a broken law says so (refused-law-as, refused-law), and is given wherever one is broken in a file
 -- otherwise well formed (broken-refused-as, broken-refused)
 abbrev pub RefusedLawAs : Type 0
-RefusedLawAs = (e : Edition) (f : List ℕ) (r : Refusal) → read_as e f ≡ Err r → r.number ≡ law_broken
+RefusedLawAs = (e : Edition) (f : List ℕ) (r : Refusal) → read_as e f ≡ Err r → refusal_number r ≡ law_broken
     → BrokenLawIn e f r
 
 abbrev pub RefusedLaw : Type 0
-RefusedLaw = (f : List ℕ) (r : Refusal) → read_of f ≡ Err r → r.number ≡ law_broken → BrokenLaw f r
+RefusedLaw = (f : List ℕ) (r : Refusal) → read_of f ≡ Err r → refusal_number r ≡ law_broken → BrokenLaw f r
 
 abbrev pub BrokenRefusedAs : Type 0
 BrokenRefusedAs = (e : Edition) (f : List ℕ) (a b c : ℕ) → OtherwiseIn e f a b c
     → ¬ LawsKept (operator_rows e (operators_in e f a)) (nodes_in e f a b c)
-    → (r : Refusal) × (read_as e f ≡ Err r) × (r.number ≡ law_broken)
+    → (r : Refusal) × (read_as e f ≡ Err r) × (refusal_number r ≡ law_broken)
 
 abbrev pub BrokenRefused : Type 0
 BrokenRefused = (f : List ℕ) (a b c : ℕ) → Otherwise f a b c → ¬ LawsKept (operator_records f a) (node_records f a b c)
-    → (r : Refusal) × (read_of f ≡ Err r) × (r.number ≡ law_broken)
+    → (r : Refusal) × (read_of f ≡ Err r) × (refusal_number r ≡ law_broken)
 
--- every other refusal has a number below it, and names no law and three don't cares (refused-plain-as, refused-plain)
+-- every other refusal has a number below it, and names no law (refused-plain-as, refused-plain)
 abbrev pub RefusedPlainAs : Type 0
-RefusedPlainAs = (e : Edition) (f : List ℕ) (r : Refusal) → read_as e f ≡ Err r → ¬ (r.number ≡ law_broken)
-    → (1 ≤ r.number) × (r.number < law_broken) × (r ≡ plain r.number r.place)
+RefusedPlainAs = (e : Edition) (f : List ℕ) (r : Refusal) → read_as e f ≡ Err r → ¬ (refusal_number r ≡ law_broken)
+    → (1 ≤ (refusal_number r)) × (refusal_number r < law_broken) × (failure_of r.reason ≡ None)
 
 abbrev pub RefusedPlain : Type 0
-RefusedPlain = (f : List ℕ) (r : Refusal) → read_of f ≡ Err r → ¬ (r.number ≡ law_broken)
-    → (1 ≤ r.number) × (r.number < law_broken) × (r ≡ plain r.number r.place)
+RefusedPlain = (f : List ℕ) (r : Refusal) → read_of f ≡ Err r → ¬ (refusal_number r ≡ law_broken)
+    → (1 ≤ (refusal_number r)) × (refusal_number r < law_broken) × (failure_of r.reason ≡ None)
 
 -- the file that right and lawful parts make is accepted, with their layout (parts-accepted)
 abbrev pub PartsAccepted : Type 0

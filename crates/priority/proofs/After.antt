@@ -25,12 +25,13 @@ use Rattle.flow.proofs.Laws.{overlap-exactly, meets-overlap}
 use Rattle.action.specs.declared.Action.TheVariants.{DontCare}
 use Rattle.table.specs.Table.{row_count, past, check_of, RightTable}
 use Rattle.std.specs.Prelude.{Result, Ok, Err}
-use Rattle.refusal.specs.Plain.{fault}
-use Rattle.refusal.specs.declared.Fault.{Fault}
+use Rattle.refusal.specs.Refusals.{refusal_at}
+use Rattle.refusal.specs.declared.Reason.TheVariants.{ShortBuffer}
+use Rattle.refusal.specs.declared.Refusal.{Refusal}
 use Rattle.table.specs.Scan.{scan_action}
 use Rattle.table.proofs.Tables.{length-rows, right-row-at, check-exactly}
 use Rattle.table.proofs.Scans.{scan-found}
-use Rattle.priority.specs.Numbering.{short_buffer, over, levels_of, priorities_of, chain_of, numbered, number_of, priorities_after, chain_after, Ready, Shared}
+use Rattle.priority.specs.Numbering.{over, levels_of, priorities_of, chain_of, numbered, number_of, priorities_after, chain_after, Ready, Shared}
 use Rattle.priority.specs.Numbering.{count, priority, link}
 use Rattle.priority.specs.Theorems.{AnswerCounts, EarlierHigher, PrioritiesUsed, FewestNumbers, ChainForces}
 use Rattle.priority.specs.Theorems.{SwitchScans, SwitchObeys, WordsStay, RefusedStays}
@@ -41,7 +42,7 @@ use Rattle.row.specs.Row.{rows_in}
 over-shared : (ws : List ℕ) → RightTable ws → (j i : ℕ) → j < row_count ws → i < row_count ws → (over ws j i ≡ true) ↔ Shared ws j i
 unfolding over
 over-shared ws t j i h g =
-    overlap-exactly (get_or (rows_in ws) j past).match (get_or (rows_in ws) i past).match (right-row-at ws t j h).match (right-row-at ws t i g).match
+    overlap-exactly (get_or (rows_in ws) j past).matching (get_or (rows_in ws) i past).matching (right-row-at ws t j h).matching (right-row-at ws t i g).matching
 
 module _ (ws : List ℕ) where
   -- the theory's laws, of this table's levels
@@ -100,7 +101,7 @@ pub number-ready : (ws ps cs : List ℕ) (l : ℕ) → number_of ws (length ps) 
 unfolding number_of
 number-ready ws ps cs l = from (check_of ws) refl
   where
-    from : (x : Result ℕ Fault) → check_of ws ≡ x → numbered x (length ps) (length cs) (level_count (levels_of ws)) ≡ counting l → Ready ws ps cs
+    from : (x : Result ℕ Refusal) → check_of ws ≡ x → numbered x (length ps) (length cs) (level_count (levels_of ws)) ≡ counting l → Ready ws ps cs
     from (Ok n) e =
         let t : RightTable ws × (n ≡ row_count ws) = (check-exactly ws n).0 e in
         by-test (leb n (length ps) && leb n (length cs))
@@ -108,7 +109,7 @@ number-ready ws ps cs l = from (check_of ws) refl
         let h = simp and-eq-true_iff at b in
         record { right = t.0; priorities = omega (arith, t.1, leb-true n (length ps) h.0); chain = omega (arith, t.1, leb-true n (length cs) h.1) })
         (λ b q.
-        let q' : Err (fault short_buffer 0) ≡ counting l = rw b at q in
+        let q' : Err (refusal_at ShortBuffer 0) ≡ counting l = rw b at q in
         let z : ◌≡◌ {A = ℕ} 0 1 = cc in absurd (omega arith))
     from (Err f) e = λ q. let z : ◌≡◌ {A = ℕ} 0 1 = cc in absurd (omega arith)
 

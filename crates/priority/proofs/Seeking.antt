@@ -1,15 +1,16 @@
--- The loops that look for the first place that passes a test: what is left of the search from a place on is the whole search. Assumes nothing.
-use Prim.Native.Nat.{ℕ, zero, suc, ◌+◌, ◌-◌, ◌≤◌, ◌<◌}
+-- The search for the first place that passes a test, as `position` and `find` make it. Assumes nothing.
+use Prim.Native.Nat.{ℕ, zero, suc, ◌+◌, ◌≤◌}
 use native.Mathlib.Omega.{arith}
 use native.Mathlib.Numerals.{add-one}
 use mathlib.Core.Path.{◌≡◌, refl, sym, ap, ◌∙◌}
-use mathlib.Core.Bool.{Bool, true, false, cond, ◌&&◌}
+use mathlib.Core.Bool.{Bool, cond, ◌&&◌}
 use mathlib.Core.List.{List, ◌∷◌}
 use lib.Dec.{eqb, ltb}
 use lib.ListN.{length, get_or}
 use borrow.Author.Tests.{ltb-false}
-use Rattle.std.specs.List.{position, position_or_len}
-use Rattle.std.specs.Option.{unwrap_or}
+use Rattle.std.specs.List.{find, position, position_or_len, range_with_len}
+use Rattle.std.specs.Prelude.{Option, Some, None}
+use Rattle.std.specs.Option.{unwrap_or, option_map}
 use Rattle.std.proofs.lemmas.List.Recursion.{is_position_or_len}
 use Rattle.logic.proofs.Tests.{by-test}
 use Rattle.theory.specs.Number.{seek, at_level, first_of_level, overlaps_at}
@@ -19,24 +20,6 @@ use Rattle.table.specs.Table.{past}
 use Rattle.priority.specs.Numbering.{over}
 use Rattle.row.specs.Row.{rows_in}
 
--- one place less is left
-seek-more : (test : ℕ → Bool) (n i : ℕ) → i < n → seek test (n - i) i ≡ cond (test i) i (seek test (n - (i + 1)) (i + 1))
-seek-more test n i h = let q : n - i ≡ suc (n - (i + 1)) = omega arith in rw (q, add-one i)
-
--- the start of the search, a place that passes, one that does not, and the end
-pub seek-start : (test : ℕ → Bool) (n : ℕ) → seek test (n - 0) 0 ≡ seek test n 0
-seek-start test n = let q : n - 0 ≡ n = omega arith in rw q
-
-module _ (test : ℕ → Bool) (n i w : ℕ) (inv : seek test (n - i) i ≡ w) where
-  pub seek_hit : i < n → test i ≡ true → i ≡ w
-  seek_hit h t = rw (seek-more test n i h, t) at inv
-
-  pub seek-miss : i < n → test i ≡ false → seek test (n - (i + 1)) (i + 1) ≡ w
-  seek-miss h t = rw (seek-more test n i h, t) at inv
-
-  pub seek-end : i ≡ n → n ≡ w
-  seek-end h = let q : n - i ≡ 0 = omega arith in sym h ∙ rw q at inv
-
 -- the search goes no further than the places it has
 pub seek-within : (test : ℕ → Bool) (n at : ℕ) → seek test n at ≤ at + n
 seek-within test zero at = omega arith
@@ -44,8 +27,8 @@ seek-within test (suc n) at =
     by-test (test at) (λ t. rw t (omega arith)) (λ t. rw t (omega (arith, seek-within test n (suc at))))
 
 -- the test of a step back, as the loop makes it
-pub step-test : (ws ls : List ℕ) (i l j : ℕ) (m : Match) → m ≡ (get_or (rows_in ws) i past).match → (b : Bool)
-    → b ≡ (overlap (get_or (rows_in ws) j past).match m && eqb (get_or ls j 0) l) → overlaps_at (over ws) ls i l j ≡ b
+pub step-test : (ws ls : List ℕ) (i l j : ℕ) (m : Match) → m ≡ (get_or (rows_in ws) i past).matching → (b : Bool)
+    → b ≡ (overlap (get_or (rows_in ws) j past).matching m && eqb (get_or ls j 0) l) → overlaps_at (over ws) ls i l j ≡ b
 unfolding over
 step-test ws ls i l j m e b d = sym (rw e at d)
 
@@ -72,3 +55,15 @@ first-position ls l =
     by-test (ltb n (length ls))
     (λ t. rw t (sym found))
     (λ t. let h : length ls ≤ n = ltb-false n (length ls) t in rw t (omega arith))
+
+-- the same search, as `find` makes it among numbers
+pub seek-find : (test : ℕ → Bool) (n at : ℕ) → unwrap_or (find test (range_with_len at n)) (at + n) ≡ seek test n at
+seek-find test zero at = omega arith
+seek-find test (suc n) at =
+    let e : at + suc n ≡ suc at + n = omega arith in
+    by-test (test at) (λ t. rw t) (λ t. rw (t, e, add-one at) (seek-find test n (suc at)))
+
+-- what was found, or else the place after the last
+pub found-or : (o p : Option ℕ) (d : ℕ) → option_map (λ x. x) o ≡ p → unwrap_or o d ≡ unwrap_or p (0 + d)
+found-or None p d e = let z : d ≡ 0 + d = omega arith in ap (λ q. unwrap_or q d) e ∙ ap (unwrap_or p) z
+found-or (Some x) p d e = let z : d ≡ 0 + d = omega arith in ap (λ q. unwrap_or q d) e ∙ ap (unwrap_or p) z

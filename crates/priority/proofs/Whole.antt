@@ -13,10 +13,11 @@ use Rattle.theory.specs.Number.{level_count, chain_under}
 use Rattle.theory.proofs.Levels.{level-below, length-levels}
 use Rattle.table.specs.Table.{row_count, check_of, RightTable}
 use Rattle.std.specs.Prelude.{Result, Ok, Err}
-use Rattle.refusal.specs.Plain.{fault}
-use Rattle.refusal.specs.declared.Fault.{Fault}
+use Rattle.refusal.specs.Refusals.{refusal_at}
+use Rattle.refusal.specs.declared.Reason.TheVariants.{ShortBuffer}
+use Rattle.refusal.specs.declared.Refusal.{Refusal}
 use Rattle.table.proofs.Tables.{check-exactly}
-use Rattle.priority.specs.Numbering.{short_buffer, over, levels_of, priorities_of, chain_of, number_of, priorities_after, chain_after, Answered}
+use Rattle.priority.specs.Numbering.{over, levels_of, priorities_of, chain_of, number_of, priorities_after, chain_after, Answered}
 use Rattle.priority.proofs.Back.{count-few}
 use Rattle.words.proofs.Laid.{laid-front}
 
@@ -54,11 +55,11 @@ module _ (ws ls : List ℕ) (count : ℕ) (e : count ≡ level_count (levels_of 
   stored-chain l l₀ h = h ∙ ap₂ (λ n k. laid 0 (chain_under (over ws) k n) l₀) e d
 
 -- an answer of n
-abbrev pub counting : ℕ → Result ℕ Fault
+abbrev pub counting : ℕ → Result ℕ Refusal
 counting n = Ok n
 
 -- a table that is not right
-pub wrong-table : (ws ps cs : List ℕ) (f : Fault) → check_of ws ≡ Err f → Answered ws ps cs (Err f) ps cs
+pub wrong-table : (ws ps cs : List ℕ) (f : Refusal) → check_of ws ≡ Err f → Answered ws ps cs (Err f) ps cs
 unfolding number_of priorities_after chain_after
 wrong-table ws ps cs f d = rw d (refl, refl, refl)
 
@@ -67,7 +68,7 @@ module _ (ws ps cs : List ℕ) (n : ℕ) (t : RightTable ws × (n ≡ row_count 
   passed = (check-exactly ws n).1 t
 
   -- a buffer is too short
-  pub short-buffer : (leb n (length ps) && leb n (length cs)) ≡ false → Answered ws ps cs (Err (fault short_buffer 0)) ps cs
+  pub short-buffer : (leb n (length ps) && leb n (length cs)) ≡ false → Answered ws ps cs (Err (refusal_at ShortBuffer 0)) ps cs
   unfolding number_of priorities_after chain_after
   short-buffer h = rw (passed, h) (refl, refl, refl)
 

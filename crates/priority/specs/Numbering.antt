@@ -1,7 +1,6 @@
 -- The numbering of a table: its answer, and every word of both buffers after it. See docs/FORMAT.md, "Priorities" and
 -- "Numbers a caller can get back".
 --
---   short_buffer                    the number of a buffer that is too short
 --   over ws j i                     whether rows j and i overlap
 --   levels_of ws                    the rows' levels
 --   priorities_of ws                the rows' priorities
@@ -15,7 +14,6 @@
 --   NumbersFit ws ps cs             what the numbering of a table needs: a word for each row, and room for the chain
 --   LevelsBefore ws ls i count      what the level of row i needs: the levels of the rows before it, all below count
 --   ChainFits ws ls count cs        what the chain needs: the rows' levels, how many there are, and as many words
---   answer_number, answer_place     the number and the place of an answer; both are 0 where it is no refusal
 --   answer_count                    how many priorities an answer counts; 0 where it is a refusal
 --   Ready                           a right table, and neither buffer is shorter than its row count
 --   Shared ws j i                   some packet in range matches rows j and i
@@ -26,12 +24,9 @@ use Rattle.theory.specs.Number.{rows_overlap, levels, level_count, priorities, c
 use Rattle.flow.specs.Match.{overlap, SharedPacket}
 use Rattle.row.specs.Row.{most_rows, rows_in}
 use Rattle.table.specs.Table.{row_count, past, check_of, RightTable}
-use Rattle.refusal.specs.Plain.{fault}
-use Rattle.refusal.specs.declared.Fault.{Fault}
-
--- the number of a buffer that is shorter than the row count
-abbrev pub short_buffer : ℕ
-short_buffer = 17
+use Rattle.refusal.specs.Refusals.{refusal_at}
+use Rattle.refusal.specs.declared.Reason.TheVariants.{ShortBuffer}
+use Rattle.refusal.specs.declared.Refusal.{Refusal}
 
 -- whether rows j and i overlap
 unfoldable pub over : List ℕ → ℕ → ℕ → Bool
@@ -50,16 +45,16 @@ abbrev pub chain_of : List ℕ → List ℕ
 chain_of ws = chain (over ws) (levels_of ws)
 
 -- the answer of l priorities, where the table is right and neither buffer is shorter than the row count
-abbrev pub numbered : Result ℕ Fault → ℕ → ℕ → ℕ → Result ℕ Fault
-numbered (Ok n) p c l = cond (leb n p && leb n c) (Ok l) (Err (fault short_buffer 0))
+abbrev pub numbered : Result ℕ Refusal → ℕ → ℕ → ℕ → Result ℕ Refusal
+numbered (Ok n) p c l = cond (leb n p && leb n c) (Ok l) (Err (refusal_at ShortBuffer 0))
 numbered (Err f) p c l = Err f
 
 -- the answer, for buffers of p and c words
-unfoldable pub number_of : List ℕ → ℕ → ℕ → Result ℕ Fault
+unfoldable pub number_of : List ℕ → ℕ → ℕ → Result ℕ Refusal
 number_of ws p c = numbered (check_of ws) p c (level_count (levels_of ws))
 
 -- words at the start of a buffer, unless the answer is a refusal; every other word stays
-abbrev pub stored : Result ℕ Fault → List ℕ → List ℕ → List ℕ
+abbrev pub stored : Result ℕ Refusal → List ℕ → List ℕ → List ℕ
 stored (Ok l) F buffer = laid 0 F buffer
 stored (Err f) F buffer = buffer
 
@@ -72,7 +67,7 @@ unfoldable pub chain_after : List ℕ → List ℕ → List ℕ → List ℕ
 chain_after ws ps cs = stored (number_of ws (length ps) (length cs)) (chain_of ws) cs
 
 -- what the numbering leaves: the answer, the priority buffer and the chain buffer
-abbrev pub Answered : List ℕ → List ℕ → List ℕ → Result ℕ Fault → List ℕ → List ℕ → Type 0
+abbrev pub Answered : List ℕ → List ℕ → List ℕ → Result ℕ Refusal → List ℕ → List ℕ → Type 0
 Answered ws ps cs r ps' cs' =
     (r ≡ number_of ws (length ps) (length cs)) × (ps' ≡ priorities_after ws ps cs) × (cs' ≡ chain_after ws ps cs)
 
@@ -90,18 +85,8 @@ abbrev pub ChainFits : List ℕ → List ℕ → ℕ → List ℕ → Type 0
 ChainFits ws ls count cs = (length ls ≡ row_count ws) × (count ≡ level_count ls) × (row_count ws ≤ most_rows)
     × (count ≤ length cs)
 
--- the number of an answer, 0 where it is no refusal
-abbrev pub answer_number : Result ℕ Fault → ℕ
-answer_number (Ok l) = 0
-answer_number (Err f) = f.number
-
--- the place of an answer, 0 where it is no refusal
-abbrev pub answer_place : Result ℕ Fault → ℕ
-answer_place (Ok l) = 0
-answer_place (Err f) = f.place
-
 -- how many priorities an answer counts, 0 where it is a refusal
-abbrev pub answer_count : Result ℕ Fault → ℕ
+abbrev pub answer_count : Result ℕ Refusal → ℕ
 answer_count (Ok l) = l
 answer_count (Err f) = 0
 
@@ -113,7 +98,7 @@ pub record Ready (ws ps cs : List ℕ) : Type 0 where
 
 -- some packet in range matches rows j and i
 abbrev pub Shared : List ℕ → ℕ → ℕ → Type 0
-Shared ws j i = SharedPacket (get_or (rows_in ws) j past).match (get_or (rows_in ws) i past).match
+Shared ws j i = SharedPacket (get_or (rows_in ws) j past).matching (get_or (rows_in ws) i past).matching
 
 module _ (ws ps cs : List ℕ) where
   -- how many priorities the answer counts

@@ -21,7 +21,7 @@ use Rattle.table.specs.Table.{row_count, past}
 use Rattle.table.specs.Scan.{scan_of, scan_action}
 use Rattle.priority.specs.Numbering.{over, levels_of, number_of, priorities_after, chain_after, Ready}
 use Rattle.priority.specs.Numbering.{Shared, count, priority, link}
-use Rattle.refusal.specs.declared.Fault.{Fault}
+use Rattle.refusal.specs.declared.Refusal.{Refusal}
 use Rattle.row.specs.Row.{rows_in}
 
 -- the answer is a count
@@ -78,5 +78,5 @@ WordsStay = (ws ps cs : List ℕ) → Ready ws ps cs
 
 -- a refusal leaves both buffers as they were
 abbrev pub RefusedStays : Type 0
-RefusedStays = (ws ps cs : List ℕ) (f : Fault) → number_of ws (length ps) (length cs) ≡ Err f
+RefusedStays = (ws ps cs : List ℕ) (f : Refusal) → number_of ws (length ps) (length cs) ≡ Err f
     → (priorities_after ws ps cs ≡ ps) × (chain_after ws ps cs ≡ cs)

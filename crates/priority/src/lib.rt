@@ -10,13 +10,11 @@ ghost use Rattle.table.specs.Table.{row_count, past, RightTable};
 ghost use Rattle.priority.specs.Numbering.{over, levels_of, priorities_of, chain_of, Answered};
 ghost use Rattle.priority.specs.Numbering.{NumbersFit, LevelsBefore, ChainFits};
 
-use flow::{Match, overlap, read_match};
-use refusal::Fault;
+use flow::Match;
+use refusal::{Reason, Refusal};
 use row::ROW_WORDS;
-use table::check;
-
-// The number of the refusal: a buffer is shorter than the row count.
-pub const SHORT_BUFFER: u32 = 17;
+use table::{check, match_at};
+use words::word;
 
 // A row's place: place 0 is scanned first.
 #[derive(Clone, Copy)]
@@ -26,9 +24,45 @@ struct Place(usize);
 #[derive(Clone, Copy)]
 struct Priority(u32);
 
+impl Place {
+    // The first row of a level; the row count if there is none.
+    fn first_of_level(levels: &[u32], l: u32) -> Place
+        ensures { result.0 ≡ first_of_level levels.now l }
+    {
+        Place(levels.iter().position(|x| *x == l).unwrap_or(levels.len()))
+    }
+
+    // The first row before this one that overlaps it and has a level; this one if there is none.
+    fn step_back(self, table: &[u32], levels: &[u32], l: u32) -> Place
+        ensures { result.0 ≡ step_back (over table.now) levels.now self.0 l }
+    {
+        let m = match_at(table, self.0);
+        let found = (0..self.0).find(|i| overlaps_at(table, m, *i, word(levels, *i) == l));
+        Place(found.unwrap_or(self.0))
+    }
+
+    // The only store of a place of the chain.
+    fn put(self, chain: &mut [u32], step: u32)
+        requires { (step < length chain.old) × (self.0 < 2 ^ 32) }
+        ensures { chain.new ≡ set chain.old step self.0 }
+    {
+        let i = step as usize;
+        chain[i] = self.0 as u32;
+    }
+}
+
+impl Priority {
+    // The only store of a priority.
+    fn put(self, word: &mut u32)
+        ensures { word.new ≡ self.0 }
+    {
+        *word = self.0;
+    }
+}
+
 // Numbers a table: row i's priority goes to word i of one buffer, the chain to the first words of the other. Answers how
 // many priorities there are.
-pub fn number(table: &[u32], priorities: &mut [u32], chain: &mut [u32]) -> Result<u32, Fault>
+pub fn number(table: &[u32], priorities: &mut [u32], chain: &mut [u32]) -> Result<u32, Refusal>
     ensures { Answered table.now priorities.old chain.old
         result priorities.new chain.new }
 {
@@ -42,17 +76,14 @@ fn number_right(
     rows: usize,
     priorities: &mut [u32],
     chain: &mut [u32],
-) -> Result<u32, Fault>
+) -> Result<u32, Refusal>
     requires { RightTable table.now × (rows ≡ row_count table.now) }
     ensures { Answered table.now priorities.old chain.old
         result priorities.new chain.new }
 {
     let fits = (rows <= priorities.len()) & (rows <= chain.len());
     if !fits {
-        return Err(Fault {
-            number: SHORT_BUFFER,
-            place: 0,
-        });
+        return Err(Reason::ShortBuffer.at(0));
     }
     Ok(put_numbers(table, &mut priorities[..rows], chain))
 }
@@ -78,7 +109,9 @@ fn put_levels(table: &[u32], levels: &mut [u32]) -> u32
         × (levels.new ≡ levels_of table.now) }
 {
     let mut count = 0;
-    // The first i words are the levels of the first i rows, and count is how many levels these have.
+    // The first i words are the levels of the first i rows, and count is how many levels these have. By place: each
+    // level is stored behind those that it comes from, in the buffer that they are read from (no heap), so the table
+    // and its levels are lent anew at each turn, and are no struct.
     for i in 0..levels.len() {
         let l = level(table, levels, i, count);
         levels[i] = l;
@@ -94,9 +127,10 @@ fn level(table: &[u32], levels: &[u32], i: usize, count: u32) -> u32
     requires { LevelsBefore table.now levels.now i count }
     ensures { (result ≡ above (over table.now) levels.now i i) × (result ≤ count) }
 {
-    let m = row_match(table, i);
+    let m = match_at(table, i);
     let mut best = 0;
-    // The level is the larger of best and what row j and those before it ask for.
+    // The level is the larger of best and what row j and those before it ask for. By number: a row is read only where
+    // its level can raise the best one, and an iterator over rows would read each.
     for j in (0..i).rev() {
         if count <= best {
             return best;
@@ -111,13 +145,23 @@ fn level(table: &[u32], levels: &[u32], i: usize, count: u32) -> u32
 fn raised(table: &[u32], m: Match, j: usize, level: u32, best: u32) -> u32
     requires { (j < row_count table.now) × (level < most_rows) }
     ensures { result ≡ max best
-        (cond (overlap (get_or (rows_in table.now) j past).match m) (suc level) 0) }
+        (cond (overlap (get_or (rows_in table.now) j past).matching m) (suc level) 0) }
 {
     if level < best {
         return best;
     }
-    let overlaps = overlap(row_match(table, j), m);
+    let overlaps = row_match(table, j).overlap(m);
     if overlaps { level + 1 } else { best }
+}
+
+// The match of row i. By `table::match_at`, which tests the place, the numbering of disjoint rows took 1.6 times as long.
+fn row_match(table: &[u32], i: usize) -> Match
+    requires { i < row_count table.now }
+    ensures { result ≡ (get_or (rows_in table.now) i past).matching }
+{
+    let from = i * ROW_WORDS;
+    let end = from + ROW_WORDS;
+    Match::read(&table[from..end])
 }
 
 // Stores the chain from its end back to its start.
@@ -130,47 +174,24 @@ fn put_chain(table: &[u32], levels: &[u32], count: u32, chain: &mut [u32])
         return;
     }
     let end = count - 1;
-    let mut at = first_of_level(levels, end);
-    put_place(chain, end, at);
-    // The places of the chain behind step l are stored, and at is the last that was.
+    let mut at = Place::first_of_level(levels, end);
+    at.put(chain, end);
+    // The places of the chain behind step l are stored, and at is the last that was. The number is a level, no place of
+    // a list.
     for l in (0..end).rev() {
-        at = step_back(table, levels, at, l);
-        put_place(chain, l, at);
+        at = at.step_back(table, levels, l);
+        at.put(chain, l);
     }
-}
-
-// The first row of a level; the row count if there is none.
-fn first_of_level(levels: &[u32], l: u32) -> Place
-    ensures { result.0 ≡ first_of_level levels.now l }
-{
-    Place(levels.iter().position(|x| *x == l).unwrap_or(levels.len()))
-}
-
-// The first row before a place that overlaps the row there and has a level; the place itself if there is none.
-fn step_back(table: &[u32], levels: &[u32], at: Place, l: u32) -> Place
-    requires { (at.0 < row_count table.now) × (at.0 ≤ length levels.now) }
-    ensures { result.0 ≡ step_back (over table.now) levels.now at.0 l }
-{
-    let end = at.0;
-    let m = row_match(table, end);
-    // None of the first i rows overlaps the row and has the level.
-    for i in 0..end {
-        if overlaps_at(table, m, i, levels[i] == l) {
-            return Place(i);
-        }
-    }
-    Place(end)
 }
 
 // Whether row j overlaps a match, asked only where another test passes.
 fn overlaps_at(table: &[u32], m: Match, j: usize, passes: bool) -> bool
-    requires { j < row_count table.now }
-    ensures { result ≡ (overlap (get_or (rows_in table.now) j past).match m && passes) }
+    ensures { result ≡ (overlap (get_or (rows_in table.now) j past).matching m && passes) }
 {
     if !passes {
         return false;
     }
-    overlap(row_match(table, j), m)
+    match_at(table, j).overlap(m)
 }
 
 // Turns levels into priorities.
@@ -180,32 +201,6 @@ fn put_priorities(priorities: &mut [u32], count: u32)
 {
     // The words before this one are priorities, and the others are still levels.
     for word in priorities.iter_mut() {
-        put_priority(word, Priority(count - *word));
+        Priority(count - *word).put(word);
     }
-}
-
-// The only store of a priority.
-fn put_priority(word: &mut u32, p: Priority)
-    ensures { word.new ≡ p.0 }
-{
-    *word = p.0;
-}
-
-// The only store of a place of the chain.
-fn put_place(chain: &mut [u32], step: u32, at: Place)
-    requires { (step < length chain.old) × (at.0 < 2 ^ 32) }
-    ensures { chain.new ≡ set chain.old step at.0 }
-{
-    let i = step as usize;
-    chain[i] = at.0 as u32;
-}
-
-// The match of the row at a place.
-fn row_match(table: &[u32], i: usize) -> Match
-    requires { i < row_count table.now }
-    ensures { result ≡ (get_or (rows_in table.now) i past).match }
-{
-    let from = i * ROW_WORDS;
-    let end = from + ROW_WORDS;
-    read_match(&table[from..end])
 }

@@ -1,14 +1,16 @@
 -- For each public function but those of the inner crates `common`, `rows` and `build`: its contract, as the checker reads it, asks nothing, and no second
 -- answer fits it. Where buffers are lent, their words are part of what is seen.
-use mathlib.Core.Path.{ap}
+use Prim.Native.Nat.{ℕ}
+use mathlib.Core.Path.{sym, ap, ◌∙◌}
+use mathlib.Core.List.{Mem}
+use denote.RattleType.{RattleType}
 use Rattle.logic.specs.Answers.{OneAnswer, answer_with, answer_and}
 use Rattle.logic.proofs.Answers.{fixed, both, all}
-use Rattle.field.proofs.in_prefix.Reads as in_prefix
-use Rattle.field.proofs.right_prefix.Reads as right_prefix
-use Rattle.field.proofs.prefixes_meet.Reads as prefixes_meet
-use Rattle.field.proofs.prefix_covers.Reads as prefix_covers
-use Rattle.field.proofs.longer_address.Reads as longer_address
-use Rattle.field.proofs.longer_length.Reads as longer_length
+use Rattle.field.proofs.Prefix.contains.Reads as in_prefix
+use Rattle.field.proofs.Prefix.is_right.Reads as right_prefix
+use Rattle.field.proofs.Prefix.meets.Reads as prefixes_meet
+use Rattle.field.proofs.Prefix.covers.Reads as prefix_covers
+use Rattle.field.proofs.Prefix.longer.Reads as longer
 use Rattle.field.proofs.meets_value.Reads as meets_value
 use Rattle.field.proofs.values_meet.Reads as values_meet
 use Rattle.field.proofs.value_inside.Reads as value_inside
@@ -19,45 +21,47 @@ use Rattle.words.proofs.copy.Reads as copy
 use Rattle.words.proofs.clear_from.Reads as clear_from
 use Rattle.words.proofs.from_bytes.Reads as from_bytes
 use Rattle.words.proofs.to_bytes.Reads as to_bytes
-use Rattle.flow.proofs.meets.Reads as meets
-use Rattle.flow.proofs.overlap.Reads as overlap
-use Rattle.flow.proofs.lies_inside.Reads as lies_inside
-use Rattle.flow.proofs.common.Reads as common
-use Rattle.flow.proofs.is_empty.Reads as is_empty
-use Rattle.flow.proofs.contradicts.Reads as contradicts
-use Rattle.flow.proofs.constrains.Reads as constrains
-use Rattle.flow.proofs.right_match.Reads as right_match
-use Rattle.flow.proofs.is_plain.Reads as is_plain
-use Rattle.flow.proofs.right_packet.Reads as right_packet
+use Rattle.flow.proofs.Match.meets.Reads as meets
+use Rattle.flow.proofs.Match.overlap.Reads as overlap
+use Rattle.flow.proofs.Match.lies_inside.Reads as lies_inside
+use Rattle.flow.proofs.Match.common.Reads as common
+use Rattle.flow.proofs.Match.is_empty.Reads as is_empty
+use Rattle.flow.proofs.Match.contradicts.Reads as contradicts
+use Rattle.flow.proofs.Match.constrains.Reads as constrains
+use Rattle.flow.proofs.Match.is_right.Reads as right_match
+use Rattle.flow.proofs.Match.is_plain.Reads as is_plain
+use Rattle.flow.proofs.Packet.is_right.Reads as right_packet
 use Rattle.flow.proofs.right_packet_words.Reads as right_packet_words
-use Rattle.flow.proofs.read_packet.Reads as read_packet
-use Rattle.flow.proofs.read_match.Reads as read_match
-use Rattle.flow.proofs.write_packet.Reads as write_packet
-use Rattle.flow.proofs.write_match.Reads as write_match
-use Rattle.flow.proofs.words_of_packet.Reads as words_of_packet
-use Rattle.flow.proofs.words_of_match.Reads as words_of_match
+use Rattle.flow.proofs.Packet.read.Reads as read_packet
+use Rattle.flow.proofs.Match.read.Reads as read_match
+use Rattle.flow.proofs.Packet.store.Reads as write_packet
+use Rattle.flow.proofs.Match.store.Reads as write_match
+use Rattle.flow.proofs.Packet.write.Reads as words_of_packet
+use Rattle.flow.proofs.Match.write.Reads as words_of_match
 use Rattle.action.proofs.Operator.sibling.Reads as operator_sibling
 use Rattle.action.proofs.Operator.parent.Reads as operator_parent
 use Rattle.action.proofs.Operator.join.Reads as operator_join
 use Rattle.action.proofs.Operator.law_search.Reads as operator_law_search
-use Rattle.action.proofs.kind.Reads as kind
-use Rattle.action.proofs.rate.Reads as rate
-use Rattle.action.proofs.action_of.Reads as action_of
-use Rattle.action.proofs.right_action.Reads as right_action
+use Rattle.action.proofs.Action.kind.Reads as kind
+use Rattle.action.proofs.Action.rate.Reads as rate
+use Rattle.action.proofs.Action.from_words.Reads as action_from_words
+use Rattle.action.proofs.Action.right_words.Reads as right_words
 use Rattle.action.proofs.right_cell.Reads as right_cell
-use Rattle.action.proofs.operator_of.Reads as operator_of
+use Rattle.action.proofs.Operator.from_words.Reads as operator_from_words
 use Rattle.row.proofs.row_action.Reads as row_action
 use Rattle.row.proofs.words_of_row.Reads as words_of_row
 use Rattle.row.proofs.right_row.Reads as right_row
 use Rattle.row.proofs.right_row_match.Reads as right_row_match
 use Rattle.row.proofs.right_row_action.Reads as right_row_action
-use Rattle.refusal.proofs.plain.Reads as plain
-use Rattle.section.proofs.header_words.Reads as header_words
-use Rattle.section.proofs.operator_words.Reads as operator_words
-use Rattle.section.proofs.operator_in.Reads as operator_in
-use Rattle.section.proofs.header_fault.Reads as header_fault
+use Rattle.refusal.proofs.Reason.number.Reads as reason_number
+use Rattle.refusal.proofs.Reason.failure.Reads as reason_failure
+use Rattle.refusal.proofs.Reason.at.Reads as reason_at
+use Rattle.section.proofs.Edition.words.Reads as edition_words
+use Rattle.section.proofs.Edition.header_fault.Reads as edition_header_fault
+use Rattle.section.proofs.Edition.operator.Reads as edition_operator
 use Rattle.section.proofs.unless.Reads as unless
-use Rattle.section.proofs.wide.Reads as wide
+use Rattle.whole.proofs.shape_fault.Reads as shape_fault
+use Rattle.whole.proofs.laws_fault.Reads as laws_fault
 use Rattle.policy.proofs.read.Reads as read
 use Rattle.policy.proofs.read_as.Reads as read_as
 use Rattle.nodes.proofs.root.Reads as root
@@ -73,9 +77,7 @@ use Rattle.table.proofs.match_at.Reads as match_at
 use Rattle.hidden.proofs.drop_hidden.Reads as drop_hidden
 use Rattle.priority.proofs.number.Reads as number
 use Rattle.compile.proofs.compile.Reads as compile
-use Rattle.line.proofs.put_line.Reads as put_line
-use Rattle.line.proofs.put_head.Reads as put_head
-use Rattle.line.proofs.put_refusal.Reads as put_refusal
+use Rattle.line.proofs.put.Reads as put
 use Rattle.sheet.proofs.list_table.Reads as list_table
 use Rattle.text.proofs.list.Reads as list
 use Rattle.text.proofs.list_whole.Reads as list_whole
@@ -94,11 +96,8 @@ prefixes_meet-one = fixed (λ κ a r s p. p)
 prefix_covers-one : OneAnswer prefix_covers.Pre prefix_covers.Post (λ κ r s. r)
 prefix_covers-one = fixed (λ κ a r s p. p)
 
-longer_address-one : OneAnswer longer_address.Pre longer_address.Post (λ κ r s. r)
-longer_address-one = fixed (λ κ a r s p. p)
-
-longer_length-one : OneAnswer longer_length.Pre longer_length.Post (λ κ r s. r)
-longer_length-one = fixed (λ κ a r s p. p)
+longer-one : OneAnswer longer.Pre longer.Post (λ κ r s. r)
+longer-one = fixed (λ κ a r s p. p)
 
 meets_value-one : OneAnswer meets_value.Pre meets_value.Post (λ κ r s. r)
 meets_value-one = fixed (λ κ a r s p. p)
@@ -171,10 +170,10 @@ read_packet-one = fixed (λ κ a r s p. p)
 read_match-one : OneAnswer read_match.Pre read_match.Post (λ κ r s. r)
 read_match-one = fixed (λ κ a r s p. p)
 
-write_packet-one : OneAnswer write_packet.Pre write_packet.Post (λ κ r s. s.0.now)
+write_packet-one : OneAnswer write_packet.Pre write_packet.Post (λ κ r s. s.1.0.now)
 write_packet-one = fixed (λ κ a r s p. p)
 
-write_match-one : OneAnswer write_match.Pre write_match.Post (λ κ r s. s.0.now)
+write_match-one : OneAnswer write_match.Pre write_match.Post (λ κ r s. s.1.0.now)
 write_match-one = fixed (λ κ a r s p. p)
 
 words_of_packet-one : OneAnswer words_of_packet.Pre words_of_packet.Post (λ κ r s. r)
@@ -202,17 +201,17 @@ kind-one = fixed (λ κ a r s p. p.0)
 rate-one : OneAnswer rate.Pre rate.Post (λ κ r s. r)
 rate-one = fixed (λ κ a r s p. p)
 
-action_of-one : OneAnswer action_of.Pre action_of.Post (λ κ r s. r)
-action_of-one = fixed (λ κ a r s p. p)
+action_from_words-one : OneAnswer action_from_words.Pre action_from_words.Post (λ κ r s. r)
+action_from_words-one = fixed (λ κ a r s p. p)
 
-right_action-one : OneAnswer right_action.Pre right_action.Post (λ κ r s. r)
-right_action-one = fixed (λ κ a r s p. p)
+right_words-one : OneAnswer right_words.Pre right_words.Post (λ κ r s. r)
+right_words-one = fixed (λ κ a r s p. p)
 
 right_cell-one : OneAnswer right_cell.Pre right_cell.Post (λ κ r s. r)
 right_cell-one = fixed (λ κ a r s p. p)
 
-operator_of-one : OneAnswer operator_of.Pre operator_of.Post (λ κ r s. r)
-operator_of-one = fixed (λ κ a r s p. ap (λ c. record { cells = c }) p)
+operator_from_words-one : OneAnswer operator_from_words.Pre operator_from_words.Post (λ κ r s. r)
+operator_from_words-one = fixed (λ κ a r s p. ap (λ c. record { cells = c }) p)
 
 -- row
 row_action-one : OneAnswer row_action.Pre row_action.Post (λ κ r s. r)
@@ -231,27 +230,34 @@ right_row_action-one : OneAnswer right_row_action.Pre right_row_action.Post (λ 
 right_row_action-one = fixed (λ κ a r s p. p)
 
 -- refusal
-plain-one : OneAnswer plain.Pre plain.Post (λ κ r s. r)
-plain-one = fixed (λ κ a r s p. p)
+reason_number-one : OneAnswer reason_number.Pre reason_number.Post (λ κ r s. r)
+reason_number-one = fixed (λ κ a r s p. p)
+
+reason_failure-one : OneAnswer reason_failure.Pre reason_failure.Post (λ κ r s. r)
+reason_failure-one = fixed (λ κ a r s p. p)
+
+reason_at-one : OneAnswer reason_at.Pre reason_at.Post (λ κ r s. r)
+reason_at-one = fixed (λ κ a r s p. p)
 
 -- section
-header_words-one : OneAnswer header_words.Pre header_words.Post (λ κ r s. r)
-header_words-one = fixed (λ κ a r s p. p)
+edition_words-one : OneAnswer edition_words.Pre edition_words.Post (λ κ r s. r)
+edition_words-one = fixed (λ κ a r s p. p)
 
-operator_words-one : OneAnswer operator_words.Pre operator_words.Post (λ κ r s. r)
-operator_words-one = fixed (λ κ a r s p. p)
+edition_header_fault-one : OneAnswer edition_header_fault.Pre edition_header_fault.Post (λ κ r s. r)
+edition_header_fault-one = fixed (λ κ a r s p. p)
 
-operator_in-one : OneAnswer operator_in.Pre operator_in.Post (λ κ r s. r)
-operator_in-one = fixed (λ κ a r s p. ap (λ c. record { cells = c }) p)
-
-header_fault-one : OneAnswer header_fault.Pre header_fault.Post (λ κ r s. r)
-header_fault-one = fixed (λ κ a r s p. p)
+edition_operator-one : OneAnswer edition_operator.Pre edition_operator.Post (λ κ r s. r)
+edition_operator-one = fixed (λ κ a r s p. ap (λ c. record { cells = c }) p)
 
 unless-one : OneAnswer unless.Pre unless.Post (λ κ r s. r)
 unless-one = fixed (λ κ a r s p. p)
 
-wide-one : OneAnswer wide.Pre wide.Post (λ κ r s. r)
-wide-one = fixed (λ κ a r s p. p)
+-- whole
+shape_fault-one : OneAnswer shape_fault.Pre shape_fault.Post (λ κ r s. r)
+shape_fault-one = fixed (λ κ a r s p. p)
+
+laws_fault-one : OneAnswer laws_fault.Pre laws_fault.Post (λ κ r s. r)
+laws_fault-one = fixed (λ κ a r s p. p)
 
 -- policy
 read-one : OneAnswer read.Pre read.Post (λ κ r s. r)
@@ -305,15 +311,16 @@ number-one = fixed (λ κ a r s p. all p.0 p.1 p.2)
 compile-one : OneAnswer compile.Pre compile.Post (λ κ r s. answer_and r s.1.0.now s.1.1.0.now)
 compile-one = fixed (λ κ a r s p. all p.answer p.table p.scratch)
 
--- line
-put_line-one : OneAnswer put_line.Pre put_line.Post (λ κ r s. answer_with r s.0.now)
-put_line-one = fixed (λ κ a r s p. both p.end p.bytes)
+-- a type that holds no reference
+abbrev HoldsNone : RattleType → Type 0
+HoldsNone T = (i : ℕ) → Mem i T.lives → ⊥
 
-put_head-one : OneAnswer put_head.Pre put_head.Post (λ κ r s. answer_with r s.0.now)
-put_head-one = fixed (λ κ a r s p. both p.end p.bytes)
-
-put_refusal-one : OneAnswer put_refusal.Pre put_refusal.Post (λ κ r s. answer_with r s.0.now)
-put_refusal-one = fixed (λ κ a r s p. both p.end p.bytes)
+-- line: of any such type that has a text
+put-one : (T : RattleType) (L : _) (G : _) (D : _) → HoldsNone T → OneAnswer (put.Pre T L G D) (put.Post T L G D) (λ κ r s. answer_with r s.0.now)
+put-one T L G D none = record {
+  asks_nothing = λ κ a i m. absurd (none i m);
+  no_second = λ κ a r₁ r₂ s₁ s₂ p q. both (p.end ∙ sym q.end) (p.bytes ∙ sym q.bytes);
+}
 
 -- sheet
 list_table-one : OneAnswer list_table.Pre list_table.Post (λ κ r s. answer_with r s.1.0.now)

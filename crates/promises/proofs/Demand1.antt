@@ -8,28 +8,26 @@ use mathlib.Core.Logic.{◌⊎◌, inl, inr, ⊎_elim}
 use lib.Dec.{eqb, leb, ltb}
 use lib.ListN.{length}
 use borrow.Author.Tests.{lt-ltb, lt-leb, eqb-true, eqb-false}
-use Rattle.std.specs.Prelude.{Result, Ok, Err}
+use Rattle.std.specs.Prelude.{Result, Ok, Err, Option, None}
+use Rattle.action.specs.declared.LawFailure.{LawFailure}
 use Rattle.logic.proofs.Tests.{by-test}
 use Rattle.words.specs.Records.{records}
-use Rattle.theory.specs.Rows.{Row}
+use Rattle.theory.specs.declared.Row.{Row}
 use Rattle.flow.specs.Packet.{right_packet_words}
 use Rattle.flow.specs.declared.Match.{Match}
 use Rattle.action.specs.declared.Action.{Action}
 use Rattle.action.specs.declared.Action.TheVariants.{DontCare}
 use Rattle.row.specs.Row.{row_length, right_row, words_of}
-use Rattle.action.specs.Laws.{law_search}
-use Rattle.action.specs.declared.Lawful.{Lawful}
-use Rattle.action.specs.declared.Lawful.TheVariants.{Yes, Broken}
-use Rattle.section.specs.Numbers.{law_broken}
-use Rattle.refusal.specs.Plain.{plain, fault}
-use Rattle.refusal.specs.declared.Fault.{Fault}
+use Rattle.action.specs.Laws.{Searched, law_search}
+use Rattle.refusal.specs.Refusals.{law_broken, reason_number, failure_of, refusal_at, refusal_number}
+use Rattle.refusal.specs.declared.Reason.TheVariants.{NoRoom, NoScratch, WrongRate, WrongTable, WrongRow}
+use Rattle.refusal.specs.declared.Refusal.{Refusal}
 use Rattle.policy.specs.Read.{read_of}
 use Rattle.policy.specs.declared.Layout.{Layout}
-use Rattle.refusal.specs.declared.Refusal.{Refusal}
 use Rattle.policy.proofs.Refused.{refused-plain}
 use Rattle.policy.proofs.Order.{file-order}
 use Rattle.tree.proofs.Eval.{action-eval, action-refused, action-packet}
-use Rattle.table.specs.Table.{wrong_table, wrong_row, row_count, right_length, check_from, check_rows, check_of}
+use Rattle.table.specs.Table.{row_count, right_length, check_from, check_rows, check_of}
 use Rattle.table.specs.Scan.{scan_of}
 use Rattle.table.proofs.Tables.{check-exactly, check-first}
 use Rattle.table.proofs.Scans.{scan-refused}
@@ -38,9 +36,9 @@ use Rattle.priority.proofs.After.{number-ready, words-stay, refused-stays}
 use Rattle.words.specs.Words.{zeros}
 use Rattle.hidden.specs.Hidden.{kept_of}
 use Rattle.hidden.proofs.Laws as hidden
-use Rattle.compile.specs.Compile.{no_room, no_scratch, wrong_rate, room, compiled_rows, fine, answer_of, table_after, scratch_after}
-use Rattle.compile.specs.Compile as compile
+use Rattle.compile.specs.Compile.{room, compiled_rows, fine, answer_of, table_after, scratch_after}
 use Rattle.promises.specs.Told.{search_told, read_told, action_told, compile_told, check_told, between, Fixed}
+use Rattle.promises.proofs.Reasons.{due-lawless, plain-told}
 use Rattle.promises.specs.Demands.{EveryInput, Order, WordsLeft, Demand1}
 
 -- the numbers of the compile
@@ -48,23 +46,23 @@ abbrev compile_numbers : ℕ → Type 0
 compile_numbers n = between 1 10 n ⊎ between 12 14 n
 
 -- the numbers of a refused file
-pub file-number : (f : List ℕ) (r : Refusal) → read_of f ≡ Err r → between 1 10 r.number
-file-number f r e = by-test (eqb r.number law_broken)
-    (λ t. let z : r.number ≡ law_broken = eqb-true _ _ t in (omega arith, omega arith))
+pub file-number : (f : List ℕ) (r : Refusal) → read_of f ≡ Err r → between 1 10 (refusal_number r)
+file-number f r e = by-test (eqb (refusal_number r) law_broken)
+    (λ t. let z : refusal_number r ≡ law_broken = eqb-true _ _ t in (omega arith, omega arith))
     (λ t. let p = refused-plain f r e (eqb-false _ _ t) in (p.0, omega (arith, p.1)))
 
 -- what is told of a success, of a refusal without a law, and of a refused file
 module _ {numbers : ℕ → Type 0} where
-  success : {a : Action} {k : ℕ} → Fixed numbers (record { refusal = plain 0 0; action = a; count = k })
+  success : {a : Action} {k : ℕ} → Fixed numbers (record { number = 0; place = 0; failure = None; action = a; count = k })
   success = record { number = inl (refl, refl); value = λ n. absurd (n refl); law = λ n. refl }
 
-  refused : {n i : ℕ} → numbers n → Fixed numbers (record { refusal = plain n i; action = DontCare; count = 0 })
-  refused h = record { number = inr h; value = λ n. (refl, refl); law = λ n. refl }
+  refused : {n i : ℕ} {x : Option LawFailure} → numbers n → x ≡ None → Fixed numbers (record { number = n; place = i; failure = x; action = DontCare; count = 0 })
+  refused h p = record { number = inr h; value = λ n. (refl, refl); law = λ n. p }
 
   file-refused : (f : List ℕ) (r : Refusal) → read_of f ≡ Err r → ((n : ℕ) → between 1 10 n → numbers n)
-      → Fixed numbers (record { refusal = r; action = DontCare; count = 0 })
+      → Fixed numbers (record { number = refusal_number r; place = r.place; failure = failure_of r.reason; action = DontCare; count = 0 })
   file-refused f r e h = record {
-    number = inr (h r.number (file-number f r e));
+    number = inr (h (refusal_number r) (file-number f r e));
     value = λ n. (refl, refl);
     law = λ n. (refused-plain f r e n).2;
   }
@@ -77,24 +75,29 @@ by-reading {X} f accepted refused = go (read_of f) refl
     go (Ok l) e = accepted l e
     go (Err r) e = refused r e
 
--- the number of a fault
-same_fault : (n i : ℕ) (f : Fault) → ◌≡◌ {A = Result ℕ Fault} (Err (fault n i)) (Err f) → f.number ≡ n
-same_fault n i f q = sym (ap (λ x. (check_told x).refusal.number) q)
+-- equal answers have equal refusals
+same_refusal : {r r' : Refusal} → ◌≡◌ {A = Result ℕ Refusal} (Err r) (Err r') → r ≡ r'
+same_refusal q = cc
 
 -- a table is right, or wrong with 15 or 16
-by-check : {X : Type 0} (ws : List ℕ) → ((n : ℕ) → check_of ws ≡ Ok n → X) → ((f : Fault) → check_of ws ≡ Err f → between 15 16 f.number → X) → X
+abbrev OfTable : Refusal → Type 0
+OfTable r = between 15 16 (refusal_number r) × (failure_of r.reason ≡ None)
+
+by-check : {X : Type 0} (ws : List ℕ) → ((n : ℕ) → check_of ws ≡ Ok n → X) → ((r : Refusal) → check_of ws ≡ Err r → OfTable r → X) → X
 unfolding check_of check_rows
 by-check {X} ws right wrong = go (check_of ws) refl
   where
-    row : (i : ℕ) (rs : List (List ℕ)) (f : Fault) → check_from i rs ≡ Err f → f.number ≡ wrong_row
+    row : (i : ℕ) (rs : List (List ℕ)) (f : Refusal) → check_from i rs ≡ Err f → OfTable f
     row i [] f e = let z : ◌≡◌ {A = ℕ} 0 1 = cc in absurd (omega arith)
-    row i (r ∷ rs) f e = by-test (right_row r) (λ t. row _ rs f (rw t at e)) (λ t. same_fault wrong_row i f (rw t at e))
+    row i (r ∷ rs) f e = by-test (right_row r)
+        (λ t. row _ rs f (rw t at e))
+        (λ t. subst OfTable (same_refusal (rw t at e)) ((omega arith, omega arith), refl))
 
-    go : (x : Result ℕ Fault) → check_of ws ≡ x → X
+    go : (x : Result ℕ Refusal) → check_of ws ≡ x → X
     go (Ok n) e = right n e
     go (Err f) e = wrong f e (by-test (right_length ws)
-        (λ t. let q : f.number ≡ wrong_row = row 0 (records (row_count ws) row_length ws) f (rw t at e) in (omega arith, omega arith))
-        (λ t. let z : f.number ≡ wrong_table = same_fault wrong_table 0 f (rw t at e) in (omega arith, omega arith)))
+        (λ t. row 0 (records (row_count ws) row_length ws) f (rw t at e))
+        (λ t. subst OfTable (same_refusal (rw t at e)) ((omega arith, omega arith), refl)))
 
 -- the compile of a refused file, and of an accepted one by what is refused: the scratch, the room, a rate, or nothing
 module _ (P : Result ℕ Refusal → List ℕ → List ℕ → Type 0) where
@@ -111,18 +114,18 @@ module _ (P : Result ℕ Refusal → List ℕ → List ℕ → Type 0) where
   of-refused f t s r e p = rw e p
 
   of-accepted : (f t s : List ℕ) (l : Layout) → read_of f ≡ Ok l
-      → P (Err (plain no_scratch 0)) t s
-      → P (Err (plain no_room 0)) (zeros (length t)) (zeros (length s))
-      → P (Err (plain wrong_rate 0)) (zeros (length t)) (zeros (length s))
+      → P (Err (refusal_at NoScratch 0)) t s
+      → P (Err (refusal_at NoRoom 0)) (zeros (length t)) (zeros (length s))
+      → P (Err (refusal_at WrongRate 0)) (zeros (length t)) (zeros (length s))
       → P (Ok (length (compiled_rows f l))) (words_of (compiled_rows f l) ++ zeros (length t - length (words_of (compiled_rows f l)))) (zeros (length s))
       → P (answer_of f t s) (table_after f t s) (scratch_after f t s)
   unfolding answer_of table_after scratch_after
   of-accepted f t s l e a b c d = rw e
       (four (ltb (length s) (row_length * room (length t))) (ltb (room (length t)) (length (compiled_rows f l))) (fine (compiled_rows f l)) a b c d)
 
-search-fixed : (i : ℕ) (x : Lawful) → Fixed (between 10 10) (search_told i x)
-search-fixed i Yes = success
-search-fixed i (Broken l a b c) = record { number = inr (omega arith, omega arith); value = λ n. (refl, refl); law = λ n. absurd (n refl) }
+search-fixed : (i : ℕ) (x : Searched) → Fixed (between 10 10) (search_told i x)
+search-fixed i (Ok u) = success
+search-fixed i (Err f) = record { number = inr (omega arith, omega arith); value = λ n. (refl, refl); law = λ n. absurd (n refl) }
 
 every-input : EveryInput
 unfolding scan_of number_of kept_of
@@ -134,23 +137,23 @@ every-input = record {
   action = λ f p. by-reading f
       (λ l e. by-test (right_packet_words p)
       (λ t. subst (λ x. Fixed (between 1 11) (action_told x)) (sym (action-eval f p l e t)) success)
-      (λ t. subst (λ x. Fixed (between 1 11) (action_told x)) (sym (action-packet f p l e t)) (refused (omega arith, omega arith))))
+      (λ t. subst (λ x. Fixed (between 1 11) (action_told x)) (sym (action-packet f p l e t)) (refused (omega arith, omega arith) refl)))
       (λ r e. subst (λ x. Fixed (between 1 11) (action_told x)) (sym (action-refused f p r e)) (file-refused f r e (λ n h. (h.0, omega (arith, h.1)))));
   compile = λ f t s. by-reading f
       (λ l e. of-accepted (λ x t' s'. Fixed compile_numbers (compile_told x)) f t s l e
-      (refused (inr (omega arith, omega arith)))
-      (refused (inr (omega arith, omega arith)))
-      (refused (inr (omega arith, omega arith)))
+      (refused (inr (omega arith, omega arith)) refl)
+      (refused (inr (omega arith, omega arith)) refl)
+      (refused (inr (omega arith, omega arith)) refl)
       success)
       (λ r e. of-refused (λ x t' s'. Fixed compile_numbers (compile_told x)) f t s r e (file-refused f r e (λ n h. inl h)));
-  check = λ ws. by-check ws (λ n e. rw e success) (λ f e h. rw e (refused h));
+  check = λ ws. by-check ws (λ n e. rw e success) (λ r e h. rw e (refused h.0 h.1));
   scan = λ ws p. by-test (right_packet_words p)
-      (λ t. by-check ws (λ n e. rw (t, e) success) (λ f e h. rw (t, e) (refused (inr h))))
-      (λ t. rw t (refused (inl refl)));
+      (λ t. by-check ws (λ n e. rw (t, e) success) (λ r e h. rw (t, e) (refused (inr h.0) h.1)))
+      (λ t. rw t (refused (inl refl) refl));
   number = λ ws p c. by-check ws
-      (λ n e. by-test (leb n p && leb n c) (λ t. rw (e, t) success) (λ t. rw (e, t) (refused (omega arith, omega arith))))
-      (λ f e h. rw e (refused (h.0, omega (arith, h.1))));
-  hidden = λ ws. by-check ws (λ n e. rw e success) (λ f e h. rw e (refused h));
+      (λ n e. by-test (leb n p && leb n c) (λ t. rw (e, t) success) (λ t. rw (e, t) (refused (omega arith, omega arith) refl)))
+      (λ r e h. rw e (refused (h.0.0, omega (arith, h.0.1)) h.1));
+  hidden = λ ws. by-check ws (λ n e. rw e success) (λ r e h. rw e (refused h.0 h.1));
 }
 
 -- a buffer shorter than the row count
@@ -166,6 +169,8 @@ order : Order
 unfolding answer_of number_of check_of
 order = record {
   file = file-order;
+  file-laws = due-lawless;
+  plain = plain-told;
   action-file = action-refused;
   action-packet = action-packet;
   compile-file = λ f t s r e. rw e refl;
@@ -180,8 +185,8 @@ order = record {
 }
 
 -- the number of a refusal, and that it is no success
-pub same_number : {r r' : Refusal} → ◌≡◌ {A = Result ℕ Refusal} (Err r) (Err r') → r.number ≡ r'.number
-same_number q = ap (λ (x : Result ℕ Refusal). (compile.compile_refusal x).number) q
+pub same_number : {r r' : Refusal} → ◌≡◌ {A = Result ℕ Refusal} (Err r) (Err r') → refusal_number r ≡ refusal_number r'
+same_number q = ap refusal_number (same_refusal q)
 
 pub no_rows : {X : Type 0} {n : ℕ} {r : Refusal} → Ok n ≡ Err r → X
 no_rows q = let z : ◌≡◌ {A = ℕ} 0 1 = cc in absurd (omega arith)
@@ -189,13 +194,13 @@ no_rows q = let z : ◌≡◌ {A = ℕ} 0 1 = cc in absurd (omega arith)
 words_left : WordsLeft
 words_left = record {
   compile-stays = λ f t s r.
-      let P : Result ℕ Refusal → List ℕ → List ℕ → Type 0 = λ x t' s'. x ≡ Err r → ¬ (r.number ≡ no_room) → ¬ (r.number ≡ wrong_rate) → (t' ≡ t) × (s' ≡ s) in
+      let P : Result ℕ Refusal → List ℕ → List ℕ → Type 0 = λ x t' s'. x ≡ Err r → ¬ (refusal_number r ≡ reason_number NoRoom) → ¬ (refusal_number r ≡ reason_number WrongRate) → (t' ≡ t) × (s' ≡ s) in
       by-reading f
       (λ l e. of-accepted P f t s l e (λ q n m. (refl, refl)) (λ q n m. absurd (n (sym (same_number q)))) (λ q n m. absurd (m (sym (same_number q))))
       (λ q n m. no_rows q))
       (λ r' e. of-refused P f t s r' e (λ q n m. (refl, refl)));
   compile-zeros = λ f t s r.
-      let P : Result ℕ Refusal → List ℕ → List ℕ → Type 0 = λ x t' s'. x ≡ Err r → (r.number ≡ no_room) ⊎ (r.number ≡ wrong_rate) → (t' ≡ zeros (length t))
+      let P : Result ℕ Refusal → List ℕ → List ℕ → Type 0 = λ x t' s'. x ≡ Err r → (refusal_number r ≡ reason_number NoRoom) ⊎ (refusal_number r ≡ reason_number WrongRate) → (t' ≡ zeros (length t))
       × (s' ≡ zeros (length s)) in
       by-reading f
       (λ l e. of-accepted P f t s l e
@@ -204,7 +209,7 @@ words_left = record {
       (λ q h. (refl, refl))
       (λ q h. no_rows q))
       (λ r' e. of-refused P f t s r' e (λ q.
-      let n : between 1 10 r'.number = file-number f r' e in
+      let n : between 1 10 (refusal_number r') = file-number f r' e in
       ⊎_elim (λ h. absurd (omega (arith, n.1, h, same_number q))) (λ h. absurd (omega (arith, n.1, h, same_number q)))));
   compile-rows = λ f t s l n e.
       let N : List (Row Match Action) = compiled_rows f l in

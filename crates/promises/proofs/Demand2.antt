@@ -10,13 +10,16 @@ use lib.ListN.{length, get_or, drop}
 use borrow.Author.Tests.{eqb-true, eq-eqb}
 use Rattle.std.specs.Prelude.{Err}
 use Rattle.logic.proofs.Tests.{by_le, or_split}
-use Rattle.words.proofs.Records.{length-records}
+use Rattle.words.proofs.RecordLaws.{length-records}
 use Rattle.action.specs.Laws.{Shows}
 use Rattle.action.specs.declared.Action.{Action}
 use Rattle.action.specs.declared.Law.{Law}
-use Rattle.action.specs.declared.Law.TheVariants.{Unnamed, Commutativity, Associativity}
+use Rattle.action.specs.declared.Law.TheVariants.{Commutativity, Associativity}
+use Rattle.action.specs.declared.LawFailure.{LawFailure}
 use Rattle.action.proofs.Exact.{shown-in-range}
-use Rattle.section.specs.Numbers.{node_length, law_broken}
+use Rattle.refusal.specs.Refusals.{law_broken, refusal_number}
+use Rattle.refusal.specs.declared.Refusal.{Refusal}
+use Rattle.section.specs.Numbers.{node_length}
 use Rattle.policy.specs.Read.{read_of, atoms_at, nodes_at, operator_records, node_records}
 use Rattle.whole.specs.Whole.{named, names}
 use Rattle.section.specs.Sections.{inner_of, sibling_of}
@@ -24,7 +27,6 @@ use Rattle.whole.specs.Meaning.{operator_at, KeepsLaws, LawsKept}
 use Rattle.policy.specs.File.{all_atoms}
 use Rattle.policy.specs.WellFormed.{Otherwise}
 use Rattle.policy.specs.Theorems.{BrokenLaw}
-use Rattle.refusal.specs.declared.Refusal.{Refusal}
 use Rattle.whole.proofs.Named.{named_by, Naming, naming}
 use Rattle.policy.proofs.Accepted.{accepted-exactly, accepted-tree, accepted-atoms}
 use Rattle.policy.proofs.Refused.{refused-law, broken-refused}
@@ -36,7 +38,6 @@ use Rattle.promises.proofs.Scanned.{table-scans}
 
 -- actions of the list that break a law are actions with allowed rates that do
 breaks : (o : List ℕ) (l : Law) (a b c : Action) → Shows o l a b c → BreaksCommutativity o ⊎ BreaksAssociativity o
-breaks o Unnamed a b c s = absurd s
 breaks o Commutativity a b c s =
     inl (record { left = a; right = b; left-allowed = shown-in-range a s.0; right-allowed = shown-in-range b s.1; differ = s.3 })
 breaks o Associativity a b c s = inr (record {
@@ -84,14 +85,15 @@ first-broken f a b c n kept x =
     (kept x.operator l (used x.operator ns x.node (omega (arith, x.within)) x.named))))
 
 -- what a refusal for an operator says, at the counts of the file
-shown : (f : List ℕ) (a b c : ℕ) (r : Refusal) → Otherwise f a b c → read_of f ≡ Err r → r.number ≡ law_broken → Shown f a b c r
+shown : (f : List ℕ) (a b c : ℕ) (r : Refusal) → Otherwise f a b c → read_of f ≡ Err r → refusal_number r ≡ law_broken → Shown f a b c r
 shown f a b c r o e n =
     let w : BrokenLaw f r = refused-law f r e n in
     let s = same-counts f a b c w.operators w.atoms w.nodes o w.otherwise in
     let os : List (List ℕ) = operator_records f a in
     let ns : List (List ℕ) = node_records f a b c in
     let many : length ns ≡ c = length-records c node_length (drop (nodes_at a b + 1) f) in
-    let shows : Shows (operator_at os r.place) r.law r.first r.second r.third = rw s.0 at w.shows in
+    let x : LawFailure = w.failure in
+    let shows : Shows (operator_at os r.place) x.law x.first x.second x.third = rw s.0 at w.shows in
     let g : Naming r.place ns = naming r.place ns (rw (s.0, s.1, s.2) at w.used) in
     let kept : (i : ℕ) → i < r.place → named i ns ≡ true → KeepsLaws (operator_at os i) = rw (s.0, s.1, s.2) at w.first-such in
     record {
@@ -101,10 +103,12 @@ shown f a b c r o e n =
         within = omega (arith, g.within);
         operator = r.place;
         named = names-either r.place (get_or ns g.node []) g.names-it;
-        breaks = breaks (operator_at os r.place) r.law r.first r.second r.third shows;
+        breaks = breaks (operator_at os r.place) x.law x.first x.second x.third shows;
       };
       named = refl;
       first = first-broken f a b c r.place kept;
+      failure = x;
+      reason = w.reason;
       shows = shows;
     }
 

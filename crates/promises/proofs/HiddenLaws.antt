@@ -24,7 +24,9 @@ use Rattle.flow.specs.Match.{inside}
 use Rattle.flow.proofs.Inside.{inside-exactly}
 use Rattle.action.specs.declared.Action.{Action}
 use Rattle.row.specs.Row.{row_length, row_words, rows_in, words_of, table_rows}
-use Rattle.table.specs.Table.{wrong_table, wrong_row, row_count, past, right_length, check_of, row_at, RightTable}
+use Rattle.refusal.specs.Refusals.{refusal_at}
+use Rattle.refusal.specs.declared.Reason.TheVariants.{NoRoom, WrongTable, WrongRow}
+use Rattle.table.specs.Table.{row_count, past, right_length, check_of, row_at, RightTable}
 use Rattle.table.specs.Scan.{scan_tried}
 use Rattle.table.proofs.Tables.{length-rows, flat-at, right-row-at, rows_written, check-exactly, check-first}
 use Rattle.table.proofs.Scans.{scan-first, scan-unmatched}
@@ -32,10 +34,9 @@ use Rattle.hidden.specs.Hidden.{kept_rows, kept_of, table_kept, kept_count}
 use Rattle.hidden.specs.Theorems.{KeptTells}
 use Rattle.hidden.proofs.Passed.{counted}
 use Rattle.hidden.proofs.Laws.{kept-rows, right_kept, refused-exactly, refused-stays, same-action}
-use Rattle.refusal.specs.Plain.{plain, fault}
 use Rattle.priority.specs.Numbering.{Ready}
-use Rattle.compile.specs.Compile.{no_room, room, table_after}
-use Rattle.row.proofs.Rows.{words_count}
+use Rattle.compile.specs.Compile.{room, table_after}
+use Rattle.row.proofs.RowLaws.{words_count}
 use Rattle.sheet.specs.Sheet.{listing_room, rows_text}
 use Rattle.text.specs.Listing.{blank, listing_of}
 use Rattle.text.proofs.Lists.{lists-rows, lists-refused}
@@ -69,9 +70,9 @@ module _ (ws : List ℕ) (right : RightTable ws) where
   row_words-at i h = sym (flat-at (rows_in ws) i (omega (arith, length-rows ws))) ∙ ap (λ l. row_at l i) (rows_written ws right)
 
   -- for rows of the table lying inside is by meaning
-  by-meaning : (i j : ℕ) → i < row_count ws → j < row_count ws → (inside (row_in ws i).match (row_in ws j).match ≡ true → Inside ws i j)
-      × (Inside ws i j → inside (row_in ws i).match (row_in ws j).match ≡ true)
-  by-meaning i j h g = inside-exactly (row_in ws i).match (row_in ws j).match (right-row-at ws right i h).match (right-row-at ws right j g).match
+  by-meaning : (i j : ℕ) → i < row_count ws → j < row_count ws → (inside (row_in ws i).matching (row_in ws j).matching ≡ true → Inside ws i j)
+      × (Inside ws i j → inside (row_in ws i).matching (row_in ws j).matching ≡ true)
+  by-meaning i j h g = inside-exactly (row_in ws i).matching (row_in ws j).matching (right-row-at ws right i h).matching (right-row-at ws right j g).matching
 
   -- a row lies inside an earlier one exactly where it is hidden
   module _ (i : ℕ) (h : i < row_count ws) where
@@ -80,22 +81,22 @@ module _ (ws : List ℕ) (right : RightTable ws) where
 
     hidden_found : inside_earlier inside past (rows_in ws) i ≡ true → Hidden ws i
     hidden_found e =
-        let s : InsideSome inside past (row_in ws i).match (take i (rows_in ws)) =
-        (one-exactly Action inside past (row_in ws i).match (take i (rows_in ws))).0 e in
+        let s : InsideSome inside past (row_in ws i).matching (take i (rows_in ws)) =
+        (one-exactly Action inside past (row_in ws i).matching (take i (rows_in ws))).0 e in
         let b : s.place < i = omega (arith, s.within, before) in record {
           earlier = s.place;
           before = b;
           inside = (by-meaning i s.place h (omega arith)).0
-              (ap (λ r. inside (row_in ws i).match r.match) (sym (get_or-take i (rows_in ws) s.place past b)) ∙ s.lies);
+              (ap (λ r. inside (row_in ws i).matching r.matching) (sym (get_or-take i (rows_in ws) s.place past b)) ∙ s.lies);
         }
 
     hidden-shown : Hidden ws i → inside_earlier inside past (rows_in ws) i ≡ true
     hidden-shown s =
-        (one-exactly Action inside past (row_in ws i).match (take i (rows_in ws))).1 (record {
+        (one-exactly Action inside past (row_in ws i).matching (take i (rows_in ws))).1 (record {
           place = s.earlier;
           within = omega (arith, s.before, before);
           lies =
-              ap (λ r. inside (row_in ws i).match r.match) (get_or-take i (rows_in ws) s.earlier past s.before)
+              ap (λ r. inside (row_in ws i).matching r.matching) (get_or-take i (rows_in ws) s.earlier past s.before)
               ∙ (by-meaning i s.earlier h (omega (arith, s.before))).1 s.inside;
         })
 
@@ -153,11 +154,11 @@ module _ (ws : List ℕ) (right : RightTable ws) where
       let r : RightTable after = after-right.0 in
       let g : i < row_count after = omega (arith, after-right.1) in
       let b : s.earlier < row_count after = omega (arith, s.before) in
-      let yes : inside (row_in after i).match (row_in after s.earlier).match ≡ true =
-      (inside-exactly (row_in after i).match (row_in after s.earlier).match (right-row-at after r i g).match (right-row-at after r s.earlier b).match).1
+      let yes : inside (row_in after i).matching (row_in after s.earlier).matching ≡ true =
+      (inside-exactly (row_in after i).matching (row_in after s.earlier).matching (right-row-at after r i g).matching (right-row-at after r s.earlier b).matching).1
       s.inside in
-      let no : inside (row_in after i).match (row_in after s.earlier).match ≡ false =
-      ap (λ N. inside (get_or N i past).match (get_or N s.earlier past).match) told.rows
+      let no : inside (row_in after i).matching (row_in after s.earlier).matching ≡ false =
+      ap (λ N. inside (get_or N i past).matching (get_or N s.earlier past).matching) told.rows
       ∙ none_hidden Action inside past (rows_in ws) s.earlier i s.before h in
       false≢true (sym no ∙ yes)
 
@@ -203,11 +204,11 @@ module _ (ws : List ℕ) (right : RightTable ws) where
 -- 15, then 16 at the first wrong row, and nothing moves
 pass-refused : PassRefused
 pass-refused = record {
-  length-first = λ ws h. let e = (refused-exactly ws (fault wrong_table 0)).1 (wrong-length ws h) in (e, refused-stays ws (fault wrong_table 0) e);
-  then-rows = λ ws i h f. let e = (refused-exactly ws (fault wrong_row i)).1 (check-first ws i h f) in (e, refused-stays ws (fault wrong_row i) e);
+  length-first = λ ws h. let e = (refused-exactly ws (refusal_at WrongTable 0)).1 (wrong-length ws h) in (e, refused-stays ws (refusal_at WrongTable 0) e);
+  then-rows = λ ws i h f. let e = (refused-exactly ws (refusal_at WrongRow i)).1 (check-first ws i h f) in (e, refused-stays ws (refusal_at WrongRow i) e);
 }
   where
-    wrong-length : (ws : List ℕ) → right_length ws ≡ false → check_of ws ≡ Err (fault wrong_table 0)
+    wrong-length : (ws : List ℕ) → right_length ws ≡ false → check_of ws ≡ Err (refusal_at WrongTable 0)
     wrong-length ws h = demand-1.order.table-length ws h
 
 -- the listing's buffers suffice for as many rows as it has room for
@@ -221,7 +222,7 @@ pass-listed = record {
       let l = lists-rows (words_in b) n e in
       let same : l.count ≡ k = ap kept_count (sym l.stay ∙ q) in
       rw t (l.listed.text ∙ ap (λ m. rows_text m (table_rows m (table_kept (table_rows n (table_after (words_in b) blank blank))))) same);
-  room = λ b l t e h. rw t (lists-refused (words_in b) (plain no_room 0)
+  room = λ b l t e h. rw t (lists-refused (words_in b) (refusal_at NoRoom 0)
       ((demand-2.for-room (words_in b) blank blank l e (omega (arith, blank-room))).1 (omega (arith, blank-room))));
   in-room = λ b l t e h. demand-2.compiles (words_in b) blank blank l e (omega (arith, blank-room)) (omega (arith, blank-room));
 }

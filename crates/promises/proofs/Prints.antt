@@ -12,9 +12,11 @@ use Rattle.std.specs.Prelude.{Result, Ok, Err}
 use Rattle.logic.proofs.Tests.{by-test}
 use Rattle.words.specs.Bytes.{words_in}
 use Rattle.row.specs.Row.{row_length}
+use Rattle.refusal.specs.Refusals.{reason_number, refusal_number}
+use Rattle.refusal.specs.declared.Reason.TheVariants.{NoRoom, WrongInput}
 use Rattle.refusal.specs.declared.Refusal.{Refusal}
-use Rattle.compile.specs.Compile.{no_room, room, compiled_rows, answer_of}
-use Rattle.text.specs.Listing.{wrong_input, right_input, blank, listing_of}
+use Rattle.compile.specs.Compile.{room, compiled_rows, answer_of}
+use Rattle.text.specs.Listing.{right_input, blank, listing_of}
 use Rattle.sheet.specs.Sheet.{listing_room}
 use Rattle.text.proofs.Lists.{lists-rows, lists-refused, refused-input}
 use Rattle.promises.specs.Told.{between}
@@ -24,7 +26,7 @@ use Rattle.promises.proofs.Demand1.{file-number, by-reading, same_number, no_row
 
 -- the numbers of a compile with scratch enough
 scratch-number : (f t s : List ℕ) (r : Refusal) → row_length * room (length t) ≤ length s → answer_of f t s ≡ Err r
-    → between 1 10 r.number ⊎ (r.number ≡ no_room)
+    → between 1 10 (refusal_number r) ⊎ (refusal_number r ≡ reason_number NoRoom)
 unfolding answer_of
 scratch-number f t s r h q = by-reading f
     (λ l e. by-test (ltb (room (length t)) (length (compiled_rows f l)))
@@ -33,7 +35,7 @@ scratch-number f t s r h q = by-reading f
     (λ r' e. inl (subst (between 1 10) (same_number (rw e at q)) (file-number f r' e)))
 
 -- and so of a compile in the listing's buffers
-listed-number : (f : List ℕ) (r : Refusal) → answer_of f blank blank ≡ Err r → between 1 10 r.number ⊎ (r.number ≡ no_room)
+listed-number : (f : List ℕ) (r : Refusal) → answer_of f blank blank ≡ Err r → between 1 10 (refusal_number r) ⊎ (refusal_number r ≡ reason_number NoRoom)
 listed-number f r =
     let k : length blank ≡ row_length * listing_room = length-replicate {A = ℕ} (row_length * listing_room) 0 in
     scratch-number f blank blank r (omega arith)
@@ -42,12 +44,12 @@ pub every-listing : EveryListing
 unfolding listing_of
 every-listing b = by-test (right_input b)
     (λ t. by_answer t (answer_of (words_in b) blank blank) refl)
-    (λ t. inr (record { number = wrong_input; place = 0; one_of = inr (inr refl); text = refused-input b t }))
+    (λ t. inr (record { number = reason_number WrongInput; place = 0; one_of = inr (inr refl); text = refused-input b t }))
   where
     by_answer : right_input b ≡ true → (x : Result ℕ Refusal) → answer_of (words_in b) blank blank ≡ x → PrintsRows b ⊎ PrintsRefusal b
     by_answer t (Ok n) e = inl (record { right = t; count = n; compiled = e; listed = lists-rows (words_in b) n e; text = rw t refl })
     by_answer t (Err r) e = inr (record {
-      number = r.number;
+      number = (refusal_number r);
       place = r.place;
       one_of = ⊎_elim (λ h. inl h) (λ h. inr (inl h)) (listed-number (words_in b) r e);
       text = rw t (lists-refused (words_in b) r e);

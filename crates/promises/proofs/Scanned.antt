@@ -4,7 +4,8 @@ use mathlib.Core.Path.{◌≡◌, sym, ap, ◌∙◌}
 use mathlib.Core.Bool.{true}
 use mathlib.Core.List.{List}
 use Rattle.std.specs.Prelude.{Result, Ok}
-use Rattle.theory.specs.Rows.{Row, scan}
+use Rattle.theory.specs.Rows.{scan}
+use Rattle.theory.specs.declared.Row.{Row}
 use Rattle.theory.specs.Theorems.{Laws}
 use Rattle.theory.proofs.Compile.{scan-compile}
 use Rattle.flow.specs.Packet.{packet_of, right_packet_words}
@@ -19,10 +20,10 @@ use Rattle.action.specs.declared.Action.TheVariants.{DontCare}
 use Rattle.action.proofs.Joined.{identity}
 use Rattle.policy.specs.File.{tree_of}
 use Rattle.policy.specs.declared.Layout.{Layout}
-use Rattle.refusal.specs.declared.Fault.{Fault}
+use Rattle.refusal.specs.Refusals.{answer_number}
 use Rattle.refusal.specs.declared.Refusal.{Refusal}
 use Rattle.table.specs.declared.Found.{Found}
-use Rattle.table.specs.Scan.{scan_of, scan_number, scan_action, found}
+use Rattle.table.specs.Scan.{scan_of, scan_action, found}
 use Rattle.table.proofs.Tables.{check-exactly, rows-read}
 use Rattle.table.proofs.Scans.{scan-found}
 use Rattle.tree.specs.Action.{eval_tree, tree_action_of}
@@ -47,12 +48,12 @@ abbrev pub gives : Action → Result Action Refusal
 gives a = Ok a
 
 -- what the scan of rows is
-abbrev seen : List (Row Match Action) → Packet → Result Found Fault
+abbrev seen : List (Row Match Action) → Packet → Result Found Refusal
 seen N p = Ok (found 0 N p)
 
 -- of the rows that were answered, the scan is no refusal, and its action is the tree's
 pub table-scans : (f t s p : List ℕ) (n : ℕ) → answer_of f t s ≡ Ok n → right_packet_words p ≡ true
-    → (scan_number (scan_of (table_rows n (table_after f t s)) p) ≡ 0)
+    → (answer_number (scan_of (table_rows n (table_after f t s)) p) ≡ 0)
     × (tree_action_of f p ≡ Ok (scan_action (scan_of (table_rows n (table_after f t s)) p)))
 table-scans f t s p n q right =
     let k : AnswerTells f t s n = answers-rows f t s n q in
@@ -61,6 +62,6 @@ table-scans f t s p n q right =
     let table : RightTable ws = ((check-exactly ws n).0 (table-right f t s n q)).0 in
     let same : rows_in ws ≡ compiled_rows f l = ap rows_in k.stands ∙ rows-read (compiled_rows f l) in
     let sees : scan_of ws p ≡ seen (compiled_rows f l) (packet_of p) = scan-found ws p table right ∙ ap (λ N. seen N (packet_of p)) same in (
-      ap scan_number sees,
+      ap answer_number sees,
       action-eval f p l k.accepted right ∙ ap gives (sym (rows-scan f l (packet_of p)) ∙ sym (ap scan_action sees)),
     )

@@ -11,8 +11,9 @@ use Rattle.action.specs.Operator.{join, sibling, parent}
 use Rattle.action.specs.declared.Action.TheVariants.{DontCare, Allow, Deny, Gmb}
 use Rattle.action.specs.declared.Law.TheVariants.{Commutativity, Associativity}
 use Rattle.row.specs.Row.{row_length, table_rows}
-use Rattle.section.specs.Numbers.{short, law_broken}
-use Rattle.refusal.specs.Plain.{plain}
+use Rattle.action.specs.Laws.{failure}
+use Rattle.refusal.specs.Refusals.{refusal_at}
+use Rattle.refusal.specs.declared.Reason.TheVariants.{ShortFile, LawBroken}
 use Rattle.policy.specs.Read.{read_of}
 use Rattle.policy.specs.Examples.{tenant, tenant_with, lone, lopsided}
 use Rattle.tree.specs.Action.{tree_action_of}
@@ -81,10 +82,10 @@ cases =
     ∷ k 9 (priorities_after (rows_left tenant) (zeros 3) (zeros 3)) (3 ∷ 2 ∷ 1 ∷ [])
     ∷ k 9 (chain_after (rows_left tenant) (zeros 3) (zeros 3)) (0 ∷ 1 ∷ 2 ∷ [])
     ∷ k 10 (read_of (tenant_with 1)) (Err
-    (record { number = law_broken; place = 1; law = Commutativity; first = Allow; second = Deny; third = DontCare }))
+    (refusal_at (LawBroken (failure Commutativity Allow Deny DontCare)) 1))
     ∷ k 11 (read_of (lone lopsided)) (Err
-    (record { number = law_broken; place = 0; law = Associativity; first = Allow; second = Deny; third = Gmb 1 }))
-    ∷ k 12 (read_of []) (Err (plain short 0))
+    (refusal_at (LawBroken (failure Associativity Allow Deny (Gmb 1))) 0))
+    ∷ k 12 (read_of []) (Err (refusal_at ShortFile 0))
     ∷ []
 
 -- K1 TO K12: every case of the list gives what it says

@@ -8,11 +8,16 @@
 --   scan_of                                       table::scan         of a table and a packet
 --   number_of, priorities_after, chain_after      priority::number    of a table, a priority buffer and a chain buffer
 --   kept_of, table_kept                           hidden::drop_hidden of a table
-use Rattle.std.specs.Prelude.{ℕ, suc, ◌*◌, ◌-◌, ◌≤◌, ◌<◌, ◌≡◌, true, false, not, List, [], ◌++◌, Ok, Err, ◌↔◌, ◌⊎◌, length, get_or, take, drop}
+use Rattle.std.specs.Prelude.{ℕ, None, suc, ◌*◌, ◌-◌, ◌≤◌, ◌<◌, ◌≡◌, true, false, not, List, [], ◌++◌, Ok, Err, ◌↔◌, ◌⊎◌, length, get_or, take, drop}
 use Rattle.theory.specs.Rows.{matches_at}
 use Rattle.theory.specs.Nodes.{list_tree}
 use Rattle.theory.specs.Number.{FirstPlace, distinct, Obeyed}
-use Rattle.flow.specs.Packet.{packet_of, right_packet_words, wrong_packet}
+use Rattle.action.specs.declared.LawFailure.{LawFailure}
+use Rattle.refusal.specs.Refusals.{law_broken, reason_number, failure_of, refusal_at, refusal_number, answer_number}
+use Rattle.refusal.specs.declared.Reason.{Reason}
+use Rattle.refusal.specs.declared.Reason.TheVariants.{LawBroken, WrongPacket, NoRoom, NoScratch, WrongRate, WrongTable, WrongRow, ShortBuffer}
+use Rattle.refusal.specs.declared.Refusal.{Refusal}
+use Rattle.flow.specs.Packet.{packet_of, right_packet_words}
 use Rattle.flow.specs.Match.{meets}
 use Rattle.action.specs.Action.{in_range}
 use Rattle.action.specs.Operator.{join}
@@ -20,24 +25,21 @@ use Rattle.action.specs.Laws.{law_search, Shows}
 use Rattle.action.specs.declared.Action.{Action}
 use Rattle.action.specs.declared.Action.TheVariants.{DontCare}
 use Rattle.row.specs.Row.{row_length, right_row, words_of, rows_in, table_rows}
-use Rattle.section.specs.Numbers.{law_broken}
-use Rattle.refusal.specs.Plain.{plain, fault}
-use Rattle.refusal.specs.declared.Fault.{Fault}
 use Rattle.policy.specs.Read.{read_of, operator_records, node_records}
 use Rattle.section.specs.Sections.{inner_of, sibling_of}
 use Rattle.whole.specs.Meaning.{operator_at}
 use Rattle.policy.specs.File.{atoms_of, tree_of, all_atoms}
 use Rattle.policy.specs.WellFormed.{Otherwise, WellFormed}
-use Rattle.policy.specs.Order.{FileOrder}
+use Rattle.section.specs.declared.Edition.{Edition}
+use Rattle.policy.specs.Order.{Due, FileOrder}
 use Rattle.policy.specs.declared.Layout.{Layout}
-use Rattle.refusal.specs.declared.Refusal.{Refusal}
 use Rattle.tree.specs.Action.{eval_tree, tree_action_of}
-use Rattle.table.specs.Table.{wrong_table, wrong_row, row_count, past, right_length, check_of, row_at, RightTable}
-use Rattle.table.specs.Scan.{scan_of, scan_number, scan_action}
-use Rattle.priority.specs.Numbering.{short_buffer, number_of, priorities_after, chain_after, Ready, Shared, priority, link}
+use Rattle.table.specs.Table.{row_count, past, right_length, check_of, row_at, RightTable}
+use Rattle.table.specs.Scan.{scan_of, scan_action}
+use Rattle.priority.specs.Numbering.{number_of, priorities_after, chain_after, Ready, Shared, priority, link}
 use Rattle.words.specs.Words.{zeros}
 use Rattle.hidden.specs.Hidden.{kept_rows, kept_of, table_kept}
-use Rattle.compile.specs.Compile.{no_room, no_scratch, wrong_rate, room, compiled_rows, answer_of, table_after}
+use Rattle.compile.specs.Compile.{room, compiled_rows, answer_of, table_after}
 use Rattle.compile.specs.Compile.{scratch_after}
 use Rattle.promises.specs.Told.{search_told, read_told, action_told, compile_told, check_told, scan_told, number_told}
 use Rattle.promises.specs.Told.{kept_told}
@@ -62,38 +64,43 @@ pub record EveryInput : Type 0 where
 pub record Order : Type 0 where
   -- a file: section by section, then 7, 8, 9 and last 10, each with its place, as crates/policy/specs/Order.antt says
   pub file : FileOrder
+  -- none of what is due before the laws is 10
+  pub file-laws : (e : Edition) (f : List ℕ) (why : Reason) (at : ℕ) → Due e f why at → ¬ (reason_number why ≡ law_broken)
+  -- the number and the place of a refusal other than 10 are all of it
+  pub plain : (r s : Refusal) → failure_of r.reason ≡ None → failure_of s.reason ≡ None → refusal_number r ≡ refusal_number s
+      → r.place ≡ s.place → r ≡ s
   -- the tree's action: 1..10, 11
   pub action-file : (f p : List ℕ) (r : Refusal) → read_of f ≡ Err r → tree_action_of f p ≡ Err r
   pub action-packet : (f p : List ℕ) (l : Layout) → read_of f ≡ Ok l → right_packet_words p ≡ false
-      → tree_action_of f p ≡ Err (plain wrong_packet 0)
+      → tree_action_of f p ≡ Err (refusal_at WrongPacket 0)
   -- the compile: 1..10, 13, then 12 as demand 2 has it; 14 is never given
   pub compile-file : (f t s : List ℕ) (r : Refusal) → read_of f ≡ Err r → answer_of f t s ≡ Err r
   pub compile-scratch : (f t s : List ℕ) (l : Layout) → read_of f ≡ Ok l
-      → length s < row_length * room (length t) → answer_of f t s ≡ Err (plain no_scratch 0)
+      → length s < row_length * room (length t) → answer_of f t s ≡ Err (refusal_at NoScratch 0)
   -- a table: 15, then 16 at the first wrong row
-  pub table-length : (ws : List ℕ) → right_length ws ≡ false → check_of ws ≡ Err (fault wrong_table 0)
+  pub table-length : (ws : List ℕ) → right_length ws ≡ false → check_of ws ≡ Err (refusal_at WrongTable 0)
   pub table-row : (ws : List ℕ) (i : ℕ) → right_length ws ≡ true
-      → FirstPlace (λ j. not (right_row (row_at ws j))) (row_count ws) i → check_of ws ≡ Err (fault wrong_row i)
+      → FirstPlace (λ j. not (right_row (row_at ws j))) (row_count ws) i → check_of ws ≡ Err (refusal_at WrongRow i)
   -- the scan: 11, then the whole table's 15 or 16
-  pub scan-packet : (ws p : List ℕ) → right_packet_words p ≡ false → scan_of ws p ≡ Err (fault wrong_packet 0)
-  pub scan-table : (ws p : List ℕ) (f : Fault) → right_packet_words p ≡ true → check_of ws ≡ Err f
+  pub scan-packet : (ws p : List ℕ) → right_packet_words p ≡ false → scan_of ws p ≡ Err (refusal_at WrongPacket 0)
+  pub scan-table : (ws p : List ℕ) (f : Refusal) → right_packet_words p ≡ true → check_of ws ≡ Err f
       → scan_of ws p ≡ Err f
   -- the numbering: 15 or 16, then 17
-  pub number-table : (ws : List ℕ) (p c : ℕ) (f : Fault) → check_of ws ≡ Err f
+  pub number-table : (ws : List ℕ) (p c : ℕ) (f : Refusal) → check_of ws ≡ Err f
       → number_of ws p c ≡ Err f
   pub number-buffers : (ws : List ℕ) (p c : ℕ) → RightTable ws → (p < row_count ws) ⊎ (c < row_count ws)
-      → number_of ws p c ≡ Err (fault short_buffer 0)
+      → number_of ws p c ≡ Err (refusal_at ShortBuffer 0)
   -- hidden rows out: 15 or 16
-  pub hidden-table : (ws : List ℕ) (f : Fault) → check_of ws ≡ Err f → kept_of ws ≡ Err f
+  pub hidden-table : (ws : List ℕ) (f : Refusal) → check_of ws ≡ Err f → kept_of ws ≡ Err f
 
 -- "and the words left in each lent buffer are fixed": what they are after each answer.
 pub record WordsLeft : Type 0 where
   -- after a refusal both buffers stay, but after 12 or 14 they are all zero
-  pub compile-stays : (f t s : List ℕ) (r : Refusal) → answer_of f t s ≡ Err r → ¬ (r.number ≡ no_room)
-      → ¬ (r.number ≡ wrong_rate)
+  pub compile-stays : (f t s : List ℕ) (r : Refusal) → answer_of f t s ≡ Err r
+      → ¬ (refusal_number r ≡ reason_number NoRoom) → ¬ (refusal_number r ≡ reason_number WrongRate)
       → (table_after f t s ≡ t) × (scratch_after f t s ≡ s)
   pub compile-zeros : (f t s : List ℕ) (r : Refusal) → answer_of f t s ≡ Err r
-      → (r.number ≡ no_room) ⊎ (r.number ≡ wrong_rate)
+      → (refusal_number r ≡ reason_number NoRoom) ⊎ (refusal_number r ≡ reason_number WrongRate)
       → (table_after f t s ≡ zeros (length t)) × (scratch_after f t s ≡ zeros (length s))
   -- after a success the table is its rows, then zeros, and scratch is zero
   pub compile-rows : (f t s : List ℕ) (l : Layout) (n : ℕ) → read_of f ≡ Ok l
@@ -101,13 +108,13 @@ pub record WordsLeft : Type 0 where
       → (table_after f t s ≡ words_of (compiled_rows f l) ++ zeros (length t - length (words_of (compiled_rows f l))))
       × (scratch_after f t s ≡ zeros (length s))
   -- a refused numbering leaves both buffers; after a success the words beyond the priorities and beyond the chain stay
-  pub number-stays : (ws ps cs : List ℕ) (f : Fault) → number_of ws (length ps) (length cs) ≡ Err f
+  pub number-stays : (ws ps cs : List ℕ) (f : Refusal) → number_of ws (length ps) (length cs) ≡ Err f
       → (priorities_after ws ps cs ≡ ps) × (chain_after ws ps cs ≡ cs)
   pub number-beyond : (ws ps cs : List ℕ) (n : ℕ) → number_of ws (length ps) (length cs) ≡ Ok n
       → (drop (row_count ws) (priorities_after ws ps cs) ≡ drop (row_count ws) ps)
       × (drop n (chain_after ws ps cs) ≡ drop n cs)
   -- where no hidden row is taken out because of a refusal, the table stays; else it is the rows that stay, then zeros
-  pub hidden-stays : (ws : List ℕ) (f : Fault) → kept_of ws ≡ Err f → table_kept ws ≡ ws
+  pub hidden-stays : (ws : List ℕ) (f : Refusal) → kept_of ws ≡ Err f → table_kept ws ≡ ws
   pub hidden-rows : (ws : List ℕ) (n : ℕ) → kept_of ws ≡ Ok n
       → table_kept ws ≡ words_of (kept_rows ws) ++ zeros (length ws - length (words_of (kept_rows ws)))
 
@@ -154,7 +161,7 @@ pub record SomeBroken (f : List ℕ) (a b c : ℕ) : Type 0 where
 pub record LawRefused (f : List ℕ) : Type 0 where
   pub refusal : Refusal
   pub refused : read_of f ≡ Err refusal
-  pub number : refusal.number ≡ law_broken
+  pub number : refusal_number refusal ≡ law_broken
 
 -- a refusal names by its place the first operator that some node has as inner or sibling one and that breaks a law, and
 -- its actions break the law that it names
@@ -163,7 +170,9 @@ pub record Shown (f : List ℕ) (a b c : ℕ) (r : Refusal) : Type 0 where
   pub some : SomeBroken f a b c
   pub named : some.operator ≡ r.place
   pub first : (other : SomeBroken f a b c) → r.place ≤ other.operator
-  pub shows : Shows (operator_at (operator_records f a) r.place) r.law r.first r.second r.third
+  pub failure : LawFailure
+  pub reason : r.reason ≡ LawBroken failure
+  pub shows : Shows (operator_at (operator_records f a) r.place) failure.law failure.first failure.second failure.third
 
 pub record Demand2 : Type 0 where
   -- the accepted policies are the well-formed files, whatever order they are read in
@@ -176,7 +185,7 @@ pub record Demand2 : Type 0 where
   -- "and scanning the compiled table gives the same": of the rows that were answered, the scan is no refusal, and its
   -- action is the tree's
   pub scan : (f t s p : List ℕ) (n : ℕ) → answer_of f t s ≡ Ok n → right_packet_words p ≡ true
-      → (scan_number (scan_of (table_rows n (table_after f t s)) p) ≡ 0)
+      → (answer_number (scan_of (table_rows n (table_after f t s)) p) ≡ 0)
       × (tree_action_of f p ≡ Ok (scan_action (scan_of (table_rows n (table_after f t s)) p)))
   -- there is such a table wherever scratch and room suffice: the rates of the rows lie in their range, so 14 is never
   -- given
@@ -188,10 +197,10 @@ pub record Demand2 : Type 0 where
   pub law : (f : List ℕ) (a b c : ℕ) → Otherwise f a b c → LawRefused f ↔ SomeBroken f a b c
   -- "with actions that show it"
   pub shown : (f : List ℕ) (a b c : ℕ) (r : Refusal) → Otherwise f a b c → read_of f ≡ Err r
-      → r.number ≡ law_broken → Shown f a b c r
+      → refusal_number r ≡ law_broken → Shown f a b c r
   -- "Given its scratch, a table is refused for room exactly when its defined rows outnumber the room."
   pub for-room : (f t s : List ℕ) (l : Layout) → read_of f ≡ Ok l → row_length * room (length t) ≤ length s
-      → (answer_of f t s ≡ Err (plain no_room 0)) ↔ (room (length t) < length (compiled_rows f l))
+      → (answer_of f t s ≡ Err (refusal_at NoRoom 0)) ↔ (room (length t) < length (compiled_rows f l))
 
 -- DEMAND 3. For every well-formed table, with buffers as long as it needs, where some packet matches two rows, the
 -- earlier row gets the strictly higher priority. No numbering that does so uses fewer priorities, and a chain of rows

@@ -16,22 +16,24 @@ use Rattle.std.specs.Prelude.{ℕ, suc, ◌*◌, ◌-◌, ◌≤◌, ◌<◌, �
 use Rattle.words.specs.Words.{zeros}
 use Rattle.words.specs.Records.{flat}
 use Rattle.words.specs.Bytes.{words_in}
-use Rattle.theory.specs.Rows.{Row, matches_at}
+use Rattle.theory.specs.Rows.{matches_at}
+use Rattle.theory.specs.declared.Row.{Row}
 use Rattle.theory.specs.Number.{FirstPlace, Obeyed, has}
 use Rattle.flow.specs.Packet.{packet_of, right_packet_words}
 use Rattle.flow.specs.Match.{meets, LiesIn}
 use Rattle.flow.specs.declared.Match.{Match}
 use Rattle.action.specs.declared.Action.{Action}
 use Rattle.row.specs.Row.{row_length, right_row, rows_in, table_rows}
-use Rattle.refusal.specs.Plain.{fault}
+use Rattle.refusal.specs.Refusals.{reason_number, refusal_at, answer_number}
+use Rattle.refusal.specs.declared.Reason.TheVariants.{NoRoom, WrongTable, WrongRow}
 use Rattle.policy.specs.Read.{read_of}
 use Rattle.policy.specs.declared.Layout.{Layout}
 use Rattle.tree.specs.Action.{tree_action_of}
-use Rattle.table.specs.Table.{wrong_table, wrong_row, row_count, past, right_length, row_at, RightTable}
-use Rattle.table.specs.Scan.{scan_of, scan_number, scan_action, scan_tried}
+use Rattle.table.specs.Table.{row_count, past, right_length, row_at, RightTable}
+use Rattle.table.specs.Scan.{scan_of, scan_action, scan_tried}
 use Rattle.hidden.specs.Hidden.{kept_of, table_kept}
 use Rattle.priority.specs.Numbering.{priority}
-use Rattle.compile.specs.Compile.{no_room, compiled_rows, answer_of, table_after}
+use Rattle.compile.specs.Compile.{compiled_rows, answer_of, table_after}
 use Rattle.line.specs.Text.{refusal}
 use Rattle.sheet.specs.Sheet.{listing_room, rows_text}
 use Rattle.text.specs.Listing.{right_input, blank, listing_of}
@@ -42,7 +44,7 @@ row_in ws i = get_or (rows_in ws) i past
 
 -- every packet in range that meets row i's match meets row j's
 abbrev pub Inside : List ℕ → ℕ → ℕ → Type 0
-Inside ws i j = LiesIn (row_in ws i).match (row_in ws j).match
+Inside ws i j = LiesIn (row_in ws i).matching (row_in ws j).matching
 
 -- "whose match lies wholly inside one earlier row's match": of the given table, whether that row goes or stays
 pub record Hidden (ws : List ℕ) (i : ℕ) : Type 0 where
@@ -71,7 +73,7 @@ pub record Passed (ws : List ℕ) : Type 0 where
   pub rows : (k : ℕ) → k < count → row_in (table_rows count (table_kept ws)) k ≡ row_in ws (get_or places k 0)
   -- "The scan's action is the same for every packet,": words that are no packet are refused alike
   pub action : (p : List ℕ) → let t : List ℕ = table_rows count (table_kept ws) in
-      (scan_number (scan_of t p) ≡ scan_number (scan_of ws p)) × (scan_action (scan_of t p) ≡ scan_action (scan_of ws p))
+      (answer_number (scan_of t p) ≡ answer_number (scan_of ws p)) × (scan_action (scan_of t p) ≡ scan_action (scan_of ws p))
   -- "and no remaining row can be removed by the rule.": of the rows that stay none is hidden, so a second pass changes
   -- nothing
   pub none_left : (i : ℕ) → i < count → ¬ (Hidden (table_rows count (table_kept ws)) i)
@@ -84,10 +86,10 @@ pub record Passed (ws : List ℕ) : Type 0 where
 
 -- "Refusals: 15, then 16, the table unchanged."
 pub record PassRefused : Type 0 where
-  pub length-first : (ws : List ℕ) → right_length ws ≡ false → (kept_of ws ≡ Err (fault wrong_table 0)) × (table_kept ws ≡ ws)
+  pub length-first : (ws : List ℕ) → right_length ws ≡ false → (kept_of ws ≡ Err (refusal_at WrongTable 0)) × (table_kept ws ≡ ws)
   pub then-rows : (ws : List ℕ) (i : ℕ) → right_length ws ≡ true
       → FirstPlace (λ j. not (right_row (row_at ws j))) (row_count ws) i
-      → (kept_of ws ≡ Err (fault wrong_row i)) × (table_kept ws ≡ ws)
+      → (kept_of ws ≡ Err (refusal_at WrongRow i)) × (table_kept ws ≡ ws)
 
 pub record PassListed : Type 0 where
   -- "The listing runs it before numbering;": of the compiled rows those that stay are numbered and listed
@@ -97,7 +99,7 @@ pub record PassListed : Type 0 where
       kept_of ws ≡ Ok k → listing_of b ≡ rows_text k (table_rows k (table_kept ws))
   -- "and refusal 12 still speaks of the rows before the pass.": given where these outnumber the room, and nowhere else
   pub room : (b : List ℕ) (l : Layout) → right_input b ≡ true → read_of (words_in b) ≡ Ok l
-      → listing_room < length (compiled_rows (words_in b) l) → listing_of b ≡ refusal no_room 0
+      → listing_room < length (compiled_rows (words_in b) l) → listing_of b ≡ refusal (reason_number NoRoom) 0
   pub in-room : (b : List ℕ) (l : Layout) → right_input b ≡ true → read_of (words_in b) ≡ Ok l
       → length (compiled_rows (words_in b) l) ≤ listing_room
       → answer_of (words_in b) blank blank ≡ Ok (length (compiled_rows (words_in b) l))

@@ -12,7 +12,8 @@ use Rattle.std.specs.Prelude.{ℕ, ◌<◌, ◌≡◌, true, false, List, [], �
 use Rattle.words.specs.Words.{zeros}
 use Rattle.words.specs.Records.{flat}
 use Rattle.words.specs.Bytes.{bytes_of}
-use Rattle.theory.specs.Rows.{Row, kept}
+use Rattle.theory.specs.Rows.{kept}
+use Rattle.theory.specs.declared.Row.{Row}
 use Rattle.flow.specs.Packet.{protocol_limit}
 use Rattle.flow.specs.Match.{protocol_flag, source_port_flag, destination_port_flag, constrains, match_of, is_empty}
 use Rattle.flow.specs.Match.{right_match, fits, meets}
@@ -23,9 +24,10 @@ use Rattle.action.specs.Operator.{sibling, parent}
 use Rattle.action.specs.declared.Action.{Action}
 use Rattle.action.specs.declared.Action.TheVariants.{DontCare, Deny}
 use Rattle.row.specs.Row.{row_length, right_row}
-use Rattle.refusal.specs.Plain.{fault}
+use Rattle.refusal.specs.Refusals.{refusal_at}
+use Rattle.refusal.specs.declared.Reason.TheVariants.{WrongRow}
 use Rattle.tree.specs.Action.{tree_action_of}
-use Rattle.table.specs.Table.{wrong_row, row_count, right_length, check_of, row_at, RightTable}
+use Rattle.table.specs.Table.{row_count, right_length, check_of, row_at, RightTable}
 use Rattle.table.specs.Scan.{scan_of}
 use Rattle.priority.specs.Numbering.{number_of, priorities_after}
 use Rattle.compile.specs.Compile.{answer_of, table_after}
@@ -57,8 +59,6 @@ spoken q m = record {
   protocol = q;
   source_port = m.source_port;
   destination_port = m.destination_port;
-  source_length = m.source_length;
-  destination_length = m.destination_length;
   flags = m.flags;
 }
 
@@ -69,13 +69,13 @@ pub record CountsAsEmpty : Type 0 where
   -- no row then
   pub atom : (m : Match) (q : ℕ) → constrains protocol_flag m ≡ true → q < protocol_limit → right_match m ≡ true
       → right_match (spoken q m) ≡ true
-  pub no_row : (r : Row Match Action) → is_empty r.match ≡ true → kept is_empty r ≡ []
+  pub no_row : (r : Row Match Action) → is_empty r.matching ≡ true → kept is_empty r ≡ []
   -- "wrong in a row."
   pub row : (ws : List ℕ) → is_empty (match_of ws) ≡ true → right_row ws ≡ false
   -- "Refusals: 16 now covers such rows.": the first wrong row is named where it is such a one
   pub refused : (ws : List ℕ) (i : ℕ) → right_length ws ≡ true → i < row_count ws
       → ((j : ℕ) → j < i → right_row (row_at ws j) ≡ true)
-      → is_empty (match_of (row_at ws i)) ≡ true → check_of ws ≡ Err (fault wrong_row i)
+      → is_empty (match_of (row_at ws i)) ≡ true → check_of ws ≡ Err (refusal_at WrongRow i)
 
 pub record Follows : Type 0 where
   -- "Common matches, overlap": exactly the packets that meet both meet the common match, which is flag 16 alone where
@@ -142,7 +142,7 @@ port_cases =
     ∷ "1 * 0.0.0.0/0 0.0.0.0/0 * 0 * deny\n"
     ∷ "1 * 0.0.0.0/0 0.0.0.0/0 1 * * allow\n"
     ∷ []))
-    ∷ k 5 (check_of (ported 0 0 5 8 2 ++ ported 1 0 5 10 2)) (Err (fault wrong_row 1))
+    ∷ k 5 (check_of (ported 0 0 5 8 2 ++ ported 1 0 5 10 2)) (Err (refusal_at WrongRow 1))
     ∷ []
 
 -- EVERY SENTENCE

@@ -8,10 +8,12 @@
 use Rattle.std.specs.Prelude.{ℕ, ◌≡◌, true, List, Ok, ◌⊎◌}
 use Rattle.words.specs.Bytes.{words_in}
 use Rattle.row.specs.Row.{table_rows}
-use Rattle.compile.specs.Compile.{no_room, answer_of, table_after}
+use Rattle.refusal.specs.declared.Reason.TheVariants.{NoRoom, WrongInput}
+use Rattle.compile.specs.Compile.{answer_of, table_after}
 use Rattle.line.specs.Text.{refusal}
-use Rattle.text.specs.Listing.{wrong_input, right_input, blank, file_text, listing_of, ListedKept}
+use Rattle.text.specs.Listing.{right_input, blank, file_text, listing_of, ListedKept}
 use Rattle.promises.specs.Told.{between}
+use Rattle.refusal.specs.Refusals.{reason_number}
 
 -- of the rows that the compile answers those that are not hidden, each with its priority
 pub record PrintsRows (b : List ℕ) : Type 0 where
@@ -25,7 +27,7 @@ pub record PrintsRows (b : List ℕ) : Type 0 where
 pub record PrintsRefusal (b : List ℕ) : Type 0 where
   pub number : ℕ
   pub place : ℕ
-  pub one_of : between 1 10 number ⊎ ((number ≡ no_room) ⊎ (number ≡ wrong_input))
+  pub one_of : between 1 10 number ⊎ ((number ≡ reason_number NoRoom) ⊎ (number ≡ reason_number WrongInput))
   pub text : listing_of b ≡ refusal number place
 
 -- THE LISTING PRINTS ROWS, OR A REFUSAL 1 TO 10, 12 OR 18, AND NO OTHER

@@ -1,39 +1,103 @@
-// Refusals: what a function that takes a policy file gives, and what one that takes a table gives.
+// Refusals: what a function that takes a policy file or a table gives where it has no result.
 #![tactic(auto)]
 
 ghost use Rattle.std.specs.Prelude.{◌≡◌};
-ghost use Rattle.refusal.specs.Plain.{plain};
+ghost use Rattle.refusal.specs.Refusals.{reason_number, failure_of, refusal_at};
 
-use action::{Action, Law};
+use action::LawFailure;
 
-// Its number and place, and for a broken law the law and the actions that show it.
-#[derive(Clone, Copy)]
-pub struct Refusal {
-    pub number: u32,
-    pub place: usize,
-    pub law: Law,
-    pub first: Action,
-    pub second: Action,
-    pub third: Action,
+// Why a file, a packet, a table or a buffer is refused.
+#[derive(Clone, Copy, PartialEq, Eq)]
+pub enum Reason {
+    // The file ends before a count or inside a counted section.
+    ShortFile,
+    // A count is beyond its limits.
+    WrongCount,
+    // The code of a cell.
+    WrongCell,
+    // The match of an atom.
+    WrongMatch,
+    // The action of an atom.
+    WrongAction,
+    // An operator index, own-atom count or child count is too large.
+    WrongNode,
+    // Words stand after the last node.
+    ExtraWords,
+    // The nodes are not one tree, or it is too deep.
+    NoTree,
+    // The own-atom counts do not add up to the atoms.
+    WrongSum,
+    // An operator breaks a law.
+    LawBroken(LawFailure),
+    // The words of a packet.
+    WrongPacket,
+    // There are more rows than room.
+    NoRoom,
+    // Scratch is too short for the room.
+    NoScratch,
+    // A rate made in joining lies outside its range.
+    WrongRate,
+    // A table that is not whole rows, or has too many.
+    WrongTable,
+    // A row, or one whose match no packet can meet.
+    WrongRow,
+    // A priority or chain buffer is shorter than the row count.
+    ShortBuffer,
+    // The bytes of a file that are not whole words, or too many.
+    WrongInput,
 }
 
-// What a table is refused with: the number and the place.
-#[derive(Clone, Copy)]
-pub struct Fault {
-    pub number: u32,
-    pub place: usize,
-}
-
-// A refusal that names no law.
-pub fn plain(number: u32, place: usize) -> Refusal
-    ensures { result ≡ plain number place }
-{
-    Refusal {
-        number,
-        place,
-        law: Law::Unnamed,
-        first: Action::DontCare,
-        second: Action::DontCare,
-        third: Action::DontCare,
+impl Reason {
+    // The number that a caller gets.
+    pub fn number(self) -> u32
+        ensures { result ≡ reason_number self }
+    {
+        match self {
+            Reason::ShortFile => 1,
+            Reason::WrongCount => 2,
+            Reason::WrongCell => 3,
+            Reason::WrongMatch => 4,
+            Reason::WrongAction => 5,
+            Reason::WrongNode => 6,
+            Reason::ExtraWords => 7,
+            Reason::NoTree => 8,
+            Reason::WrongSum => 9,
+            Reason::LawBroken(_) => 10,
+            Reason::WrongPacket => 11,
+            Reason::NoRoom => 12,
+            Reason::NoScratch => 13,
+            Reason::WrongRate => 14,
+            Reason::WrongTable => 15,
+            Reason::WrongRow => 16,
+            Reason::ShortBuffer => 17,
+            Reason::WrongInput => 18,
+        }
     }
+
+    // The broken law and the actions that show it, if it is that.
+    pub fn failure(self) -> Option<LawFailure>
+        ensures { result ≡ failure_of self }
+    {
+        match self {
+            Reason::LawBroken(failure) => Some(failure),
+            _ => None,
+        }
+    }
+
+    // The refusal for it at a place.
+    pub fn at(self, place: usize) -> Refusal
+        ensures { result ≡ refusal_at self place }
+    {
+        Refusal {
+            reason: self,
+            place,
+        }
+    }
+}
+
+// Why, and at which place of what was handed in.
+#[derive(Clone, Copy, PartialEq, Eq)]
+pub struct Refusal {
+    pub reason: Reason,
+    pub place: usize,
 }

@@ -1,12 +1,14 @@
 -- Words that are given in parts, one behind the other. Assumes nothing.
-use Rattle.std.proofs.Common.{List, ◌++◌, ℕ}
+use Rattle.std.proofs.Common.{◌≡◌, sym, List, ◌++◌, ℕ, ◌+◌}
+use Rattle.std.proofs.lemmas.List.{replicate-append-replicate}
 use Rattle.std.specs.declared.option.Option.{Option}
 use Rattle.std.specs.declared.result.Result.{Result}
 use Rattle.std.specs.Result.{OnOk}
 use Rattle.std.specs.Io.KnownBytes.{Appends}
+use Rattle.words.specs.Words.{zeros}
 use Rattle.words.specs.Records.{flat}
 use Rattle.words.specs.Bytes.{bytes_of}
-use Rattle.words.proofs.Records.{flat_append}
+use Rattle.words.proofs.RecordLaws.{flat_append}
 use Rattle.wire.proofs.Known.{appends_then, written_then}
 
 -- words that are given in two parts
@@ -18,3 +20,7 @@ given_both a b c ws vs p q = rw (flat_append bytes_of ws vs) (appends_then a b c
 pub given_then : {T E : Type 0} (r : Result T E) (a b c : Option (List ℕ)) (ws vs : List ℕ) → Appends a b (flat bytes_of ws)
     → OnOk r (Appends b c (flat bytes_of vs)) → OnOk r (Appends a c (flat bytes_of (ws ++ vs)))
 given_then r a b c ws vs p q = rw (flat_append bytes_of ws vs) (written_then r a b c (flat bytes_of ws) (flat bytes_of vs) p q)
+
+-- zeros behind zeros
+pub zeros_then : (m n : ℕ) → zeros (m + n) ≡ zeros m ++ zeros n
+zeros_then m n = sym (replicate-append-replicate m n 0)

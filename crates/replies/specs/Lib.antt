@@ -1,1 +1,2 @@
+pub mod Calls
 pub mod Replies

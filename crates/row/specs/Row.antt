@@ -12,7 +12,7 @@
 --   InRange                             the rate of a row lies in its range
 use Rattle.std.specs.Prelude.{ℕ, ◌+◌, ◌*◌, ◌≡◌, Bool, true, false, not, ◌&&◌, List, [], ◌∷◌, ◌++◌, get_or, take}
 use Rattle.words.specs.Records.{rows_of, flat}
-use Rattle.theory.specs.Rows.{Row}
+use Rattle.theory.specs.declared.Row.{Row}
 use Rattle.flow.specs.Match.{match_length, match_of, match_words, is_empty, right_match}
 use Rattle.flow.specs.declared.Match.{Match}
 use Rattle.action.specs.Action.{kind_of, rate_of, action_of, right_action, in_range}
@@ -40,11 +40,11 @@ row_action ws = action_of (get_or ws kind_place 0) (get_or ws rate_place 0)
 
 -- the match and the action that some words are
 abbrev pub row_of : List ℕ → Row Match Action
-row_of ws = record { match = match_of ws; action = row_action ws }
+row_of ws = record { matching = match_of ws; action = row_action ws }
 
 -- the words of a match and an action
 abbrev pub row_words : Row Match Action → List ℕ
-row_words r = match_words r.match ++ (kind_of r.action ∷ rate_of r.action ∷ [])
+row_words r = match_words r.matching ++ (kind_of r.action ∷ rate_of r.action ∷ [])
 
 -- the rows that some words hold
 abbrev pub rows_in : List ℕ → List (Row Match Action)
@@ -72,8 +72,8 @@ right_row ws = right_row_match ws && not (is_empty (match_of ws)) && right_row_a
 
 -- a right row: a right match that is not empty, and an action in range
 pub record RightRow (r : Row Match Action) : Type 0 where
-  pub match : right_match r.match ≡ true
-  pub not_empty : is_empty r.match ≡ false
+  pub matching : right_match r.matching ≡ true
+  pub not_empty : is_empty r.matching ≡ false
   pub action : in_range r.action ≡ true
 
 -- the rate of a row lies in its range

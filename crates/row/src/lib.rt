@@ -4,9 +4,9 @@
 ghost use Rattle.std.specs.Prelude.{◌≡◌};
 ghost use Rattle.row.specs.Row.{row_action, row_words, right_row_match, right_row_action, right_row};
 
-use action::{Action, action_of, kind, rate, right_action};
-use flow::{MATCH_WORDS, Match, contradicts, is_plain, read_match, right_match};
-use words::word;
+use action::Action;
+use flow::{MATCH_WORDS, Match};
+use words::{Records, Spelling, Written, copy, word};
 
 // How many words an atom or a row has, and where its action stands.
 pub const ROW_WORDS: usize = MATCH_WORDS + 2;
@@ -15,6 +15,52 @@ pub const ROW_WORDS: usize = MATCH_WORDS + 2;
 pub const MOST_ROWS: usize = 4096;
 
 pub type RowWords = [u32; ROW_WORDS];
+
+// An atom or a row.
+pub type Row = theory::Row<Match, Action>;
+
+// How a row is spelled in words.
+pub struct RowSpelling;
+
+// The rows that some words hold, one behind the other.
+pub type Rows<'a> = Records<'a, RowSpelling>;
+
+impl Spelling for RowSpelling {
+    type Item = Row;
+
+    ghost use Rattle.row.specs.Row.{row_length, row_of};
+    ghost use Rattle.row.specs.Spelled.{row-some};
+
+    ghost WORDS = { row_length };
+
+    const WORDS: usize = ROW_WORDS;
+
+    ghost of_words = { row_of };
+
+    ghost some = { row-some };
+
+    fn read(words: &[u32]) -> Row {
+        Row {
+            matching: Match::read(words),
+            action: row_action(words),
+        }
+    }
+}
+
+impl Written for RowSpelling {
+    ghost use Rattle.row.specs.Row.{row_words};
+    ghost use Rattle.row.specs.Spelled.{row-long, row_back};
+
+    ghost to_words = { row_words };
+
+    ghost long = { row-long };
+
+    ghost back = { row_back };
+
+    fn write(words: &mut [u32], at: usize, row: Row) {
+        copy(words, at, &words_of_row(row.matching, row.action));
+    }
+}
 
 const KIND: usize = MATCH_WORDS;
 
@@ -25,27 +71,28 @@ const RATE: usize = MATCH_WORDS + 1;
 pub fn row_action(row: &[u32]) -> Action
     ensures { result ≡ row_action row.now }
 {
-    action_of(word(row, KIND), word(row, RATE))
+    Action::from_words(word(row, KIND), word(row, RATE))
 }
 
 // The words of a row.
 pub fn words_of_row(m: Match, a: Action) -> RowWords
-    ensures { result ≡ row_words (record { match = m; action = a }) }
+    ensures { result ≡ row_words (record { matching = m; action = a }) }
 {
-    let k = kind(a);
-    let n = rate(a);
+    // All in one: composed of `Match::write` and the action's words, the compile took up to 1.2 times as long.
+    let kind = a.kind();
+    let rate = a.rate();
     [
         m.in_port,
-        m.source,
-        m.destination,
+        m.source.address,
+        m.destination.address,
         m.protocol,
         m.source_port,
         m.destination_port,
-        m.source_length,
-        m.destination_length,
+        m.source.length,
+        m.destination.length,
         m.flags,
-        k,
-        n,
+        kind,
+        rate,
     ]
 }
 
@@ -53,11 +100,11 @@ pub fn words_of_row(m: Match, a: Action) -> RowWords
 pub fn right_row(row: &[u32]) -> bool
     ensures { result ≡ right_row row.now }
 {
-    let m = read_match(row);
-    if !(is_plain(m) & right_row_action(row)) {
+    let m = Match::read(row);
+    if !(m.is_plain() & right_row_action(row)) {
         return false;
     }
-    !contradicts(m)
+    !m.contradicts()
 }
 
 // Whether the match of an atom or a row is right.
@@ -65,7 +112,7 @@ pub fn right_row(row: &[u32]) -> bool
 pub fn right_row_match(row: &[u32]) -> bool
     ensures { result ≡ right_row_match row.now }
 {
-    right_match(read_match(row))
+    Match::read(row).is_right()
 }
 
 // Whether the action of an atom or a row is right.
@@ -73,5 +120,5 @@ pub fn right_row_match(row: &[u32]) -> bool
 pub fn right_row_action(row: &[u32]) -> bool
     ensures { result ≡ right_row_action row.now }
 {
-    right_action(word(row, KIND), word(row, RATE))
+    Action::right_words(word(row, KIND), word(row, RATE))
 }

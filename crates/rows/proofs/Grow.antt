@@ -14,14 +14,15 @@ use lib.ListN.{length, take, drop, length-append, length-drop}
 use lib.Seq.{length-take-le, take-add, drop-drop}
 use Rattle.words.specs.Words.{laid, copied}
 use Rattle.words.proofs.Laid.{copied-fits, length-laid, laid_then}
-use Rattle.words.proofs.Records.{flat_append, rows_none, rows-flat}
-use Rattle.theory.specs.Rows.{Row, common_rows}
+use Rattle.words.proofs.RecordLaws.{flat_append, rows_none, rows-flat}
+use Rattle.theory.specs.Rows.{common_rows}
+use Rattle.theory.specs.declared.Row.{Row}
 use Rattle.flow.specs.Match.{is_empty, common}
 use Rattle.flow.specs.declared.Match.{Match}
 use Rattle.action.specs.Operator as operator
 use Rattle.action.specs.declared.Action.{Action}
 use Rattle.row.specs.Row.{row_length, row_of, row_words, rows_in, words_of}
-use Rattle.row.proofs.Rows.{row_back, row-long}
+use Rattle.row.specs.Spelled.{row_back, row-long}
 use Rattle.std.specs.Prelude.{Option, Some, None}
 use Rattle.common.specs.Lays.{made_of, Lays}
 use Rattle.common.specs.Tables.{common_rows_words}

@@ -11,15 +11,16 @@ use Rattle.std.proofs.lemmas.List.{nil_from_length}
 use Rattle.words.specs.Words.{laid, copied}
 use Rattle.words.proofs.Laid.{length-laid, laid_then, copied-fits}
 use Rattle.words.specs.Records.{rows_of}
-use Rattle.words.proofs.Records.{rows_more, rows_none}
+use Rattle.words.proofs.RecordLaws.{rows_none, rows-flat}
 use Rattle.words.proofs.Chunks.{whole-next}
+use Rattle.theory.specs.declared.Row.{Row}
 use Rattle.theory.specs.Rows.{kept, common_with, common_rows}
 use Rattle.flow.specs.Match.{is_empty, common, match_of}
 use Rattle.action.specs.Operator as operator
 use Rattle.flow.specs.declared.Match.{Match}
 use Rattle.action.specs.declared.Action.{Action}
-use Rattle.row.specs.Row.{row_length, row_of, row_action, row_words, rows_in, words_of}
-use Rattle.row.proofs.Rows.{row-long}
+use Rattle.row.specs.Row.{row_length, row_of, row_words, rows_in, words_of}
+use Rattle.row.specs.Spelled.{row_back, row-long}
 use Rattle.common.specs.Lays.{made_of, Lays}
 use Rattle.common.specs.Tables.{common_with_words, common_rows_words}
 use Rattle.rows.specs.Places.{part, PutUpTo, Grows}
@@ -97,51 +98,46 @@ put-up-words a p F old {new} w h g k =
     }
 
 -- the common rows of one row and a table
-one-row : (o w B : List ℕ) → length w ≡ row_length → common_rows_words o w B ≡ common_with_words o (row_of w) B
+one-row : (o : List ℕ) (x : Row Match Action) (B : List ℕ) → common_rows_words o (row_words x) B ≡ common_with_words o x B
 unfolding common_rows_words common_with_words
-one-row o w B h =
-    let none : rows_in (drop row_length w) ≡ [] = rows_none row_length row_of some_words (drop row_length w) (rw length-drop (omega arith)) in
-    let e : rows_in w ≡ row_of w ∷ [] =
-    rows_more row_length row_of some_words w (omega arith) ∙ ap₂ (λ x l. row_of x ∷ l) (take_all row_length w (omega arith)) none in
+one-row o x B =
+    let e : rows_in (row_words x) ≡ x ∷ [] =
+    ap rows_in (sym (append-nil (row_words x))) ∙ rows-flat row_length row_of some_words row_words row-long row_back (x ∷ []) in
     ap (λ N. words_of (common_rows common is_empty (operator.join o) N (rows_in B))) e
-    ∙ ap words_of (append-nil (common_with common is_empty (operator.join o) (row_of w) (rows_in B)))
+    ∙ ap words_of (append-nil (common_with common is_empty (operator.join o) x (rows_in B)))
 
--- an atom whose match is empty leaves the table as it is
-pub atom-none : (o atom : List ℕ) {a p : ℕ} {old s : List ℕ} {m : Match} {t : Bool} → m ≡ match_of atom → t ≡ is_empty m → t ≡ true → a ≤ p → p ≤ length s
-    → Grows a (join_words o (atom_words atom) (drop p s)) old old s (Some p)
-unfolding atom_words
-atom-none o atom {a} {p} {old} {s} {m} {t} e q h g k =
-    let i : is_empty (match_of atom) ≡ true = ap is_empty (sym e) ∙ sym q ∙ h in
-    let none : atom_words atom ≡ [] = ap (λ b. words_of (cond b [] (row_of atom ∷ []))) i in
-    let j : drop p s ≡ join_words o (atom_words atom) (drop p s) = sym (ap (λ A. join_words o A (drop p s)) none ∙ join-none o (drop p s)) in
-    stands_at a (join_words o (atom_words atom) (drop p s)) old s p g k j
+-- an atom's row x, and whether its match is empty, as the code finds them
+module _ (o atom : List ℕ) {a p : ℕ} {old : List ℕ} (s : List ℕ) {x : Row Match Action} {t : Bool} (e : x ≡ row_of atom) (q : t ≡ is_empty x.matching) where
+  -- one whose match is empty leaves the table as it is
+  pub atom-none : t ≡ true → a ≤ p → p ≤ length s → Grows a (join_words o (atom_words atom) (drop p s)) old old s (Some p)
+  unfolding atom_words
+  atom-none h g k =
+      let i : is_empty (match_of atom) ≡ true = ap (λ (y : Row Match Action). is_empty y.matching) (sym e) ∙ sym q ∙ h in
+      let none : atom_words atom ≡ [] = ap (λ b. words_of (cond b [] (row_of atom ∷ []))) i in
+      let j : drop p s ≡ join_words o (atom_words atom) (drop p s) = sym (ap (λ A. join_words o A (drop p s)) none ∙ join-none o (drop p s)) in
+      stands_at a (join_words o (atom_words atom) (drop p s)) old s p g k j
 
 -- another is one row
-module _ (o atom : List ℕ) {a : ℕ} (p : ℕ) {old mid : List ℕ} (s : List ℕ) {m : Match} {t : Bool} {y : Action} {w : List ℕ} {r : Option ℕ}
-    (e : m ≡ match_of atom) (q : t ≡ is_empty m) (h : t ≡ false) (x : y ≡ row_action atom) (u : w ≡ row_words (record { match = m; action = y }))
-    (l : Lays a (common_with_words o (row_of w) (take (length s - p) (drop p s)) ++ w) old mid r) where
-  is_row : atom_words atom ≡ w
+module _ (o atom : List ℕ) {a : ℕ} (p : ℕ) {old mid : List ℕ} (s : List ℕ) {x : Row Match Action} {t : Bool} {r : Option ℕ}
+    (e : x ≡ row_of atom) (q : t ≡ is_empty x.matching) (h : t ≡ false)
+    (l : Lays a (common_with_words o x (take (length s - p) (drop p s)) ++ row_words x) old mid r) where
+  is_row : atom_words atom ≡ row_words x
   unfolding atom_words
   is_row =
-      let i : is_empty (match_of atom) ≡ false = ap is_empty (sym e) ∙ sym q ∙ h in
-      ap (λ b. words_of (cond b [] (row_of atom ∷ []))) i
-      ∙ append-nil (row_words (row_of atom))
-      ∙ sym (u ∙ ap₂ (λ (n : Match) (z : Action). row_words (record { match = n; action = z })) e x)
-
-  long : length w ≡ row_length
-  long = ap length u ∙ row-long (record { match = m; action = y })
+      let i : is_empty (match_of atom) ≡ false = ap (λ (y : Row Match Action). is_empty y.matching) (sym e) ∙ sym q ∙ h in
+      ap (λ b. words_of (cond b [] (row_of atom ∷ []))) i ∙ append-nil (row_words (row_of atom)) ∙ ap row_words (sym e)
 
   -- the common rows, and then the row
   abbrev added : List ℕ
-  added = common_with_words o (row_of w) (take (length s - p) (drop p s)) ++ w
+  added = common_with_words o x (take (length s - p) (drop p s)) ++ row_words x
 
   -- they and the table are the join
   whole : added ++ drop p s ≡ join_words o (atom_words atom) (drop p s)
   whole =
-      ap (λ B. (common_with_words o (row_of w) B ++ w) ++ drop p s) (all_from p s)
-      ∙ append_assoc (common_with_words o (row_of w) (drop p s)) w (drop p s)
-      ∙ ap (λ c. c ++ (w ++ drop p s)) (sym (one-row o w (drop p s) long))
-      ∙ sym (join-parts o w (drop p s))
+      ap (λ B. (common_with_words o x B ++ row_words x) ++ drop p s) (all_from p s)
+      ∙ append_assoc (common_with_words o x (drop p s)) (row_words x) (drop p s)
+      ∙ ap (λ c. c ++ (row_words x ++ drop p s)) (sym (one-row o x (drop p s)))
+      ∙ sym (join-parts o (row_words x) (drop p s))
       ∙ ap (λ A. join_words o A (drop p s)) (sym is_row)
 
   whole_long : length (join_words o (atom_words atom) (drop p s)) ≡ length added + length (drop p s)

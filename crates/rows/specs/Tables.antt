@@ -6,7 +6,8 @@
 --   atom_words x                an atom's table, in words
 --   own_words o xs              the table of a node's own atoms, in words
 use Rattle.std.specs.Prelude.{ℕ, List, ◌++◌}
-use Rattle.theory.specs.Rows.{Row, kept, join}
+use Rattle.theory.specs.Rows.{kept, join}
+use Rattle.theory.specs.declared.Row.{Row}
 use Rattle.theory.specs.Tree.{table}
 use Rattle.flow.specs.Match.{is_empty, common}
 use Rattle.flow.specs.declared.Match.{Match}

@@ -1,10 +1,11 @@
 // Tables joined in their place, within two lent buffers that are as long as there is room. Only the
 // walk of the compile calls these functions: they ask for places inside the buffers, and where
 // there is no room they do not say what words are left, since the compile then clears both.
+// The buffers and the place stay parameters, for the reason at `common::common_rows`.
 #![tactic(auto)]
 
 ghost use Rattle.std.specs.Prelude.{◌≡◌, ◌++◌, ◌≤◌, length, drop};
-ghost use Rattle.row.specs.Row.{row_of};
+ghost use Rattle.row.specs.Row.{row_words};
 ghost use Rattle.common.specs.Lays.{Lays};
 ghost use Rattle.common.specs.Tables.{common_with_words};
 ghost use Rattle.rows.specs.Places.{part, Behind, From, Before, Ending, Grows, PutUpTo};
@@ -12,9 +13,8 @@ ghost use Rattle.rows.specs.Tables.{join_words, atom_words, own_words};
 
 use action::Operator;
 use common::{append, common_rows, common_with};
-use flow::{is_empty, read_match};
-use row::{ROW_WORDS, row_action, words_of_row};
-use words::copy;
+use row::{ROW_WORDS, Row, RowSpelling, words_of_row};
+use words::{Spelling, copy};
 
 // Joins the tables at start..middle and middle..end: their common rows are made in scratch, and put
 // before them.
@@ -99,12 +99,11 @@ fn join_atom(
         (join_words operator.cells (atom_words atom.now) (drop first scratch.old))
         table.old table.new scratch.new result }
 {
-    let m = read_match(atom);
-    if is_empty(m) {
+    let row = RowSpelling::read(atom);
+    if row.matching.is_empty() {
         return Some(first);
     }
-    let row = words_of_row(m, row_action(atom));
-    let end = row_before(operator, &row, &scratch[first..], table, start)?;
+    let end = row_before(operator, row, &scratch[first..], table, start)?;
     put_up_to(scratch, start, first, &table[start..end])
 }
 
@@ -125,16 +124,15 @@ fn put_up_to(out: &mut [u32], start: usize, place: usize, words: &[u32]) -> Opti
 // The common rows of a row and a table, and then the row.
 fn row_before(
     operator: Operator,
-    row: &[u32],
+    row: Row,
     table: &[u32],
     out: &mut [u32],
     at: usize,
 ) -> Option<usize>
     requires { at ≤ length out.old }
-    ensures { Lays at
-        (common_with_words operator.cells (row_of row.now) table.now ++ row.now)
+    ensures { Lays at (common_with_words operator.cells row table.now ++ row_words row)
         out.old out.new result }
 {
     let end = common_with(operator, row, table, out, at)?;
-    append(out, end, row)
+    append(out, end, &words_of_row(row.matching, row.action))
 }

@@ -9,9 +9,10 @@ use lib.ListN.{get_or, length, drop, length-drop}
 use lib.Seq.{length-take-le}
 use borrow.Author.Tests.{ltb-true, lt-ltb, leb-true, le-leb}
 use Rattle.words.specs.Records.{records}
-use Rattle.words.proofs.Records.{length-records}
+use Rattle.words.proofs.RecordLaws.{length-records}
 use Rattle.std.specs.Prelude.{Ok}
-use Rattle.section.specs.Numbers.{most_atoms, most_children, wrong_match, wrong_action, wrong_cell, wrong_node}
+use Rattle.refusal.specs.declared.Reason.TheVariants.{WrongCell, WrongMatch, WrongAction, WrongNode}
+use Rattle.section.specs.Numbers.{most_atoms, most_children}
 use Rattle.section.specs.Sections.{unless, each, cell_fault, cells_fault, atom_fault, node_fault, record_length, least, most, header_fault, count_fault}
 use Rattle.section.specs.Sections.{record_fault, section_fault, inner_of, parent_of, sibling_of, own_of, children_of}
 use Rattle.section.specs.Atom.{right_atom_match, right_atom_action}
@@ -38,7 +39,7 @@ record-long (suc n) k ws (suc i) h l =
 cells-fault : (ed : Edition) (at : ℕ) (cs : List ℕ) → cells_fault ed at cs ≡ Ok tt → (j : ℕ) → j < length cs → right_cell_in ed j (get_or cs j 0) ≡ true
 unfolding cells_fault
 cells-fault ed at cs e j h =
-    unless-true (right_cell_in ed j (get_or cs j 0)) wrong_cell (at + j) (each-passed 0 (cell_fault ed at) 1 0 cs e j h j (omega arith))
+    unless-true (right_cell_in ed j (get_or cs j 0)) WrongCell (at + j) (each-passed 0 (cell_fault ed at) 1 0 cs e j h j (omega arith))
 
 fault-cells : (ed : Edition) (at : ℕ) (cs : List ℕ) → ((j : ℕ) → j < length cs → right_cell_in ed j (get_or cs j 0) ≡ true) → cells_fault ed at cs ≡ Ok tt
 unfolding cells_fault
@@ -48,8 +49,8 @@ fault-cells ed at cs h = passed-each 0 (cell_fault ed at) 1 0 cs (λ j l p q. le
 atom-fault : (e : Edition) (at : ℕ) (r : List ℕ) → atom_fault e at r ≡ Ok tt → (right_atom_match e r ≡ true) × (right_atom_action e r ≡ true)
 unfolding atom_fault
 atom-fault e at r p =
-    let h = else-both (unless (right_atom_match e r) wrong_match at) (unless (right_atom_action e r) wrong_action at) p in
-    (unless-true (right_atom_match e r) wrong_match at h.0, unless-true (right_atom_action e r) wrong_action at h.1)
+    let h = else-both (unless (right_atom_match e r) WrongMatch at) (unless (right_atom_action e r) WrongAction at) p in
+    (unless-true (right_atom_match e r) WrongMatch at h.0, unless-true (right_atom_action e r) WrongAction at h.1)
 
 fault-atom : (e : Edition) (at : ℕ) (r : List ℕ) → right_atom_match e r ≡ true → right_atom_action e r ≡ true → atom_fault e at r ≡ Ok tt
 unfolding atom_fault
@@ -67,7 +68,7 @@ pub node-fault : (a at : ℕ) (r : List ℕ) → node_fault a at r ≡ Ok tt →
 unfolding node_fault
 node-fault a at r e =
     let t : Bool = ltb (inner_of r) a && ltb (parent_of r) a && ltb (sibling_of r) a && leb (own_of r) most_atoms && leb (children_of r) most_children in
-    let h = simp and-eq-true_iff at (unless-true t wrong_node at e) in
+    let h = simp and-eq-true_iff at (unless-true t WrongNode at e) in
     record {
       inner = ltb-true _ _ h.0.0.0.0;
       parent = ltb-true _ _ h.0.0.0.1;

@@ -10,17 +10,18 @@ use borrow.Author.Tests.{leb-true, ltb-true}
 use Rattle.words.specs.Records.{records}
 use Rattle.words.proofs.Chunks.{whole, whole-part}
 use Rattle.std.specs.Prelude.{Ok}
-use Rattle.section.specs.Numbers.{short, wrong_count}
+use Rattle.refusal.specs.declared.Reason.TheVariants.{ShortFile, WrongCount}
 use Rattle.section.specs.Sections.{Test, unless, ◌else◌, each, record_length, least, most, count_fault, record_fault, behind, section_fault}
 use Rattle.section.specs.declared.Section.{Section}
 use Rattle.section.proofs.Each.{else-both}
 use Rattle.section.proofs.Lengths.{record-some}
 use Rattle.logic.proofs.Tests.{and_left, and_right}
+use Rattle.refusal.specs.declared.Reason.{Reason}
 
 -- what a passed test shows
-pub unless-true : (b : Bool) (n at : ℕ) → unless b n at ≡ Ok tt → b ≡ true
-unless-true true n at e = refl
-unless-true false n at e = cc
+pub unless-true : (b : Bool) (why : Reason) (at : ℕ) → unless b why at ≡ Ok tt → b ≡ true
+unless-true true why at e = refl
+unless-true false why at e = cc
 
 -- a count that passes is there, and within its limits
 pub record Counted (f : List ℕ) (at : ℕ) (s : Section) : Type 0 where
@@ -32,10 +33,10 @@ pub counted : (f : List ℕ) (at : ℕ) (s : Section) → count_fault f at s ≡
 unfolding count_fault
 counted f at s e =
     let n : ℕ = get_or f at 0 in
-    let h = else-both (unless (ltb at (length f)) short (length f)) (unless (leb (least s) n && leb n (most s)) wrong_count at) e in
-    let k : (leb (least s) n && leb n (most s)) ≡ true = unless-true (leb (least s) n && leb n (most s)) wrong_count at h.1 in
+    let h = else-both (unless (ltb at (length f)) ShortFile (length f)) (unless (leb (least s) n && leb n (most s)) WrongCount at) e in
+    let k : (leb (least s) n && leb n (most s)) ≡ true = unless-true (leb (least s) n && leb n (most s)) WrongCount at h.1 in
     record {
-      there = ltb-true at (length f) (unless-true (ltb at (length f)) short (length f) h.0);
+      there = ltb-true at (length f) (unless-true (ltb at (length f)) ShortFile (length f) h.0);
       few = leb-true (least s) n (and_left (leb (least s) n) (leb n (most s)) k);
       many = leb-true n (most s) (and_right (leb (least s) n) (leb n (most s)) k);
     }
@@ -51,24 +52,24 @@ unfolding section_fault
 section-passed f at s e =
     let k : ℕ = record_length s in
     let n : ℕ = get_or f at 0 in
-    let present : Test = unless (leb (at + 1 + k * n) (length f)) short (length f) in
+    let present : Test = unless (leb (at + 1 + k * n) (length f)) ShortFile (length f) in
     let rest : Test = each (record_fault s) (at + 1) k (records n k (drop (at + 1) f)) in
     let h = else-both (count_fault f at s) (◌else◌ present rest) e in
     let g = else-both present rest h.1 in
     record {
       count = counted f at s h.0;
-      whole = leb-true (at + 1 + k * n) (length f) (unless-true (leb (at + 1 + k * n) (length f)) short (length f) g.0);
+      whole = leb-true (at + 1 + k * n) (length f) (unless-true (leb (at + 1 + k * n) (length f)) ShortFile (length f) g.0);
       all = g.1;
     }
 
 -- what a section comes to whose count passes and whose records are all there: that of the words behind the count
 pub section-records : (f : List ℕ) (at : ℕ) (s : Section) (n end : ℕ) → n ≡ get_or f at 0 → end ≡ behind at s n
-    → count_fault f at s ≡ Ok tt → unless (leb end (length f)) short (length f) ≡ Ok tt
+    → count_fault f at s ≡ Ok tt → unless (leb end (length f)) ShortFile (length f) ≡ Ok tt
     → each (record_fault s) (at + 1) (record_length s) (whole (record_length s) (take (end - (at + 1)) (drop (at + 1) f))) ≡ section_fault f at s
 unfolding section_fault
 section-records f at s n end q p c d =
     let k : ℕ = record_length s in
-    let there : end ≤ length f = leb-true end (length f) (unless-true _ short (length f) d) in
+    let there : end ≤ length f = leb-true end (length f) (unless-true _ ShortFile (length f) d) in
     let w : end - (at + 1) ≡ k * n = omega (arith, p) in
     let few : k * n ≤ length (drop (at + 1) f) = rw length-drop (omega (arith, p)) in
     rw (w, whole-part k n (drop (at + 1) f) (record-some s k refl) few, c, ← q, ← p, d)

@@ -12,7 +12,8 @@
 use Rattle.std.specs.Prelude.{ℕ, ◌+◌, ◌*◌, ◌≤◌, ◌<◌, ◌≡◌, true, false, List, [], ◌⊎◌, get_or, length, take, drop}
 use Rattle.words.specs.Records.{records}
 use Rattle.section.specs.Numbers.{header_length_in, header_of, operator_length_in, most_atoms, most_children}
-use Rattle.section.specs.Numbers.{short, wrong_count, wrong_cell, wrong_match, wrong_action, wrong_node}
+use Rattle.refusal.specs.declared.Reason.{Reason}
+use Rattle.refusal.specs.declared.Reason.TheVariants.{ShortFile, WrongCount, WrongCell, WrongMatch, WrongAction, WrongNode}
 use Rattle.section.specs.Atom.{right_atom_match, right_atom_action}
 use Rattle.section.specs.Cells.{right_cell_in}
 use Rattle.section.specs.Sections.{record_length, least, most, inner_of, parent_of, sibling_of, own_of, children_of}
@@ -63,34 +64,34 @@ pub record Good (f : List ℕ) (at : ℕ) (s : Section) (n : ℕ) : Type 0 where
   pub right : (i : ℕ) → i < n → RightRecord s (record_at f at s n i)
 
 -- what is due to a wrong record r that begins at a place
-pub data RecordDue (at : ℕ) (r : List ℕ) : Section → ℕ → ℕ → Type 0 where
+pub data RecordDue (at : ℕ) (r : List ℕ) : Section → Reason → ℕ → Type 0 where
   -- an operator: 3 at the word of its first wrong cell
   cell : {e : Edition} {j : ℕ} → FirstWrong (λ i. right_cell_in e i (get_or r i 0) ≡ true) (operator_length_in e) j
-      → RecordDue at r (Operators e) wrong_cell (at + j)
+      → RecordDue at r (Operators e) WrongCell (at + j)
   -- an atom: 4 at its first word if its match is wrong, whatever its action is; 5 there if only its action is
-  match : {e : Edition} → right_atom_match e r ≡ false → RecordDue at r (Atoms e) wrong_match at
+  match : {e : Edition} → right_atom_match e r ≡ false → RecordDue at r (Atoms e) WrongMatch at
   action : {e : Edition} → right_atom_match e r ≡ true → right_atom_action e r ≡ false
-      → RecordDue at r (Atoms e) wrong_action at
+      → RecordDue at r (Atoms e) WrongAction at
   -- a node: 6 at its first word, whichever of its words is wrong
-  node : {a : ℕ} → ¬ RightNode a r → RecordDue at r (Nodes a) wrong_node at
+  node : {a : ℕ} → ¬ RightNode a r → RecordDue at r (Nodes a) WrongNode at
 
 -- what is due to a section whose count stands at a place: "count, then the whole section present, then records in
 -- order"
-pub data SectionDue (f : List ℕ) (at : ℕ) (s : Section) : ℕ → ℕ → Type 0 where
+pub data SectionDue (f : List ℕ) (at : ℕ) (s : Section) : Reason → ℕ → Type 0 where
   -- the file ends before the count: 1 at the file's word count
-  no-count : length f ≤ at → SectionDue f at s short (length f)
+  no-count : length f ≤ at → SectionDue f at s ShortFile (length f)
   -- the count is beyond its limits, whatever follows it: 2 at its word
-  beyond : at < length f → (get_or f at 0 < least s) ⊎ (most s < get_or f at 0) → SectionDue f at s wrong_count at
+  beyond : at < length f → (get_or f at 0 < least s) ⊎ (most s < get_or f at 0) → SectionDue f at s WrongCount at
   -- the file ends inside the section, whatever is there of it: 1 at the file's word count
   cut : at < length f → least s ≤ get_or f at 0 → get_or f at 0 ≤ most s
       → length f < at + 1 + record_length s * get_or f at 0
-      → SectionDue f at s short (length f)
+      → SectionDue f at s ShortFile (length f)
   -- the whole section is present: what is due to its first wrong record
-  wrong-record : {n i number place : ℕ} → Present f at (least s) (most s) (record_length s) n
+  wrong-record : {n i place : ℕ} {why : Reason} → Present f at (least s) (most s) (record_length s) n
       → FirstWrong (λ j. RightRecord s (record_at f at s n j)) n i
-      → RecordDue (at + 1 + record_length s * i) (record_at f at s n i) s number place
-      → SectionDue f at s number place
+      → RecordDue (at + 1 + record_length s * i) (record_at f at s n i) s why place
+      → SectionDue f at s why place
 
 -- what is due to a header: that of the first edition has no words, and nothing is
-abbrev pub HeaderDue : Edition → List ℕ → ℕ → ℕ → Type 0
-HeaderDue First f n at = ⊥
+abbrev pub HeaderDue : Edition → List ℕ → Reason → ℕ → Type 0
+HeaderDue First f why at = ⊥

@@ -1,5 +1,5 @@
 -- The numbers of a policy file, each named once: how many words a record has in each edition, how many records and how
--- deep, and the refusals. See docs/FORMAT.md, "The policy file" and "Numbers a caller can get back".
+-- deep. See docs/FORMAT.md, "The policy file".
 --
 --   latest                                                           the newest edition
 --   header_length_in, header_of                                      the words before the first count
@@ -9,7 +9,6 @@
 --                                                                    operator
 --   longest_file                                                     the words of the longest file
 --   most_operators, most_atoms, most_nodes, most_children, deepest   limits
---   short .. law_broken                                              the refusals 1 to 10
 use Rattle.std.specs.Prelude.{ℕ, ◌+◌, ◌*◌, List, []}
 use Rattle.action.specs.Operator.{cell_count}
 use Rattle.row.specs.Row.{row_length}
@@ -77,43 +76,3 @@ longest_file = header_length + 3 + operator_length * most_operators + atom_lengt
 -- the deepest that a node may stand; the root has depth 1
 abbrev pub deepest : ℕ
 deepest = 16
-
--- the file ends before a count or inside a counted section
-abbrev pub short : ℕ
-short = 1
-
--- a count beyond its limits
-abbrev pub wrong_count : ℕ
-wrong_count = 2
-
--- a wrong cell code
-abbrev pub wrong_cell : ℕ
-wrong_cell = 3
-
--- a wrong match
-abbrev pub wrong_match : ℕ
-wrong_match = 4
-
--- a wrong action
-abbrev pub wrong_action : ℕ
-wrong_action = 5
-
--- an operator index, own-atom or child count too large
-abbrev pub wrong_node : ℕ
-wrong_node = 6
-
--- words after the last node
-abbrev pub extra_words : ℕ
-extra_words = 7
-
--- the nodes are not one tree, or too deep
-abbrev pub no_tree : ℕ
-no_tree = 8
-
--- the own-atom counts do not add up to the atoms
-abbrev pub wrong_sum : ℕ
-wrong_sum = 9
-
--- a law is broken
-abbrev pub law_broken : ℕ
-law_broken = 10

@@ -14,25 +14,26 @@
 --   Reaches                      a file reaches to a place, and its operators are there
 use Rattle.std.specs.Prelude.{ℕ, ◌+◌, ◌*◌, ◌≤◌, Bool, cond, ◌&&◌, List, [], ◌∷◌, Result, Ok, Err, leb, ltb, get_or, length, drop}
 use Rattle.words.specs.Records.{records}
-use Rattle.refusal.specs.Plain.{plain}
+use Rattle.refusal.specs.Refusals.{refusal_at}
+use Rattle.refusal.specs.declared.Reason.{Reason}
+use Rattle.refusal.specs.declared.Reason.TheVariants.{ShortFile, WrongCount, WrongCell, WrongMatch, WrongAction, WrongNode}
+use Rattle.refusal.specs.declared.Refusal.{Refusal}
 use Rattle.section.specs.Numbers.{operator_length_in, atom_length_in, node_length}
 use Rattle.section.specs.Numbers.{most_operators, most_atoms, most_nodes, most_children}
-use Rattle.section.specs.Numbers.{short, wrong_count, wrong_cell, wrong_match, wrong_action, wrong_node}
 use Rattle.section.specs.Atom.{right_atom_match, right_atom_action}
 use Rattle.section.specs.Cells.{right_cell_in}
 use Rattle.section.specs.declared.Edition.{Edition}
 use Rattle.section.specs.declared.Edition.TheVariants.{First}
 use Rattle.section.specs.declared.Section.{Section}
 use Rattle.section.specs.declared.Section.TheVariants.{Operators, Atoms, Nodes}
-use Rattle.refusal.specs.declared.Refusal.{Refusal}
 
 -- what a test comes to: nothing, or a refusal
 abbrev pub Test : Type 0
 Test = Result (Unit {0}) Refusal
 
--- the refusal n at a place, where a test is not met
-abbrev pub unless : Bool → ℕ → ℕ → Test
-unless b n at = cond b (Ok tt) (Err (plain n at))
+-- the refusal for a reason at a place, where a test is not met
+abbrev pub unless : Bool → Reason → ℕ → Test
+unless b why at = cond b (Ok tt) (Err (refusal_at why at))
 
 -- the first of two refusals
 abbrev pub ◌else◌ : Test → Test → Test
@@ -69,12 +70,12 @@ header_fault First f = Ok tt
 -- the count of a section is there, and within its limits
 unfoldable pub count_fault : List ℕ → ℕ → Section → Test
 count_fault f at s =
-    ◌else◌ (unless (ltb at (length f)) short (length f))
-    (unless (leb (least s) (get_or f at 0) && leb (get_or f at 0) (most s)) wrong_count at)
+    ◌else◌ (unless (ltb at (length f)) ShortFile (length f))
+    (unless (leb (least s) (get_or f at 0) && leb (get_or f at 0) (most s)) WrongCount at)
 
 -- the cell j of an operator that stands at a place is right
 abbrev pub cell_fault : Edition → ℕ → ℕ → ℕ → Test
-cell_fault e at j c = unless (right_cell_in e j c) wrong_cell (at + j)
+cell_fault e at j c = unless (right_cell_in e j c) WrongCell (at + j)
 
 -- the cells of an operator are right
 unfoldable pub cells_fault : Edition → ℕ → List ℕ → Test
@@ -82,7 +83,7 @@ cells_fault e at r = each (cell_fault e at) 0 1 r
 
 -- the match of an atom is right, then its action
 unfoldable pub atom_fault : Edition → ℕ → List ℕ → Test
-atom_fault e at r = ◌else◌ (unless (right_atom_match e r) wrong_match at) (unless (right_atom_action e r) wrong_action at)
+atom_fault e at r = ◌else◌ (unless (right_atom_match e r) WrongMatch at) (unless (right_atom_action e r) WrongAction at)
 
 -- the words of a node: inner, parent and sibling operator indexes, own-atom count, child count
 abbrev pub inner_of : List ℕ → ℕ
@@ -109,7 +110,7 @@ node_fault operators at r =
     && ltb (sibling_of r) operators
     && leb (own_of r) most_atoms
     && leb (children_of r) most_children)
-    wrong_node
+    WrongNode
     at
 
 -- a record of a section is right
@@ -128,7 +129,7 @@ section_fault f at s =
     let k : ℕ = record_length s in
     let n : ℕ = get_or f at 0 in
     ◌else◌ (count_fault f at s)
-    (◌else◌ (unless (leb (behind at s n) (length f)) short (length f))
+    (◌else◌ (unless (leb (behind at s n) (length f)) ShortFile (length f))
     (each (record_fault s) (at + 1) k (records n k (drop (at + 1) f))))
 
 -- a file reaches to a place, and its operators are there, whose count stands at h

@@ -1,12 +1,13 @@
 // The atoms of each edition: the row that an atom's words are, and what its edition tests beside.
 ghost use Rattle.std.specs.Prelude.{◌≡◌, ◌≤◌, length};
+ghost use Rattle.row.specs.Row.{right_row_match, right_row_action};
 ghost use Rattle.section.specs.Numbers.{atom_length_in};
 ghost use Rattle.section.specs.Atom.{right_atom_match, right_atom_action};
 ghost use Rattle.section.specs.Sections.{atom_fault};
 
 use crate::sections::unless;
-use crate::{ATOM_WORDS, Edition, WRONG_ACTION, WRONG_MATCH};
-use refusal::Refusal;
+use crate::{ATOM_WORDS, Edition};
+use refusal::{Reason, Refusal};
 use row::{right_row_action, right_row_match};
 
 // A wrong match, or else a wrong action.
@@ -15,27 +16,18 @@ pub(crate) fn atom_fault(atom: &[u32], at: usize, edition: Edition) -> Result<()
     requires { atom_length_in edition ≤ length atom.now }
     ensures { result ≡ atom_fault edition at atom.now }
 {
-    unless(right_match_in(atom, edition), WRONG_MATCH, at)?;
-    unless(right_action_in(atom, edition), WRONG_ACTION, at)
+    let row = row_in(atom, edition);
+    unless(right_row_match(row), Reason::WrongMatch, at)?;
+    unless(right_row_action(row), Reason::WrongAction, at)
 }
 
-// Whether the match of an atom is right. The part tested has a known length, so that reading its
-// words needs no test.
-fn right_match_in(atom: &[u32], edition: Edition) -> bool
+// The words of its row. They have a known length, so that reading them needs no test.
+fn row_in(atom: &[u32], edition: Edition) -> &[u32]
     requires { atom_length_in edition ≤ length atom.now }
-    ensures { result ≡ right_atom_match edition atom.now }
+    ensures matching { right_row_match result.now ≡ right_atom_match edition atom.now }
+    ensures action { right_row_action result.now ≡ right_atom_action edition atom.now }
 {
     match edition {
-        Edition::First => right_row_match(&atom[..ATOM_WORDS]),
-    }
-}
-
-// Whether its action is right.
-fn right_action_in(atom: &[u32], edition: Edition) -> bool
-    requires { atom_length_in edition ≤ length atom.now }
-    ensures { result ≡ right_atom_action edition atom.now }
-{
-    match edition {
-        Edition::First => right_row_action(&atom[..ATOM_WORDS]),
+        Edition::First => &atom[..ATOM_WORDS],
     }
 }

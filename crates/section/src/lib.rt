@@ -3,15 +3,13 @@
 // the file reaches, and a place is asked for only where it is a number of 64 bits.
 #![tactic(auto)]
 
-pub use crate::operators::operator_in;
-pub use crate::places::{behind, header_words, operator_words};
-pub use crate::sections::{header_fault, section_fault, unless, wide};
+pub use crate::by_edition::EditionWords;
+pub use crate::sections::unless;
 use action::CELLS;
 use row::ROW_WORDS;
 
 mod atoms;
-mod operators;
-mod places;
+mod by_edition;
 mod sections;
 
 // How many words stand before the first count of a file of the newest edition.
@@ -47,27 +45,6 @@ pub const SIBLING: usize = 2;
 pub const OWN: usize = 3;
 
 pub const CHILDREN: usize = 4;
-
-// The numbers of the refusals.
-pub const SHORT: u32 = 1;
-
-pub const WRONG_COUNT: u32 = 2;
-
-pub const WRONG_CELL: u32 = 3;
-
-pub const WRONG_MATCH: u32 = 4;
-
-pub const WRONG_ACTION: u32 = 5;
-
-pub const WRONG_NODE: u32 = 6;
-
-pub const EXTRA_WORDS: u32 = 7;
-
-pub const NO_TREE: u32 = 8;
-
-pub const WRONG_SUM: u32 = 9;
-
-pub const LAW_BROKEN: u32 = 10;
 
 // The editions of the file format.
 #[derive(Clone, Copy)]

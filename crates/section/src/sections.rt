@@ -1,17 +1,13 @@
-// One section of a policy file: its count, that all of it is there, and its records in order.
-ghost use Rattle.std.specs.Prelude.{◌≡◌, ◌+◌, ◌/◌, ◌≤◌, ◌<◌, ◌^◌, length};
+// One section of a policy file: where it ends, its count, that all of it is there, and its records
+// in order.
+ghost use Rattle.std.specs.Prelude.{◌≡◌, ◌+◌, ◌*◌, ◌/◌, ◌≤◌, ◌<◌, ◌^◌, length};
 ghost use Rattle.words.specs.Records.{records};
-ghost use Rattle.section.specs.Sections.{record_length, least, most, unless, each};
-ghost use Rattle.section.specs.Sections.{header_fault, count_fault, cells_fault, node_fault};
+ghost use Rattle.section.specs.Sections.{record_length, least, most, behind, unless, each};
+ghost use Rattle.section.specs.Sections.{count_fault, cells_fault, node_fault};
 ghost use Rattle.section.specs.Sections.{record_fault, section_fault};
 
-use crate::operators::right_cell_in;
-use crate::places::{behind, record_words};
-use crate::{
-    CHILDREN, Edition, INNER, OWN, PARENT, SHORT, SIBLING, Section, WRONG_CELL, WRONG_COUNT,
-    WRONG_NODE, atoms,
-};
-use refusal::{Refusal, plain};
+use crate::{CHILDREN, Edition, INNER, NODE_WORDS, OWN, PARENT, SIBLING, Section, atoms};
+use refusal::{Reason, Refusal};
 use words::word;
 
 // How many records a section may have.
@@ -24,61 +20,100 @@ pub const MOST_NODES: u32 = 256;
 // How many children a node may have.
 const MOST_CHILDREN: u32 = 255;
 
-// The first fault of the section whose count stands at a place.
-#[tactic(auto, unfolding(crate::specs::Sections::section_fault))]
-pub fn section_fault(file: &[u32], at: usize, section: Section) -> Result<(), Refusal>
-    requires { at ≤ length file.now }
-    ensures { result ≡ section_fault file.now at section }
-{
-    count_fault(file, at, section)?;
-    let end = behind(at, section, wide(word(file, at)));
-    unless(end <= file.len(), SHORT, file.len())?;
-    records_fault(&file[at + 1..end], at + 1, section)
+// The fewest and the most records that a section may have.
+#[derive(Clone, Copy)]
+struct Limits {
+    least: u32,
+    most: u32,
 }
 
-// Whether a count is there and within its limits.
-#[tactic(auto, unfolding(crate::specs::Sections::count_fault))]
-fn count_fault(file: &[u32], at: usize, section: Section) -> Result<(), Refusal>
-    ensures { result ≡ count_fault file.now at section }
-{
-    unless(at < file.len(), SHORT, file.len())?;
-    let count = word(file, at);
-    let good = (least(section) <= count) & (count <= most(section));
-    unless(good, WRONG_COUNT, at)
-}
-
-// The header of a file of an edition.
-pub fn header_fault(file: &[u32], edition: Edition) -> Result<(), Refusal>
-    ensures { result ≡ header_fault edition file.now }
-{
-    match edition {
-        Edition::First => Ok(()),
+impl Section {
+    // The first fault of the section whose count stands at a place.
+    #[tactic(auto, unfolding(crate::specs::Sections::section_fault))]
+    pub fn fault(self, file: &[u32], at: usize) -> Result<(), Refusal>
+        requires { at ≤ length file.now }
+        ensures { result ≡ section_fault file.now at self }
+    {
+        self.count_fault(file, at)?;
+        let end = self.behind(at, word(file, at) as usize);
+        unless(end <= file.len(), Reason::ShortFile, file.len())?;
+        self.records_fault(&file[at + 1..end], at + 1)
     }
-}
 
-// The first fault of some records that stand one behind the other, from a place of the file on.
-fn records_fault(words: &[u32], at: usize, section: Section) -> Result<(), Refusal>
-    requires { at + length words.now < 2 ^ 64 }
-    ensures { result ≡ each (record_fault section) at (record_length section)
-        (records (length words.now / record_length section) (record_length section) words.now) }
-{
-    let step = record_words(section);
-    // No record before record i has a fault.
-    for (i, record) in words.chunks_exact(step).enumerate() {
-        record_fault(record, at + step * i, section)?;
+    // Where it ends, with so many records, if its count stands at a place.
+    pub fn behind(self, at: usize, count: usize) -> usize
+        requires { behind at self count < 2 ^ 64 }
+        ensures { result ≡ behind at self count }
+    {
+        at + 1 + self.record_words() * count
     }
-    Ok(())
-}
 
-// The fault of one record, whose first word stands at a place of the file.
-fn record_fault(words: &[u32], at: usize, section: Section) -> Result<(), Refusal>
-    requires { (at + length words.now < 2 ^ 64) × (record_length section ≤ length words.now) }
-    ensures { result ≡ record_fault section at words.now }
-{
-    match section {
-        Section::Operators(edition) => cells_fault(words, at, edition),
-        Section::Atoms(edition) => atoms::atom_fault(words, at, edition),
-        Section::Nodes(operators) => node_fault(words, at, operators),
+    // How many words a record has.
+    fn record_words(self) -> usize
+        ensures { result ≡ record_length self }
+    {
+        match self {
+            Section::Operators(edition) => edition.words().operator,
+            Section::Atoms(edition) => edition.words().atom,
+            Section::Nodes(_) => NODE_WORDS,
+        }
+    }
+
+    fn limits(self) -> Limits
+        ensures { result ≡ record { least = least self; most = most self } }
+    {
+        match self {
+            Section::Operators(_) => Limits {
+                least: 1,
+                most: MOST_OPERATORS,
+            },
+            Section::Atoms(_) => Limits {
+                least: 0,
+                most: MOST_ATOMS,
+            },
+            Section::Nodes(_) => Limits {
+                least: 1,
+                most: MOST_NODES,
+            },
+        }
+    }
+
+    // Whether a count is there and within its limits.
+    #[tactic(auto, unfolding(crate::specs::Sections::count_fault))]
+    fn count_fault(self, file: &[u32], at: usize) -> Result<(), Refusal>
+        ensures { result ≡ count_fault file.now at self }
+    {
+        unless(at < file.len(), Reason::ShortFile, file.len())?;
+        let count = word(file, at);
+        let limits = self.limits();
+        let good = (limits.least <= count) & (count <= limits.most);
+        unless(good, Reason::WrongCount, at)
+    }
+
+    // The first fault of some records that stand one behind the other, from a place of the file on.
+    fn records_fault(self, words: &[u32], at: usize) -> Result<(), Refusal>
+        requires { at + length words.now < 2 ^ 64 }
+        ensures { result ≡ each (record_fault self) at (record_length self)
+            (records (length words.now / record_length self) (record_length self) words.now) }
+    {
+        let step = self.record_words();
+        // No record before record i has a fault.
+        for (i, record) in words.chunks_exact(step).enumerate() {
+            self.record_fault(record, at + step * i)?;
+        }
+        Ok(())
+    }
+
+    // The fault of one record, whose first word stands at a place of the file.
+    fn record_fault(self, words: &[u32], at: usize) -> Result<(), Refusal>
+        requires { (at + length words.now < 2 ^ 64) × (record_length self ≤ length words.now) }
+        ensures { result ≡ record_fault self at words.now }
+    {
+        match self {
+            Section::Operators(edition) => cells_fault(words, at, edition),
+            Section::Atoms(edition) => atoms::atom_fault(words, at, edition),
+            Section::Nodes(operators) => node_fault(words, at, operators),
+        }
     }
 }
 
@@ -89,66 +124,32 @@ fn cells_fault(operator: &[u32], at: usize, edition: Edition) -> Result<(), Refu
     ensures { result ≡ cells_fault edition at operator.now }
 {
     for (j, code) in operator.iter().enumerate() {
-        unless(right_cell_in(j, *code, edition), WRONG_CELL, at + j)?;
+        unless(edition.right_cell(j, *code), Reason::WrongCell, at + j)?;
     }
     Ok(())
 }
 
 // An operator index that is too large, or a count.
+#[tactic(auto, unfolding(crate::specs::Sections::node_fault))]
 fn node_fault(node: &[u32], at: usize, operators: usize) -> Result<(), Refusal>
     ensures { result ≡ node_fault operators at node.now }
 {
-    let inner = wide(word(node, INNER));
-    let parent = wide(word(node, PARENT));
-    let sibling = wide(word(node, SIBLING));
+    let inner = word(node, INNER) as usize;
+    let parent = word(node, PARENT) as usize;
+    let sibling = word(node, SIBLING) as usize;
     let own = word(node, OWN);
     let children = word(node, CHILDREN);
-    unless(
-        (inner < operators)
-            & (parent < operators)
-            & (sibling < operators)
-            & (own <= MOST_ATOMS)
-            & (children <= MOST_CHILDREN),
-        WRONG_NODE,
-        at,
-    )
+    let good = (inner < operators)
+        & (parent < operators)
+        & (sibling < operators)
+        & (own <= MOST_ATOMS)
+        & (children <= MOST_CHILDREN);
+    unless(good, Reason::WrongNode, at)
 }
 
-// The fewest records that a section may have.
-fn least(section: Section) -> u32
-    ensures { result ≡ least section }
+// The refusal for a reason at a place, where a test is not met.
+pub fn unless(good: bool, reason: Reason, place: usize) -> Result<(), Refusal>
+    ensures { result ≡ unless good reason place }
 {
-    match section {
-        Section::Operators(_) => 1,
-        Section::Atoms(_) => 0,
-        Section::Nodes(_) => 1,
-    }
-}
-
-// The most records that a section may have.
-fn most(section: Section) -> u32
-    ensures { result ≡ most section }
-{
-    match section {
-        Section::Operators(_) => MOST_OPERATORS,
-        Section::Atoms(_) => MOST_ATOMS,
-        Section::Nodes(_) => MOST_NODES,
-    }
-}
-
-// A refusal that names no law, where a test is not met.
-pub fn unless(good: bool, number: u32, place: usize) -> Result<(), Refusal>
-    ensures { result ≡ unless good number place }
-{
-    if good {
-        Ok(())
-    } else {
-        Err(plain(number, place))
-    }
-}
-
-pub fn wide(x: u32) -> usize
-    ensures { result ≡ x }
-{
-    x as usize
+    if good { Ok(()) } else { Err(reason.at(place)) }
 }

@@ -10,16 +10,18 @@ use Rattle.row.specs.Row.{rows_in}
 use Rattle.table.specs.Table.{row_count}
 use Rattle.priority.specs.Numbering.{priorities_of, number_of, Answered, Ready}
 use Rattle.std.specs.Prelude.{Result, Ok, Err}
-use Rattle.refusal.specs.declared.Fault.{Fault}
+use Rattle.refusal.specs.Refusals.{refusal_number}
+use Rattle.refusal.specs.declared.Refusal.{Refusal}
 use Rattle.priority.proofs.After.{number-ready, priorities-left}
 use Rattle.priority.proofs.Whole.{priorities-many}
 use Rattle.line.specs.Text.{head, refusal}
-use Rattle.line.specs.Puts.{Puts}
-use Rattle.line.proofs.Putting.{◌then◌}
+use Rattle.line.specs.Puts.{Adds}
+use Rattle.line.specs.declared.page.Page.{Page}
+use Rattle.line.proofs.Putting.{◌onto◌}
 use Rattle.sheet.specs.Sheet.{listing_room, lines, table_text}
 
 -- the rows of a table, where the numbering answers a count
-module _ (t ps cs : List ℕ) {ps' cs' : List ℕ} {r : Result ℕ Fault} (c : Answered t ps cs r ps' cs') where
+module _ (t ps cs : List ℕ) {ps' cs' : List ℕ} {r : Result ℕ Refusal} (c : Answered t ps cs r ps' cs') where
   module _ {l : ℕ} (e : r ≡ Ok l) where
     ready : Ready t ps cs
     ready = number-ready t ps cs l (sym c.0 ∙ e)
@@ -39,14 +41,14 @@ module _ (t ps cs : List ℕ) {ps' cs' : List ℕ} {r : Result ℕ Fault} (c : A
     answer-room : r ≡ number_of t listing_room listing_room
     answer-room = c.0 ∙ ap₂ (number_of t) np nc
 
-    pub table-listed : {l : ℕ} {o o₁ o₂ : List ℕ} {a b : ℕ} → r ≡ Ok l → Puts (head (row_count t) l) o 0 o₁ a
-        → Puts (lines (take (row_count t) ps') (rows_in t)) o₁ a o₂ b
-        → Puts (table_text t) o 0 o₂ b
+    pub table-listed : {l : ℕ} {p q z : Page} → r ≡ Ok l → Adds (head (row_count t) l) p q
+        → Adds (lines (take (row_count t) ps') (rows_in t)) q z
+        → Adds (table_text t) p z
     unfolding table_text
-    table-listed {l} {o} {o₁} {o₂} {a} {b} e p q =
+    table-listed {l} {q = q} {z} e f g =
         let k : number_of t listing_room listing_room ≡ Ok l = sym answer-room ∙ e in
-        rw k (p then subst (λ x. Puts (lines x (rows_in t)) o₁ a o₂ b) (table-numbers e) q)
+        rw k (f onto subst (λ x. Adds (lines x (rows_in t)) q z) (table-numbers e) g)
 
-    pub table-refused : {f : Fault} {o o₁ : List ℕ} {a : ℕ} → r ≡ Err f → Puts (refusal f.number f.place) o 0 o₁ a → Puts (table_text t) o 0 o₁ a
+    pub table-refused : {f : Refusal} {p q : Page} → r ≡ Err f → Adds (refusal (refusal_number f) f.place) p q → Adds (table_text t) p q
     unfolding table_text
-    table-refused {f} e p = let k : number_of t listing_room listing_room ≡ Err f = sym answer-room ∙ e in rw k p
+    table-refused {f} e a = let k : number_of t listing_room listing_room ≡ Err f = sym answer-room ∙ e in rw k a

@@ -3,21 +3,22 @@ use Prim.Native.Nat.{ℕ}
 use mathlib.Core.Path.{◌≡◌, refl, ap, ap₂, subst, ◌∙◌}
 use mathlib.Core.List.{List, [], ◌∷◌}
 use mathlib.Core.Logic.{◌⊎◌, inl, inr}
-use Rattle.theory.specs.Rows.{Row}
+use Rattle.theory.specs.declared.Row.{Row}
 use Rattle.flow.specs.declared.Match.{Match}
 use Rattle.action.specs.declared.Action.{Action}
 use Rattle.line.specs.Text.{line}
-use Rattle.line.specs.Puts.{Puts}
+use Rattle.line.specs.Puts.{Adds}
+use Rattle.line.specs.declared.page.Page.{Page}
 use Rattle.line.proofs.Putting.{Ahead, ahead_step, ahead-end}
 use Rattle.sheet.specs.Sheet.{lines}
 
-module _ {qs : List ℕ} {R : List (Row Match Action)} {m F l : List ℕ} {b a : ℕ} (g : Ahead (lines qs R) m b F l a) where
-  pub lines-turn : {p : ℕ} {x : Row Match Action} {ps m' : List ℕ} {rs : List (Row Match Action)} {b' : ℕ} → qs ≡ p ∷ ps → R ≡ x ∷ rs
-      → Puts (line p x) m b m' b' → Ahead (lines ps rs) m' b' F l a
-  lines-turn e d q = ahead_step q (subst (λ t. Ahead t m b F l a) (ap₂ lines e d) g)
+module _ {qs : List ℕ} {R : List (Row Match Action)} {q p : Page} {F : List ℕ} (g : Ahead (lines qs R) q F p) where
+  pub lines-turn : {k : ℕ} {x : Row Match Action} {ks : List ℕ} {rs : List (Row Match Action)} {r : Page} → qs ≡ k ∷ ks → R ≡ x ∷ rs
+      → Adds (line k x) q r → Ahead (lines ks rs) r F p
+  lines-turn e d a = ahead_step a (subst (λ t. Ahead t q F p) (ap₂ lines e d) g)
 
-  pub lines_end : (qs ≡ []) ⊎ (R ≡ []) → Puts F l a m b
-  lines_end none = ahead-end (subst (λ t. Ahead t m b F l a) (no-lines none) g)
+  pub lines_end : (qs ≡ []) ⊎ (R ≡ []) → Adds F p q
+  lines_end none = ahead-end (subst (λ t. Ahead t q F p) (no-lines none) g)
     where
       no-rows : (ps : List ℕ) → lines ps [] ≡ []
       no-rows [] = refl

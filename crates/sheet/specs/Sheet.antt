@@ -6,14 +6,15 @@
 --   table_text t    the text of a table: its rows, or the refusal of the numbering
 --   rows_text n t   the text of a table t of n rows that is not refused: the head, and a line for each row
 use Rattle.std.specs.Prelude.{ℕ, List, [], ◌∷◌, ◌++◌, Result, Ok, Err}
-use Rattle.theory.specs.Rows.{Row}
+use Rattle.theory.specs.declared.Row.{Row}
 use Rattle.theory.specs.Number.{level_count}
 use Rattle.flow.specs.declared.Match.{Match}
 use Rattle.action.specs.declared.Action.{Action}
 use Rattle.row.specs.Row.{rows_in}
 use Rattle.table.specs.Table.{row_count}
 use Rattle.priority.specs.Numbering.{levels_of, number_of, priorities_of}
-use Rattle.refusal.specs.declared.Fault.{Fault}
+use Rattle.refusal.specs.Refusals.{refusal_number}
+use Rattle.refusal.specs.declared.Refusal.{Refusal}
 use Rattle.line.specs.Text.{line, head, refusal}
 
 -- the rows that a listing has room for
@@ -27,9 +28,9 @@ lines (p ∷ ps) [] = []
 lines (p ∷ ps) (r ∷ rs) = line p r ++ lines ps rs
 
 -- what is shown of a table, by what the numbering answers
-abbrev pub numbered_text : List ℕ → Result ℕ Fault → List ℕ
+abbrev pub numbered_text : List ℕ → Result ℕ Refusal → List ℕ
 numbered_text t (Ok l) = head (row_count t) l ++ lines (priorities_of t) (rows_in t)
-numbered_text t (Err f) = refusal f.number f.place
+numbered_text t (Err f) = refusal (refusal_number f) f.place
 
 -- THE TEXT OF A TABLE
 unfoldable pub table_text : List ℕ → List ℕ

@@ -8,14 +8,15 @@ ghost use Rattle.compile.specs.Compile.{answer_of, table_after, scratch_after, c
 ghost use Rattle.table.specs.Scan.{scan_of, scan_action, scan_tried};
 ghost use Rattle.priority.specs.Numbering.{number_of, answer_count, priorities_after, chain_after};
 ghost use Rattle.hidden.specs.Hidden.{kept_of, table_kept, kept_count};
-ghost use Rattle.speed.specs.Answers.{read_number, tree_number, tree_action, with_action};
+ghost use Rattle.refusal.specs.Refusals.{answer_number};
+ghost use Rattle.speed.specs.Answers.{tree_action, with_action};
 
-use action::{Action, kind, rate};
+use action::Action;
 use compile::compile;
 use hidden::drop_hidden;
-use policy::{Layout, read};
+use policy::read;
 use priority::number;
-use refusal::{Fault, Refusal};
+use refusal::Refusal;
 use table::{Found, scan};
 use tree::tree_action;
 use words::copy;
@@ -23,21 +24,21 @@ use words::copy;
 // The number of a policy file's refusal, 0 where it is accepted.
 #[unsafe(no_mangle)]
 pub extern "C" fn speed_read(file: &[u32]) -> u32
-    ensures { result ≡ read_number (read_of file.now) }
+    ensures { result ≡ answer_number (read_of file.now) }
 {
-    read_number(read(file))
+    answer_number(read(file))
 }
 
 // The action's two words; the answer is the number of the refusal, 0 where there is none.
 #[unsafe(no_mangle)]
 pub extern "C" fn speed_tree(file: &[u32], packet: &[u32], given: &mut [u32]) -> u32
-    ensures value { result ≡ tree_number (tree_action_of file.now packet.now) }
+    ensures value { result ≡ answer_number (tree_action_of file.now packet.now) }
     ensures given_after { given.new
         ≡ with_action given.old (tree_action (tree_action_of file.now packet.now)) }
 {
     let answer = tree_action(file, packet);
-    put_action(given, tree_given(answer));
-    tree_number(answer)
+    put_action(given, answer.unwrap_or(Action::DONT_CARE));
+    answer_number(answer)
 }
 
 // The compile; the answer is the row count, 0 where it is refused.
@@ -47,7 +48,7 @@ pub extern "C" fn speed_compile(file: &[u32], table: &mut [u32], scratch: &mut [
     ensures table_after { table.new ≡ table_after file.now table.old scratch.old }
     ensures scratch_after { scratch.new ≡ scratch_after file.now table.old scratch.old }
 {
-    row_count(compile(file, table, scratch))
+    compile(file, table, scratch).unwrap_or(0)
 }
 
 // The action's two words; the answer is how many rows were tried, 0 where the scan is refused.
@@ -57,9 +58,12 @@ pub extern "C" fn speed_scan(table: &[u32], packet: &[u32], given: &mut [u32]) -
     ensures given_after { given.new
         ≡ with_action given.old (scan_action (scan_of table.now packet.now)) }
 {
-    let answer = scan(table, packet);
-    put_action(given, scan_given(answer));
-    scan_tried(answer)
+    let found = scan(table, packet).unwrap_or(Found {
+        action: Action::DONT_CARE,
+        tried: 0,
+    });
+    put_action(given, found.action);
+    found.tried
 }
 
 // The numbering; the answer is how many priorities there are, 0 where it is refused.
@@ -71,7 +75,7 @@ pub extern "C" fn speed_number(table: &[u32], priorities: &mut [u32], chain: &mu
         ≡ priorities_after table.now priorities.old chain.old }
     ensures chain_after { chain.new ≡ chain_after table.now priorities.old chain.old }
 {
-    priority_count(number(table, priorities, chain))
+    number(table, priorities, chain).unwrap_or(0)
 }
 
 // The pass that takes hidden rows out; the answer is how many rows stay, 0 where it is refused.
@@ -80,73 +84,23 @@ pub extern "C" fn speed_hidden(table: &mut [u32]) -> usize
     ensures value { result ≡ kept_count (kept_of table.old) }
     ensures table_after { table.new ≡ table_kept table.old }
 {
-    kept_count(drop_hidden(table))
+    drop_hidden(table).unwrap_or(0)
 }
 
-fn read_number(answer: Result<Layout, Refusal>) -> u32
-    ensures { result ≡ read_number answer }
+// The number of a refusal, 0 where there is none.
+fn answer_number<T: Drop>(answer: Result<T, Refusal>) -> u32
+    ensures { result ≡ answer_number answer }
 {
     match answer {
         Ok(_) => 0,
-        Err(refusal) => refusal.number,
+        Err(refusal) => refusal.reason.number(),
     }
-}
-
-fn tree_number(answer: Result<Action, Refusal>) -> u32
-    ensures { result ≡ tree_number answer }
-{
-    match answer {
-        Ok(_) => 0,
-        Err(refusal) => refusal.number,
-    }
-}
-
-fn tree_given(answer: Result<Action, Refusal>) -> Action
-    ensures { result ≡ tree_action answer }
-{
-    answer.unwrap_or(Action::DONT_CARE)
-}
-
-fn row_count(answer: Result<usize, Refusal>) -> usize
-    ensures { result ≡ compile_count answer }
-{
-    answer.unwrap_or(0)
-}
-
-fn scan_tried(answer: Result<Found, Fault>) -> usize
-    ensures { result ≡ scan_tried answer }
-{
-    match answer {
-        Ok(found) => found.tried,
-        Err(_) => 0,
-    }
-}
-
-fn scan_given(answer: Result<Found, Fault>) -> Action
-    ensures { result ≡ scan_action answer }
-{
-    match answer {
-        Ok(found) => found.action,
-        Err(_) => Action::DONT_CARE,
-    }
-}
-
-fn priority_count(answer: Result<u32, Fault>) -> u32
-    ensures { result ≡ answer_count answer }
-{
-    answer.unwrap_or(0)
-}
-
-fn kept_count(answer: Result<usize, Fault>) -> usize
-    ensures { result ≡ kept_count answer }
-{
-    answer.unwrap_or(0)
 }
 
 // Stores an action's kind and rate at the start of a buffer that has room for them.
 fn put_action(given: &mut [u32], a: Action)
     ensures { given.new ≡ with_action given.old a }
 {
-    let words = [kind(a), rate(a)];
+    let words = [a.kind(), a.rate()];
     copy(given, 0, &words);
 }

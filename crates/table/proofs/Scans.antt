@@ -14,14 +14,14 @@ use Rattle.table.specs.Table.{row_count, past, RightTable}
 use Rattle.table.specs.Scan.{found, scan_of}
 use Rattle.table.specs.Theorems.{ScanFirst, ScanUnmatched, ScanRefused}
 use Rattle.table.specs.declared.Found.{Found}
-use Rattle.refusal.specs.declared.Fault.{Fault}
+use Rattle.refusal.specs.declared.Refusal.{Refusal}
 use Rattle.action.specs.declared.Action.{Action}
 use Rattle.std.specs.Prelude.{Result, Ok, ℕ}
 use Rattle.table.proofs.Tables.{length-rows, check-exactly}
 use Rattle.row.specs.Row.{rows_in}
 
 -- what a scan gives where it is not refused
-abbrev gives : Action → ℕ → Result Found Fault
+abbrev gives : Action → ℕ → Result Found Refusal
 gives a n = Ok (record { action = a; tried = n })
 
 -- a right table and a right packet are scanned

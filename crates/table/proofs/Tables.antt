@@ -10,8 +10,8 @@ use lib.Seq.{drop-drop, take_at, take_all, drop_at, length-take-le}
 use borrow.Author.Tests.{eqb-true, eq-eqb, leb-true, le-leb, not-true, not-false}
 use Rattle.logic.proofs.Tests.{by-test, by_le, and_left, and_right, and_both}
 use Rattle.words.specs.Records.{records, rows_of, flat}
-use Rattle.words.proofs.Records.{length-records, rows-flat}
-use Rattle.theory.specs.Rows.{Row}
+use Rattle.words.proofs.RecordLaws.{length-records, rows-flat}
+use Rattle.theory.specs.declared.Row.{Row}
 use Rattle.theory.specs.Number.{FirstPlace}
 use Rattle.flow.specs.Match.{match_of, is_empty, right_match}
 use Rattle.flow.specs.declared.Match.{Match}
@@ -20,12 +20,14 @@ use Rattle.action.specs.declared.Action.{Action}
 use Rattle.action.proofs.Words.{words-of-action, right-words}
 use Rattle.row.specs.Row.{row_length, most_rows, kind_place, rate_place, row_of, row_action, row_words, right_row, right_row_match, right_row_action, RightRow}
 use Rattle.row.specs.Row.{rows_in, table_rows}
-use Rattle.row.proofs.Rows.{row_back, row-long, words_count, words_back}
-use Rattle.table.specs.Table.{wrong_table, wrong_row, row_count, past, right_length, check_from, check_rows, check_of, row_at, RightTable}
+use Rattle.row.specs.Spelled.{row-some, row-long, row_back}
+use Rattle.row.proofs.RowLaws.{words_count, words_back}
+use Rattle.refusal.specs.Refusals.{refusal_at}
+use Rattle.refusal.specs.declared.Reason.TheVariants.{WrongTable, WrongRow}
+use Rattle.refusal.specs.declared.Refusal.{Refusal}
+use Rattle.table.specs.Table.{row_count, past, right_length, check_from, check_rows, check_of, row_at, RightTable}
 use Rattle.table.specs.Theorems.{CheckExactly, CheckFirst, TableRows, TableWords, RowsRead, RowsWritten}
 use Rattle.std.specs.Prelude.{Result, Ok, Err}
-use Rattle.refusal.specs.Plain.{fault}
-use Rattle.refusal.specs.declared.Fault.{Fault}
 use Rattle.logic.proofs.Lists.{all-at, all_map}
 
 -- record i of records that stand k words apart
@@ -48,13 +50,13 @@ row-at ws i h = get_or-map row_of (records (row_count ws) row_length ws) i [] �
 
 -- the match of row i, as its words are read, and past the last row
 pub match-at : (ws : List ℕ) (i : ℕ) → i < row_count ws
-    → match_of (take (i * row_length + row_length - i * row_length) (drop (i * row_length) ws)) ≡ (get_or (rows_in ws) i past).match
+    → match_of (take (i * row_length + row_length - i * row_length) (drop (i * row_length) ws)) ≡ (get_or (rows_in ws) i past).matching
 match-at ws i h =
     let e : i * row_length + row_length - i * row_length ≡ row_length = omega arith in
     rw (e, row-at ws i h)
 
-pub match-past : (ws : List ℕ) (i : ℕ) → row_count ws ≤ i → past.match ≡ (get_or (rows_in ws) i past).match
-match-past ws i h = ap (λ r. r.match) (sym (get_or-eq_default (rows_in ws) past (omega (arith, length-rows ws))))
+pub match-past : (ws : List ℕ) (i : ℕ) → row_count ws ≤ i → past.matching ≡ (get_or (rows_in ws) i past).matching
+match-past ws i h = ap (λ r. r.matching) (sym (get_or-eq_default (rows_in ws) past (omega (arith, length-rows ws))))
 
 -- a row whose words are right is right, and a right row has right words
 pub row-right : (ws : List ℕ) → right_row ws ≡ true → RightRow (row_of ws)
@@ -68,25 +70,25 @@ row-right ws h =
     let right : right_action k n ≡ true = and_right (m && some) (right_action k n) h in
     let w : (kind_of (action_of k n) ≡ k) × (rate_of (action_of k n) ≡ n) = words-of-action k n right in
     record {
-      match = and_left m some both;
+      matching = and_left m some both;
       not_empty = not-true (is_empty (match_of ws)) (and_right m some both);
       action = sym (right-words (action_of k n)) ∙ ap₂ right_action w.0 w.1 ∙ right;
     }
 
 pub words_right : (r : Row Match Action) → RightRow r → right_row (row_words r) ≡ true
 unfolding right_row right_row_match right_row_action
-words_right r h = and_both (and_both h.match (ap not h.not_empty)) (right-words r.action ∙ h.action)
+words_right r h = and_both (and_both h.matching (ap not h.not_empty)) (right-words r.action ∙ h.action)
 
 right-action : (ws : List ℕ) → right_row ws ≡ true → right_row_action ws ≡ true
 unfolding right_row
 right-action ws h = and_right (right_row_match ws && not (is_empty (match_of ws))) (right_row_action ws) h
 
 -- the two answers of the check of the rows
-abbrev counted : ℕ → Result ℕ Fault
+abbrev counted : ℕ → Result ℕ Refusal
 counted n = Ok n
 
-abbrev named : ℕ → Result ℕ Fault
-named i = Err (fault wrong_row i)
+abbrev named : ℕ → Result ℕ Refusal
+named i = Err (refusal_at WrongRow i)
 
 -- where all rows are right, the check counts them; where row j is the first that is not, it names it
 check-counts : (i : ℕ) (rs : List (List ℕ)) → ((j : ℕ) → j < length rs → right_row (get_or rs j []) ≡ true) → check_from i rs ≡ counted (i + length rs)
@@ -143,7 +145,7 @@ module _ (ws : List ℕ) where
         few = leb-true (row_count ws) most_rows (and_right whole few t);
         rows = λ i h. let l : i < length each = omega (arith, length-records (row_count ws) row_length ws) in rw (← each_at i l) (check-passed 0 n each e' i l);
       })
-      (λ t. let e' : ◌≡◌ {A = Result ℕ Fault} (Err (fault wrong_table 0)) (counted n) = rw t at e in let z : ◌≡◌ {A = ℕ} 0 1 = cc in absurd (omega arith))
+      (λ t. let e' : ◌≡◌ {A = Result ℕ Refusal} (Err (refusal_at WrongTable 0)) (counted n) = rw t at e in let z : ◌≡◌ {A = ℕ} 0 1 = cc in absurd (omega arith))
 
 pub check-exactly : CheckExactly
 check-exactly ws n = (
@@ -176,10 +178,6 @@ table-rows ws t = all_map RightRow row_of [] (each ws) (λ j h. row-right (get_o
 -- so is the row at each place
 pub right-row-at : (ws : List ℕ) → RightTable ws → (i : ℕ) → i < row_count ws → RightRow (get_or (rows_in ws) i past)
 right-row-at ws t i h = all-at RightRow past (rows_in ws) i (table-rows ws t) (omega (arith, length-rows ws))
-
--- a row has words
-row-some : 0 < row_length
-row-some = omega arith
 
 pub rows-read : RowsRead
 rows-read = rows-flat row_length row_of row-some row_words row-long row_back

@@ -3,12 +3,15 @@
 --   found k N p               the scan of the rows N, where k rows were tried before them
 --   where_right c s           the answer s, where the table is right
 --   scan_of ws packet         the scan's answer
---   scan_number, scan_place   the number and the place of an answer; both are 0 where it is no refusal
 --   scan_action, scan_tried   the action of an answer, and how many rows were tried; don't care and 0 where it is a
 --                             refusal
 use Rattle.std.specs.Prelude.{ℕ, ◌+◌, cond, List, Result, Ok, Err}
-use Rattle.theory.specs.Rows.{Row, scan, tried}
-use Rattle.flow.specs.Packet.{packet_of, right_packet_words, wrong_packet}
+use Rattle.theory.specs.declared.Row.{Row}
+use Rattle.theory.specs.Rows.{scan, tried}
+use Rattle.refusal.specs.Refusals.{refusal_at}
+use Rattle.refusal.specs.declared.Reason.TheVariants.{WrongPacket}
+use Rattle.refusal.specs.declared.Refusal.{Refusal}
+use Rattle.flow.specs.Packet.{packet_of, right_packet_words}
 use Rattle.flow.specs.Match.{meets}
 use Rattle.flow.specs.declared.Match.{Match}
 use Rattle.flow.specs.declared.Packet.{Packet}
@@ -16,8 +19,6 @@ use Rattle.action.specs.declared.Action.{Action}
 use Rattle.action.specs.declared.Action.TheVariants.{DontCare}
 use Rattle.table.specs.Table.{check_of}
 use Rattle.table.specs.declared.Found.{Found}
-use Rattle.refusal.specs.Plain.{fault}
-use Rattle.refusal.specs.declared.Fault.{Fault}
 use Rattle.row.specs.Row.{rows_in}
 
 -- the scan of rows before which k rows were tried
@@ -25,32 +26,22 @@ abbrev pub found : ℕ → List (Row Match Action) → Packet → Found
 found k N p = record { action = scan meets DontCare N p; tried = k + tried meets N p }
 
 -- what is found where the table is right, else its refusal
-abbrev pub where_right : Result ℕ Fault → Found → Result Found Fault
+abbrev pub where_right : Result ℕ Refusal → Found → Result Found Refusal
 where_right (Ok n) s = Ok s
 where_right (Err f) s = Err f
 
 -- the scan: first the packet, then the table, then its rows in order
-unfoldable pub scan_of : List ℕ → List ℕ → Result Found Fault
+unfoldable pub scan_of : List ℕ → List ℕ → Result Found Refusal
 scan_of ws packet =
     cond (right_packet_words packet) (where_right (check_of ws) (found 0 (rows_in ws) (packet_of packet)))
-    (Err (fault wrong_packet 0))
-
--- the number of an answer
-abbrev pub scan_number : Result Found Fault → ℕ
-scan_number (Ok s) = 0
-scan_number (Err f) = f.number
-
--- the place of an answer
-abbrev pub scan_place : Result Found Fault → ℕ
-scan_place (Ok s) = 0
-scan_place (Err f) = f.place
+    (Err (refusal_at WrongPacket 0))
 
 -- the action that an answer gives
-abbrev pub scan_action : Result Found Fault → Action
+abbrev pub scan_action : Result Found Refusal → Action
 scan_action (Ok s) = s.action
 scan_action (Err f) = DontCare
 
 -- how many rows were tried
-abbrev pub scan_tried : Result Found Fault → ℕ
+abbrev pub scan_tried : Result Found Refusal → ℕ
 scan_tried (Ok s) = s.tried
 scan_tried (Err f) = 0

@@ -1,8 +1,6 @@
 -- Tables: rows that stand one behind the other in a list of words, and which tables are right. See docs/FORMAT.md,
 -- "Rows" and "Numbers a caller can get back".
 --
---   wrong_table       the number of a table of a wrong length
---   wrong_row         the number of a wrong row
 --   row_count ws      how many rows the words hold
 --   past              stands for a row past the last
 --   right_length ws   the words are whole rows, and not too many
@@ -13,20 +11,13 @@
 --   RightTable ws     what makes a table right
 use Rattle.std.specs.Prelude.{ℕ, suc, ◌*◌, ◌/◌, ◌%◌, ◌≤◌, ◌<◌, ◌≡◌, Bool, true, cond, ◌&&◌, List, [], ◌∷◌, Result, Ok, Err, eqb, leb, length, take, drop}
 use Rattle.words.specs.Records.{records}
-use Rattle.theory.specs.Rows.{Row}
+use Rattle.theory.specs.declared.Row.{Row}
 use Rattle.flow.specs.declared.Match.{Match}
 use Rattle.action.specs.declared.Action.{Action}
 use Rattle.row.specs.Row.{row_length, most_rows, row_of, right_row}
-use Rattle.refusal.specs.Plain.{fault}
-use Rattle.refusal.specs.declared.Fault.{Fault}
-
--- the number of a table that is not a multiple of 11 words, or has too many rows
-abbrev pub wrong_table : ℕ
-wrong_table = 15
-
--- the number of a wrong row
-abbrev pub wrong_row : ℕ
-wrong_row = 16
+use Rattle.refusal.specs.Refusals.{refusal_at}
+use Rattle.refusal.specs.declared.Reason.TheVariants.{WrongTable, WrongRow}
+use Rattle.refusal.specs.declared.Refusal.{Refusal}
 
 -- how many rows the words hold
 abbrev pub row_count : List ℕ → ℕ
@@ -41,17 +32,17 @@ unfoldable pub right_length : List ℕ → Bool
 right_length ws = eqb (length ws % row_length) 0 && leb (row_count ws) most_rows
 
 -- the first wrong row of those from row i on, each given by its words; how many rows there are if none is wrong
-abbrev pub check_from : ℕ → List (List ℕ) → Result ℕ Fault
+abbrev pub check_from : ℕ → List (List ℕ) → Result ℕ Refusal
 check_from i [] = Ok i
-check_from i (r ∷ rs) = cond (right_row r) (check_from (suc i) rs) (Err (fault wrong_row i))
+check_from i (r ∷ rs) = cond (right_row r) (check_from (suc i) rs) (Err (refusal_at WrongRow i))
 
 -- the same of all rows
-unfoldable pub check_rows : List ℕ → Result ℕ Fault
+unfoldable pub check_rows : List ℕ → Result ℕ Refusal
 check_rows ws = check_from 0 (records (row_count ws) row_length ws)
 
 -- the check: first the length, then each row
-unfoldable pub check_of : List ℕ → Result ℕ Fault
-check_of ws = cond (right_length ws) (check_rows ws) (Err (fault wrong_table 0))
+unfoldable pub check_of : List ℕ → Result ℕ Refusal
+check_of ws = cond (right_length ws) (check_rows ws) (Err (refusal_at WrongTable 0))
 
 -- the words of row i
 abbrev pub row_at : List ℕ → ℕ → List ℕ

@@ -10,18 +10,20 @@
 --   ScanRefused                the order of the refusals: the packet, then the table
 use Rattle.std.specs.Prelude.{ℕ, suc, ◌≤◌, ◌<◌, ◌≡◌, true, false, not, List, Ok, Err, ◌↔◌, length, get_or}
 use Rattle.words.specs.Records.{flat}
-use Rattle.theory.specs.Rows.{Row, matches_at}
+use Rattle.theory.specs.declared.Row.{Row}
+use Rattle.theory.specs.Rows.{matches_at}
 use Rattle.theory.specs.Number.{FirstPlace}
-use Rattle.flow.specs.Packet.{packet_of, right_packet_words, wrong_packet}
+use Rattle.refusal.specs.Refusals.{refusal_at}
+use Rattle.refusal.specs.declared.Reason.TheVariants.{WrongPacket, WrongRow}
+use Rattle.refusal.specs.declared.Refusal.{Refusal}
+use Rattle.flow.specs.Packet.{packet_of, right_packet_words}
 use Rattle.flow.specs.Match.{meets}
 use Rattle.flow.specs.declared.Match.{Match}
 use Rattle.action.specs.declared.Action.{Action}
 use Rattle.action.specs.declared.Action.TheVariants.{DontCare}
 use Rattle.row.specs.Row.{most_rows, row_words, right_row, RightRow, rows_in}
-use Rattle.table.specs.Table.{wrong_row, row_count, past, right_length, check_of, row_at, RightTable}
+use Rattle.table.specs.Table.{row_count, past, right_length, check_of, row_at, RightTable}
 use Rattle.table.specs.Scan.{scan_of}
-use Rattle.refusal.specs.Plain.{fault}
-use Rattle.refusal.specs.declared.Fault.{Fault}
 use Rattle.logic.specs.Lists.{All}
 
 -- the check passes exactly the right tables, and answers how many rows they have
@@ -32,7 +34,7 @@ CheckExactly = (ws : List ℕ) (n : ℕ) → (check_of ws ≡ Ok n) ↔ (RightTa
 abbrev pub CheckFirst : Type 0
 CheckFirst =
     (ws : List ℕ) (i : ℕ) → right_length ws ≡ true → FirstPlace (λ j. not (right_row (row_at ws j))) (row_count ws) i
-    → check_of ws ≡ Err (fault wrong_row i)
+    → check_of ws ≡ Err (refusal_at WrongRow i)
 
 -- each row of a right table is right
 abbrev pub TableRows : Type 0
@@ -66,5 +68,5 @@ ScanUnmatched = (ws packet : List ℕ) → RightTable ws → right_packet_words 
 -- has it
 abbrev pub ScanRefused : Type 0
 ScanRefused = (ws packet : List ℕ)
-    → (right_packet_words packet ≡ false → scan_of ws packet ≡ Err (fault wrong_packet 0))
-    × (right_packet_words packet ≡ true → (f : Fault) → check_of ws ≡ Err f → scan_of ws packet ≡ Err f)
+    → (right_packet_words packet ≡ false → scan_of ws packet ≡ Err (refusal_at WrongPacket 0))
+    × (right_packet_words packet ≡ true → (f : Refusal) → check_of ws ≡ Err f → scan_of ws packet ≡ Err f)

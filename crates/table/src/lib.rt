@@ -7,16 +7,12 @@ ghost use Rattle.table.specs.Scan.{found, scan_of};
 ghost use Rattle.row.specs.Row.{rows_in};
 
 use action::Action;
-use flow::{Match, Packet, WRONG_PACKET, meets, read_match, read_packet, right_packet_words};
-use refusal::Fault;
-use row::{MOST_ROWS, ROW_WORDS, right_row, row_action};
+use flow::{Match, Packet, right_packet_words};
+use refusal::{Reason, Refusal};
+use row::{MOST_ROWS, ROW_WORDS, Rows, right_row};
 
-// The numbers of the refusals.
-pub const WRONG_TABLE: u32 = 15;
-
-pub const WRONG_ROW: u32 = 16;
-
-// What a scan finds: the action, and how many rows were tried.
+// What a scan finds: the action, and how many rows were tried. No Option: where none matches, it is don't care and the
+// row count, which callers use as they stand.
 #[derive(Clone, Copy)]
 pub struct Found {
     pub action: Action,
@@ -25,29 +21,24 @@ pub struct Found {
 
 // Scans a table for a packet, both as words.
 #[tactic(auto, unfolding(crate::specs::Scan::scan_of))]
-pub fn scan(table: &[u32], packet: &[u32]) -> Result<Found, Fault>
+pub fn scan(table: &[u32], packet: &[u32]) -> Result<Found, Refusal>
     ensures { result ≡ scan_of table.now packet.now }
 {
     if !right_packet_words(packet) {
-        return Err(Fault {
-            number: WRONG_PACKET,
-            place: 0,
-        });
+        return Err(Reason::WrongPacket.at(0));
     }
     check(table)?;
-    Ok(first_match(table, read_packet(packet)))
+    Ok(first_match(table, Packet::read(packet)))
 }
 
-// Tests a table: its length, then each row. Answers how many rows it has.
+// Tests a table: its length, then each row. Answers how many rows it has. No type stands for a tested table: each
+// function takes the caller's words and tests them once, so it would be made and taken apart in one function.
 #[tactic(auto, unfolding(crate::specs::Table::check_of))]
-pub fn check(table: &[u32]) -> Result<usize, Fault>
+pub fn check(table: &[u32]) -> Result<usize, Refusal>
     ensures { result ≡ check_of table.now }
 {
     if !right_length(table) {
-        return Err(Fault {
-            number: WRONG_TABLE,
-            place: 0,
-        });
+        return Err(Reason::WrongTable.at(0));
     }
     check_rows(table)
 }
@@ -57,10 +48,10 @@ pub fn first_match(table: &[u32], p: Packet) -> Found
     ensures { result ≡ found 0 (rows_in table.now) p }
 {
     // None of the rows before row i matches.
-    for (i, row) in table.chunks_exact(ROW_WORDS).enumerate() {
-        if meets(read_match(row), p) {
+    for (i, row) in Rows::of(table).enumerate() {
+        if row.matching.meets(p) {
             return Found {
-                action: row_action(row),
+                action: row.action,
                 tried: i + 1,
             };
         }
@@ -73,14 +64,14 @@ pub fn first_match(table: &[u32], p: Packet) -> Found
 
 // The match of row i; past the last row, that of no words.
 pub fn match_at(table: &[u32], i: usize) -> Match
-    ensures { result ≡ (get_or (rows_in table.now) i past).match }
+    ensures { result ≡ (get_or (rows_in table.now) i past).matching }
 {
     if i < table.len() / ROW_WORDS {
         let from = i * ROW_WORDS;
         let end = from + ROW_WORDS;
-        return read_match(&table[from..end]);
+        return Match::read(&table[from..end]);
     }
-    read_match(&table[..0])
+    Match::read(&table[..0])
 }
 
 // Whether the words of a table are rows, and not too many.
@@ -92,16 +83,13 @@ fn right_length(table: &[u32]) -> bool
 }
 
 // The first wrong row, or how many rows there are.
-fn check_rows(table: &[u32]) -> Result<usize, Fault>
+fn check_rows(table: &[u32]) -> Result<usize, Refusal>
     ensures { result ≡ check_rows table.now }
 {
-    // The rows before row i are right.
+    // The rows before row i are right. They are raw words: a row that was read forgets a wrong kind.
     for (i, row) in table.chunks_exact(ROW_WORDS).enumerate() {
         if !right_row(row) {
-            return Err(Fault {
-                number: WRONG_ROW,
-                place: i,
-            });
+            return Err(Reason::WrongRow.at(i));
         }
     }
     Ok(table.len() / ROW_WORDS)

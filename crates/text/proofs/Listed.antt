@@ -18,14 +18,15 @@ use Rattle.hidden.specs.Hidden.{kept_of, table_kept}
 use Rattle.hidden.specs.Theorems.{KeptTells}
 use Rattle.hidden.proofs.Laws.{kept-rows}
 use Rattle.section.specs.Numbers.{longest_file}
-use Rattle.refusal.specs.declared.Fault.{Fault}
+use Rattle.refusal.specs.Refusals.{reason_number, refusal_number}
+use Rattle.refusal.specs.declared.Reason.TheVariants.{WrongInput}
 use Rattle.refusal.specs.declared.Refusal.{Refusal}
 use Rattle.compile.specs.Compile.{answer_of, table_after, Compiles}
 use Rattle.compile.proofs.Answered.{answers-rows}
 use Rattle.line.specs.Text.{refusal}
 use Rattle.line.specs.Puts.{Puts}
 use Rattle.sheet.specs.Sheet.{table_text}
-use Rattle.text.specs.Listing.{wrong_input, longest_input, right_input, blank, shown_text, file_text}
+use Rattle.text.specs.Listing.{longest_input, right_input, blank, shown_text, file_text}
 use Rattle.text.specs.Listing.{listing_of}
 use Rattle.text.proofs.Right.{table-right}
 
@@ -52,7 +53,7 @@ module _ (b : List ℕ) (right : right_input b ≡ true) where
   unfolding listing_of
   input-listed f {l} {m} {r} e p = rw right (subst (λ x. Puts (file_text x) l 0 m r) e p)
 
-pub input-refused : (b : List ℕ) {l m : List ℕ} {r : ℕ} → right_input b ≡ false → Puts (refusal wrong_input 0) l 0 m r → Puts (listing_of b) l 0 m r
+pub input-refused : (b : List ℕ) {l m : List ℕ} {r : ℕ} → right_input b ≡ false → Puts (refusal (reason_number WrongInput) 0) l 0 m r → Puts (listing_of b) l 0 m r
 unfolding listing_of
 input-refused b e p = rw e p
 
@@ -77,12 +78,12 @@ module _ {f t s t' s' : List ℕ} {r : Result ℕ Refusal} (c : Compiles f t s t
         let q : answer_of f blank blank ≡ Ok n = sym answer-blank ∙ e in
         rw q (subst (λ x. Puts (shown_text (take (n * row_length) x)) l 0 m i) table-blank p)
 
-    pub file-refused : {x : Refusal} {l m : List ℕ} {i : ℕ} → r ≡ Err x → Puts (refusal x.number x.place) l 0 m i → Puts (file_text f) l 0 m i
+    pub file-refused : {x : Refusal} {l m : List ℕ} {i : ℕ} → r ≡ Err x → Puts (refusal (refusal_number x) x.place) l 0 m i → Puts (file_text f) l 0 m i
     unfolding file_text
     file-refused {x} e p = let q : answer_of f blank blank ≡ Err x = sym answer-blank ∙ e in rw q p
 
 -- the rows that stay, where the pass answers them
-module _ (t : List ℕ) {t' : List ℕ} {r : Result ℕ Fault} (e : r ≡ kept_of t) (w : t' ≡ table_kept t) where
+module _ (t : List ℕ) {t' : List ℕ} {r : Result ℕ Refusal} (e : r ≡ kept_of t) (w : t' ≡ table_kept t) where
   module _ {n : ℕ} (q : r ≡ Ok n) where
     pub kept-few : n ≤ most_rows
     kept-few = let k : KeptTells t n = kept-rows t n (sym e ∙ q) in omega (arith, k.fewer, k.right.few)
@@ -96,6 +97,6 @@ module _ (t : List ℕ) {t' : List ℕ} {r : Result ℕ Fault} (e : r ≡ kept_o
         let z : kept_of t ≡ Ok n = sym e ∙ q in
         rw z (subst (λ x. Puts (table_text (take (n * row_length) x)) l 0 m i) w p)
 
-  pub kept-refused : {f : Fault} {l m : List ℕ} {i : ℕ} → r ≡ Err f → Puts (refusal f.number f.place) l 0 m i → Puts (shown_text t) l 0 m i
+  pub kept-refused : {f : Refusal} {l m : List ℕ} {i : ℕ} → r ≡ Err f → Puts (refusal (refusal_number f) f.place) l 0 m i → Puts (shown_text t) l 0 m i
   unfolding shown_text
   kept-refused {f} q p = let z : kept_of t ≡ Err f = sym e ∙ q in rw z p

@@ -13,7 +13,7 @@ use Rattle.logic.proofs.Tests.{by-test, by_le}
 use Rattle.words.specs.Bytes.{words_in}
 use Rattle.words.proofs.Laid.{take-laid}
 use Rattle.theory.specs.Number.{level_count}
-use Rattle.theory.specs.Rows.{Row}
+use Rattle.theory.specs.declared.Row.{Row}
 use Rattle.flow.specs.declared.Match.{Match}
 use Rattle.action.specs.declared.Action.{Action}
 use Rattle.row.specs.Row.{row_length, rows_in, table_rows}
@@ -23,6 +23,8 @@ use Rattle.hidden.specs.Hidden.{kept_rows, kept_of, table_kept}
 use Rattle.hidden.specs.Theorems.{KeptTells}
 use Rattle.hidden.proofs.Laws.{kept-rows, right_kept}
 use Rattle.compile.specs.Compile.{answer_of, table_after}
+use Rattle.refusal.specs.Refusals.{reason_number, refusal_number}
+use Rattle.refusal.specs.declared.Reason.TheVariants.{WrongInput}
 use Rattle.refusal.specs.declared.Refusal.{Refusal}
 use Rattle.compile.proofs.Answered.{answers-rows}
 use Rattle.priority.specs.Numbering.{levels_of, priorities_of, number_of}
@@ -30,7 +32,7 @@ use Rattle.priority.proofs.Whole.{priorities-many}
 use Rattle.line.specs.Text.{line, head, longest_line}
 use Rattle.line.specs.Puts.{stop, Puts}
 use Rattle.sheet.specs.Sheet.{listing_room, lines, table_text, rows_text}
-use Rattle.text.specs.Listing.{wrong_input, longest_input, right_input, blank, shown_text, file_text}
+use Rattle.text.specs.Listing.{longest_input, right_input, blank, shown_text, file_text}
 use Rattle.text.specs.Listing.{listing_of, ListsWhole, longest_listing, ListedRows}
 use Rattle.text.specs.Theorems.{ListsRows, ListsRefused, RefusedInput, NeverCut, WrittenWhole, KnownByFirst}
 use Rattle.line.proofs.Lengths.{line-within, head-within, refusal-within}
@@ -107,13 +109,13 @@ file-long f = by_answer (answer_of f blank blank) refl
         let h : length (head k (level_count (levels_of t))) ≤ longest_line = head-within k (level_count (levels_of t)) in
         let i : length (lines (priorities_of t) (rows_in t)) ≤ longest_line * length (rows_in t) = lines-within (priorities_of t) (rows_in t) in
         rw ((listed f n e).text, length-append) (omega (arith, fewer f n e, (listed f n e).rows))
-    by_answer (Err r) e = rw (lists-refused f r e) (omega (arith, refusal-within r.number r.place))
+    by_answer (Err r) e = rw (lists-refused f r e) (omega (arith, refusal-within (refusal_number r) r.place))
 
 pub never-cut : NeverCut
 unfolding listing_of
 never-cut b = by-test (right_input b)
     (λ t. rw t (file-long (words_in b)))
-    (λ t. rw t (omega (arith, refusal-within wrong_input 0)))
+    (λ t. rw t (omega (arith, refusal-within (reason_number WrongInput) 0)))
 
 pub written-whole : WrittenWhole
 unfolding stop

@@ -4,7 +4,7 @@ use native.Mathlib.Omega.{arith}
 use mathlib.Core.Path.{sym, ap, subst, ◌∙◌}
 use mathlib.Core.List.{List}
 use lib.ListN.{length}
-use Rattle.theory.specs.Rows.{Row}
+use Rattle.theory.specs.declared.Row.{Row}
 use Rattle.flow.specs.declared.Match.{Match}
 use Rattle.action.specs.declared.Action.{Action}
 use Rattle.row.specs.Row.{most_rows, table_rows}
@@ -13,7 +13,7 @@ use Rattle.table.proofs.Tables.{check-exactly, table-words}
 use Rattle.compile.specs.Compile.{compiled_rows, table_after}
 use Rattle.compile.specs.Theorems.{AnswerTells}
 use Rattle.compile.proofs.Answered.{answers-rows}
-use Rattle.row.proofs.Rows.{words_count}
+use Rattle.row.proofs.RowLaws.{words_count}
 use Rattle.text.specs.Theorems.{TableRight}
 
 pub table-right : TableRight

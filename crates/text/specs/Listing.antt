@@ -1,6 +1,5 @@
 -- The listing: for every input, however broken, the one text that answers it. See docs/FORMAT.md, "The listing".
 --
---   wrong_input            the number of an input that is no file
 --   longest_input          the bytes of the longest file
 --   right_input b          whole words, and not more than the longest file has
 --   shown_text t           the listing of compiled rows, without the hidden ones
@@ -11,7 +10,8 @@
 --   ListedKept f t         the listing of the file f has those of the rows t that are not hidden
 --   ListsWhole a n l m r   m is l with the listing at its start, up to r: whole, of every input that was read into a
 use Rattle.std.specs.Prelude.{ℕ, ◌+◌, ◌*◌, ◌%◌, ◌≤◌, ◌≡◌, Bool, cond, ◌&&◌, List, Result, Ok, Err, eqb, leb, length, replicate, take}
-use Rattle.refusal.specs.declared.Fault.{Fault}
+use Rattle.refusal.specs.Refusals.{reason_number, refusal_number}
+use Rattle.refusal.specs.declared.Reason.TheVariants.{WrongInput}
 use Rattle.refusal.specs.declared.Refusal.{Refusal}
 use Rattle.words.specs.Bytes.{word_bytes, words_in}
 use Rattle.row.specs.Row.{row_length, rows_in, table_rows}
@@ -22,10 +22,6 @@ use Rattle.priority.specs.Numbering.{priorities_of}
 use Rattle.line.specs.Text.{longest_line, refusal}
 use Rattle.line.specs.Puts.{Puts}
 use Rattle.sheet.specs.Sheet.{listing_room, table_text, rows_text}
-
--- the number of an input that is not whole words, or too long
-abbrev pub wrong_input : ℕ
-wrong_input = 18
 
 -- the bytes of the longest file
 abbrev pub longest_input : ℕ
@@ -40,9 +36,9 @@ abbrev pub blank : List ℕ
 blank = replicate (row_length * listing_room) 0
 
 -- what is shown of compiled rows, by what the pass that takes hidden rows out answers and the table that it leaves
-abbrev pub kept_text : List ℕ → Result ℕ Fault → List ℕ
+abbrev pub kept_text : List ℕ → Result ℕ Refusal → List ℕ
 kept_text t (Ok n) = table_text (table_rows n t)
-kept_text t (Err f) = refusal f.number f.place
+kept_text t (Err f) = refusal (refusal_number f) f.place
 
 -- the listing of compiled rows
 unfoldable pub shown_text : List ℕ → List ℕ
@@ -51,7 +47,7 @@ shown_text t = kept_text (table_kept t) (kept_of t)
 -- what is shown of a file, by what the compile answers and the table that it leaves
 abbrev pub compiled_text : List ℕ → Result ℕ Refusal → List ℕ
 compiled_text t (Ok n) = shown_text (table_rows n t)
-compiled_text t (Err r) = refusal r.number r.place
+compiled_text t (Err r) = refusal (refusal_number r) r.place
 
 -- the listing of a policy file
 unfoldable pub file_text : List ℕ → List ℕ
@@ -59,7 +55,7 @@ file_text f = compiled_text (table_after f blank blank) (answer_of f blank blank
 
 -- THE LISTING, for every input
 unfoldable pub listing_of : List ℕ → List ℕ
-listing_of b = cond (right_input b) (file_text (words_in b)) (refusal wrong_input 0)
+listing_of b = cond (right_input b) (file_text (words_in b)) (refusal (reason_number WrongInput) 0)
 
 -- THE WHOLE LISTING OF WHAT WAS READ. An input, however long, was read until it ended or the array was full, and gave
 -- the array's first n bytes: its listing stands at the start of the buffer, and ends at r. Nothing of it is cut.

@@ -16,12 +16,14 @@ use Rattle.words.specs.Bytes.{bytes_of}
 use Rattle.table.specs.Table.{check_of}
 use Rattle.action.specs.Operator.{sibling}
 use Rattle.policy.specs.Examples.{tenant, tenant_with, lone}
+use Rattle.refusal.specs.Refusals.{reason_number, refusal_number}
+use Rattle.refusal.specs.declared.Reason.TheVariants.{WrongInput}
 use Rattle.refusal.specs.declared.Refusal.{Refusal}
 use Rattle.row.specs.Row.{table_rows}
 use Rattle.compile.specs.Compile.{answer_of, table_after}
 use Rattle.line.specs.Text.{ascii, refusal}
 use Rattle.line.specs.Puts.{Puts}
-use Rattle.text.specs.Listing.{wrong_input, longest_input, right_input, blank, file_text}
+use Rattle.text.specs.Listing.{longest_input, right_input, blank, file_text}
 use Rattle.text.specs.Listing.{listing_of, longest_listing, ListedKept}
 use Rattle.logic.specs.Lists.{All}
 
@@ -38,11 +40,11 @@ ListsRows =
 -- or it is the compile's refusal
 abbrev pub ListsRefused : Type 0
 ListsRefused =
-    (f : List ℕ) (r : Refusal) → answer_of f blank blank ≡ Err r → file_text f ≡ refusal r.number r.place
+    (f : List ℕ) (r : Refusal) → answer_of f blank blank ≡ Err r → file_text f ≡ refusal (refusal_number r) r.place
 
 -- bytes that are not whole words, or too many
 abbrev pub RefusedInput : Type 0
-RefusedInput = (b : List ℕ) → right_input b ≡ false → listing_of b ≡ refusal wrong_input 0
+RefusedInput = (b : List ℕ) → right_input b ≡ false → listing_of b ≡ refusal (reason_number WrongInput) 0
 
 -- NO LISTING IS LONGER
 abbrev pub NeverCut : Type 0

@@ -7,14 +7,12 @@ ghost use Rattle.text.specs.Listing.{right_input, shown_text, file_text, listing
 
 use compile::compile;
 use hidden::drop_hidden;
-use line::put_refusal;
+use line::put;
+use refusal::Reason;
 use row::ROW_WORDS;
 use section::LONGEST_FILE;
 use sheet::{ROOM, list_table};
 use words::{WORD_BYTES, from_bytes};
-
-// The number of the refusal: bytes that are not whole words, or too many.
-pub const WRONG_INPUT: u32 = 18;
 
 // How many bytes the longest input has.
 pub const LONGEST_INPUT: usize = WORD_BYTES * LONGEST_FILE;
@@ -42,11 +40,12 @@ pub fn list(input: &[u8], out: &mut [u8]) -> usize
         from_bytes(input, &mut file);
         return list_file(&file[..input.len() / WORD_BYTES], out);
     }
-    put_refusal(out, WRONG_INPUT, 0)
+    put(out, 0, &Reason::WrongInput.at(0))
 }
 
 // The same for a program that reads its input into an array, until it is full or the input ends: the whole listing of
-// the whole input, however long, of which so many bytes were read.
+// the whole input, however long, of which so many bytes were read. The array with the count, and not a slice, since its
+// length is what tells that nothing is cut.
 pub fn list_whole(input: &InputBytes, got: usize, out: &mut ListingBytes) -> usize
     ensures { ListsWhole input.now got out.old out.new result }
 {
@@ -65,11 +64,12 @@ fn list_first(input: &[u8], n: usize, out: &mut [u8]) -> usize
 fn list_file(file: &[u32], out: &mut [u8]) -> usize
     ensures { Puts (file_text file.now) out.old 0 out.new result }
 {
+    // Arrays, since no function over words takes memory from a heap.
     let mut table = [0u32; ROW_WORDS * ROOM];
     let mut scratch = [0u32; ROW_WORDS * ROOM];
     match compile(file, &mut table, &mut scratch) {
         Ok(rows) => list_rows(&mut table[..rows * ROW_WORDS], out),
-        Err(refusal) => put_refusal(out, refusal.number, refusal.place),
+        Err(refusal) => put(out, 0, &refusal),
     }
 }
 
@@ -79,7 +79,7 @@ fn list_rows(table: &mut [u32], out: &mut [u8]) -> usize
 {
     match drop_hidden(table) {
         Ok(kept) => list_table(&table[..kept * ROW_WORDS], out),
-        Err(fault) => put_refusal(out, fault.number, fault.place),
+        Err(refusal) => put(out, 0, &refusal),
     }
 }
 

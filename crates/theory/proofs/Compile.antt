@@ -3,15 +3,16 @@ use mathlib.Core.Path.{◌≡◌, refl}
 use mathlib.Core.Bool.{Bool, cond}
 use mathlib.Core.List.{List, [], ◌∷◌}
 use Rattle.logic.proofs.Tests.{by-test}
-use Rattle.theory.specs.Rows.{Row, scan, kept}
+use Rattle.theory.specs.declared.Row.{Row}
+use Rattle.theory.specs.Rows.{scan, kept}
 use Rattle.theory.specs.Tree.{Forest, node, bare, ◌▸◌, Node, own, evals, table, compiles}
 use Rattle.theory.specs.Theorems.{Laws, ScanCompile, NodeChain}
 use Rattle.theory.proofs.Join.{scan-join}
 
 module _ {M P A O : Type 0} {meets : M → P → Bool} {dont_care : A} {joined : O → A → A → A} {common : M → M → M} {empty : M → Bool} where
   pub scan-kept : Laws meets dont_care joined common empty → (x : Row M A) (p : P)
-      → scan meets dont_care (kept empty x) p ≡ cond (meets x.match p) x.action dont_care
-  scan-kept laws x p = by-test (empty x.match) (λ t. rw (t, laws.meets-empty x.match p t)) (λ t. rw t)
+      → scan meets dont_care (kept empty x) p ≡ cond (meets x.matching p) x.action dont_care
+  scan-kept laws x p = by-test (empty x.matching) (λ t. rw (t, laws.meets-empty x.matching p t)) (λ t. rw t)
 
   -- A node's own table gives its own action.
   pub scan-table : Laws meets dont_care joined common empty → (i : O) (xs : List (Row M A)) (p : P)
@@ -19,7 +20,7 @@ module _ {M P A O : Type 0} {meets : M → P → Bool} {dont_care : A} {joined :
   scan-table laws i [] p = refl
   scan-table laws i (x ∷ xs) p =
       rw (scan-join laws, scan-kept laws x p, scan-table laws i xs p)
-      (by-test (meets x.match p) (λ t. rw t) (λ t. rw t (laws.identity-left i (own meets dont_care joined i xs p))))
+      (by-test (meets x.matching p) (λ t. rw t) (λ t. rw t (laws.identity-left i (own meets dont_care joined i xs p))))
 
   mutual
     pub scan-compile : ScanCompile meets dont_care joined common empty

@@ -5,7 +5,8 @@ use mathlib.Core.List.{List, [], ◌∷◌, ◌++◌}
 use Rattle.logic.specs.Lists.{All}
 use Rattle.logic.proofs.Lists.{all_append, all_split}
 use Rattle.logic.proofs.Tests.{by-test}
-use Rattle.theory.specs.Rows.{Row, kept, common_row, common_with, common_rows, join}
+use Rattle.theory.specs.declared.Row.{Row}
+use Rattle.theory.specs.Rows.{kept, common_row, common_with, common_rows, join}
 use Rattle.theory.specs.Tree.{Tree, Forest, node, bare, ◌▸◌, Node, EveryNode, EveryNodes, GoodNode, table, compile, compiles}
 use Rattle.theory.specs.Nodes.{Listed, list_tree, list_trees}
 use Rattle.theory.specs.Theorems.{CompileEvery}
@@ -27,10 +28,10 @@ module _ {M A O : Type 0} (joined : O → A → A → A) (common : M → M → M
     (keeps : (o : O) (r s : Row M A) → K o → T r → T s → T (common_row common (joined o) r s)) where
   -- The property, of a row whose match is not empty.
   abbrev Kept : Row M A → Type 0
-  Kept r = T r × (empty r.match ≡ false)
+  Kept r = T r × (empty r.matching ≡ false)
 
   every-kept : (r : Row M A) → T r → All Kept (kept empty r)
-  every-kept r f = by-test (empty r.match) (λ t. rw t tt) (λ t. rw t ((f, t), tt))
+  every-kept r f = by-test (empty r.matching) (λ t. rw t tt) (λ t. rw t ((f, t), tt))
 
   every-with : (o : O) → K o → (r : Row M A) (N' : List (Row M A)) → T r → All Kept N' → All Kept (common_with common empty (joined o) r N')
   every-with o k r [] f g = tt

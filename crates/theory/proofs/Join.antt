@@ -7,7 +7,8 @@ use mathlib.Core.List.{List, [], ◌∷◌, ◌++◌}
 use mathlib.Core.Option.{Option, none, some, get_or}
 use lib.ListN.{length, length-append}
 use Rattle.logic.proofs.Tests.{by-test}
-use Rattle.theory.specs.Rows.{Row, scan, kept, common_row, common_with, common_rows, join}
+use Rattle.theory.specs.declared.Row.{Row}
+use Rattle.theory.specs.Rows.{scan, kept, common_row, common_with, common_rows, join}
 use Rattle.theory.specs.Theorems.{Laws, ScanJoin, JoinSize}
 
 module _ {A : Type 0} where
@@ -43,35 +44,35 @@ module _ {M P A : Type 0} (meets : M → P → Bool) where
   -- The scan, with "none matches" kept apart.
   abbrev pub first : List (Row M A) → P → Option A
   first [] p = none
-  first (r ∷ N) p = cond (meets r.match p) (some r.action) (first N p)
+  first (r ∷ N) p = cond (meets r.matching p) (some r.action) (first N p)
 
   pub first-scan : (dont_care : A) (N : List (Row M A)) (p : P) → scan meets dont_care N p ≡ get_or (first N p) dont_care
   first-scan dont_care [] p = refl
-  first-scan dont_care (r ∷ N) p = by-test (meets r.match p) (λ t. rw t) (λ t. rw t (first-scan dont_care N p))
+  first-scan dont_care (r ∷ N) p = by-test (meets r.matching p) (λ t. rw t) (λ t. rw t (first-scan dont_care N p))
 
   pub first-append : (N N' : List (Row M A)) (p : P) → first (N ++ N') p ≡ or_else (first N p) (first N' p)
   first-append [] N' p = refl
-  first-append (r ∷ N) N' p = by-test (meets r.match p) (λ t. rw t) (λ t. rw t (first-append N N' p))
+  first-append (r ∷ N) N' p = by-test (meets r.matching p) (λ t. rw t) (λ t. rw t (first-append N N' p))
 
 module _ {M P A O : Type 0} {meets : M → P → Bool} {dont_care : A} {joined : O → A → A → A} {common : M → M → M} {empty : M → Bool}
     (laws : Laws meets dont_care joined common empty) where
   -- Dropping an empty row changes no answer.
-  pub first-kept : (r : Row M A) (p : P) → first meets (kept empty r) p ≡ cond (meets r.match p) (some r.action) none
-  first-kept r p = by-test (empty r.match) (λ t. rw (t, laws.meets-empty r.match p t)) (λ t. rw t)
+  pub first-kept : (r : Row M A) (p : P) → first meets (kept empty r) p ≡ cond (meets r.matching p) (some r.action) none
+  first-kept r p = by-test (empty r.matching) (λ t. rw (t, laws.meets-empty r.matching p t)) (λ t. rw t)
 
   first-with : (o : O) (r : Row M A) (N' : List (Row M A)) (p : P)
-      → first meets (common_with common empty (joined o) r N') p ≡ join_both (joined o) (cond (meets r.match p) (some r.action) none) (first meets N' p)
-  first-with o r [] p = sym (both-none (joined o) (cond (meets r.match p) (some r.action) none))
+      → first meets (common_with common empty (joined o) r N') p ≡ join_both (joined o) (cond (meets r.matching p) (some r.action) none) (first meets N' p)
+  first-with o r [] p = sym (both-none (joined o) (cond (meets r.matching p) (some r.action) none))
   first-with o r (s ∷ N') p =
-      rw (first-append, first-kept (common_row common (joined o) r s) p, laws.meets-common r.match s.match p, first-with o r N' p)
-      (both_right (joined o) (meets r.match p) (meets s.match p) r.action s.action (first meets N' p))
+      rw (first-append, first-kept (common_row common (joined o) r s) p, laws.meets-common r.matching s.matching p, first-with o r N' p)
+      (both_right (joined o) (meets r.matching p) (meets s.matching p) r.action s.action (first meets N' p))
 
   first-common : (o : O) (N N' : List (Row M A)) (p : P)
       → first meets (common_rows common empty (joined o) N N') p ≡ join_both (joined o) (first meets N p) (first meets N' p)
   first-common o [] N' p = refl
   first-common o (r ∷ N) N' p =
       rw (first-append, first-with o r N' p, first-common o N N' p)
-      (both_left (joined o) (meets r.match p) r.action (first meets N p) (first meets N' p))
+      (both_left (joined o) (meets r.matching p) r.action (first meets N p) (first meets N' p))
 
   pub first-join : (o : O) (N N' : List (Row M A)) (p : P)
       → first meets (join common empty (joined o) N N') p
@@ -92,7 +93,7 @@ module _ {M P A O : Type 0} {meets : M → P → Bool} {dont_care : A} {joined :
 
 module _ {M A : Type 0} (common : M → M → M) (empty : M → Bool) (op : A → A → A) where
   pub length-kept : (r : Row M A) → length (kept empty r) ≤ 1
-  length-kept r = by-test (empty r.match) (λ t. rw t (omega arith)) (λ t. rw t (omega arith))
+  length-kept r = by-test (empty r.matching) (λ t. rw t (omega arith)) (λ t. rw t (omega arith))
 
   pub length-with : (r : Row M A) (N' : List (Row M A)) → length (common_with common empty op r N') ≤ length N'
   length-with r [] = omega arith

@@ -14,7 +14,7 @@ module _ {M P A : Type 0} (meets : M → P → Bool) (dont_care : A) where
   scan-place d [] p i f = absurd (omega (arith, f.within))
   scan-place d (r ∷ N) p zero f = rw f.passes (refl, refl, refl)
   scan-place d (r ∷ N) p (suc i) f =
-      let skipped : meets r.match p ≡ false = f.skips 0 (omega arith) in
+      let skipped : meets r.matching p ≡ false = f.skips 0 (omega arith) in
       let later : FirstPlace (matches_at meets d N p) (length N) i = record {
         within = omega (arith, f.within);
         passes = f.passes;

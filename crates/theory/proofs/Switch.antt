@@ -6,7 +6,8 @@ use mathlib.Core.Bool.{Bool, true, false≢true}
 use mathlib.Core.List.{List}
 use lib.ListN.{get_or, length}
 use Rattle.logic.proofs.Tests.{by-test, by_le}
-use Rattle.theory.specs.Rows.{Row, matches_at}
+use Rattle.theory.specs.declared.Row.{Row}
+use Rattle.theory.specs.Rows.{matches_at}
 use Rattle.theory.specs.Number.{FirstPlace, rows_overlap, levels, priorities, Right, Obeyed}
 use Rattle.theory.specs.Theorems.{Overlapping, SwitchScan, SwitchPriorities, SwitchFirst}
 use Rattle.theory.proofs.Places.{scan-place}
@@ -16,7 +17,7 @@ module _ {M P A : Type 0} (meets : M → P → Bool) (overlap : M → M → Bool
     (d : Row M A) (N : List (Row M A)) (q : ℕ → ℕ) (right : Right (rows_overlap overlap d N) (length N) q) (p : P) where
   -- Of two matching rows the earlier has the higher number.
   matching-higher : (j i : ℕ) → j < i → i < length N → matches_at meets d N p j ≡ true → matches_at meets d N p i ≡ true → q i < q j
-  matching-higher j i h k s t = right j i h k (overlapping (get_or N j d).match (get_or N i d).match p s t)
+  matching-higher j i h k s t = right j i h k (overlapping (get_or N j d).matching (get_or N i d).matching p s t)
 
   obeyed-first : (i : ℕ) → Obeyed meets d N q p i → FirstPlace (matches_at meets d N p) (length N) i
   obeyed-first i o = record {

@@ -10,20 +10,20 @@
 --   Nesting          asked of it too: what lies inside a match lies inside all that this one lies inside
 --   InsideSome       one of some rows whose match a match lies inside
 use Rattle.std.specs.Prelude.{ℕ, zero, suc, ◌<◌, ◌≡◌, Bool, true, false, cond, ◌||◌, List, [], ◌∷◌, ◌++◌, get_or, length, take}
-use Rattle.theory.specs.Rows.{Row}
+use Rattle.std.specs.List.{list_any}
+use Rattle.theory.specs.declared.Row.{Row}
 
 module _ {M A : Type 0} (inside : M → M → Bool) where
   -- Whether a match lies inside that of one of the rows.
   abbrev pub inside_one : M → List (Row M A) → Bool
-  inside_one m [] = false
-  inside_one m (r ∷ N) = inside m r.match || inside_one m N
+  inside_one m N = list_any (λ r. inside m r.matching) N
 
   -- Of the rows N, which stand behind the rows E, those that lie inside no row before them, whether that one goes or
   -- stays.
   abbrev pub staying_after : List (Row M A) → List (Row M A) → List (Row M A)
   staying_after E [] = []
   staying_after E (r ∷ N) =
-      let rest : List (Row M A) = staying_after (E ++ (r ∷ [])) N in cond (inside_one r.match E) rest (r ∷ rest)
+      let rest : List (Row M A) = staying_after (E ++ (r ∷ [])) N in cond (inside_one r.matching E) rest (r ∷ rest)
 
   -- The rows that lie inside no earlier row of the table.
   abbrev pub staying : List (Row M A) → List (Row M A)
@@ -31,13 +31,13 @@ module _ {M A : Type 0} (inside : M → M → Bool) where
 
   -- Whether row i lies inside an earlier row; d stands for a row past the last.
   abbrev pub inside_earlier : Row M A → List (Row M A) → ℕ → Bool
-  inside_earlier d N i = inside_one (get_or N i d).match (take i N)
+  inside_earlier d N i = inside_one (get_or N i d).matching (take i N)
 
   -- A row of the table whose match m lies inside, by its place.
   pub record InsideSome (d : Row M A) (m : M) (N : List (Row M A)) : Type 0 where
     pub place : ℕ
     pub within : place < length N
-    pub lies : inside m (get_or N place d).match ≡ true
+    pub lies : inside m (get_or N place d).matching ≡ true
 
 -- The places below n that pass the test, in order.
 abbrev pub places_where : (ℕ → Bool) → ℕ → List ℕ

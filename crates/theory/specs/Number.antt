@@ -19,11 +19,12 @@
 --   Obeyed           a switch with such numbers may obey a row
 --   has, distinct    whether a list has a number, and its distinct numbers
 use Rattle.std.specs.Prelude.{ℕ, zero, suc, ◌-◌, ◌≤◌, ◌<◌, max, ◌≡◌, Bool, true, false, cond, ◌&&◌, List, [], ◌∷◌, ◌++◌, map, get_or, length, eqb}
-use Rattle.theory.specs.Rows.{Row, matches_at}
+use Rattle.theory.specs.declared.Row.{Row}
+use Rattle.theory.specs.Rows.{matches_at}
 
 -- Whether the rows at two places of a table overlap; d stands for a row past the last.
 abbrev pub rows_overlap : {M A : Type 0} → (M → M → Bool) → Row M A → List (Row M A) → ℕ → ℕ → Bool
-rows_overlap overlap d N j i = overlap (get_or N j d).match (get_or N i d).match
+rows_overlap overlap d N j i = overlap (get_or N j d).matching (get_or N i d).matching
 
 -- Place i is the first below n that passes the test.
 pub record FirstPlace (test : ℕ → Bool) (n i : ℕ) : Type 0 where

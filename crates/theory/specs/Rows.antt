@@ -12,40 +12,36 @@
 --   common_rows   the common rows of two tables
 --   join          two tables joined
 use Rattle.std.specs.Prelude.{ℕ, suc, Bool, cond, List, [], ◌∷◌, ◌++◌, get_or}
-
--- An atom or a row: a match, and the action given where it is met. Figure 1: P = M × A.
-pub record Row (M A : Type 0) : Type 0 where
-  pub match : M
-  pub action : A
+use Rattle.theory.specs.declared.Row.{Row}
 
 module _ {M P A : Type 0} (meets : M → P → Bool) (dont_care : A) where
   -- The first matching row's action; don't care if none matches.
   abbrev pub scan : List (Row M A) → P → A
   scan [] p = dont_care
-  scan (r ∷ N) p = cond (meets r.match p) r.action (scan N p)
+  scan (r ∷ N) p = cond (meets r.matching p) r.action (scan N p)
 
 module _ {M P A : Type 0} (meets : M → P → Bool) where
   -- The first matching row's place; the number of rows if none matches.
   abbrev pub place : List (Row M A) → P → ℕ
   place [] p = 0
-  place (r ∷ N) p = cond (meets r.match p) 0 (suc (place N p))
+  place (r ∷ N) p = cond (meets r.matching p) 0 (suc (place N p))
 
   -- How many rows the scan tries: those up to the first that matches, or all.
   abbrev pub tried : List (Row M A) → P → ℕ
   tried [] p = 0
-  tried (r ∷ N) p = suc (cond (meets r.match p) 0 (tried N p))
+  tried (r ∷ N) p = suc (cond (meets r.matching p) 0 (tried N p))
 
 -- Whether the row at place i of a table matches; d stands for a row past the last.
 abbrev pub matches_at : {M P A : Type 0} → (M → P → Bool) → Row M A → List (Row M A) → P → ℕ → Bool
-matches_at meets d N p i = meets (get_or N i d).match p
+matches_at meets d N p i = meets (get_or N i d).matching p
 
 -- An atom's table: one row, or none if its match is empty.
 abbrev pub kept : {M A : Type 0} → (M → Bool) → Row M A → List (Row M A)
-kept empty r = cond (empty r.match) [] (r ∷ [])
+kept empty r = cond (empty r.matching) [] (r ∷ [])
 
 -- The common match of a row of N and a row of N', with the joined action, left from N.
 abbrev pub common_row : {M A : Type 0} → (M → M → M) → (A → A → A) → Row M A → Row M A → Row M A
-common_row common op r s = record { match = common r.match s.match; action = op r.action s.action }
+common_row common op r s = record { matching = common r.matching s.matching; action = op r.action s.action }
 
 module _ {M A : Type 0} (common : M → M → M) (empty : M → Bool) (op : A → A → A) where
   -- One row of N with each row of N' in order, dropped if empty.

@@ -21,7 +21,8 @@
 --   HiddenLess, HiddenEvery                no more rows than before, each with what every row has
 use Rattle.std.specs.Prelude.{ℕ, suc, ◌+◌, ◌*◌, ◌≤◌, ◌<◌, ◌≡◌, Bool, true, false, cond, not, ◌&&◌, List, [], ◌∷◌, ◌++◌, map, ◌↔◌, ltb, get_or, length, take}
 use Rattle.logic.specs.Lists.{All}
-use Rattle.theory.specs.Rows.{Row, scan, place, tried, matches_at, common_row, join}
+use Rattle.theory.specs.declared.Row.{Row}
+use Rattle.theory.specs.Rows.{scan, place, tried, matches_at, common_row, join}
 use Rattle.theory.specs.Tree.{Tree, node, bare, ◌▸◌, Node, EveryNode, GoodNode, own, eval, compile}
 use Rattle.theory.specs.Nodes.{Listed, plant, list_tree, list_trees, ChildrenFound}
 use Rattle.theory.specs.Number.{rows_overlap, FirstPlace, levels, level_count, priorities, chain, Chained, Right}
@@ -69,7 +70,7 @@ module _ {M A O : Type 0} (joined : O → A → A → A) (common : M → M → M
   CompileEvery = (K : O → Type 0) (T : Row M A → Type 0)
       → ((o : O) (r s : Row M A) → K o → T r → T s → T (common_row common (joined o) r s))
       → (t : Tree (Node O M A)) → EveryNode (GoodNode K T) t
-      → All (λ r. T r × (empty r.match ≡ false)) (compile common empty joined t)
+      → All (λ r. T r × (empty r.matching ≡ false)) (compile common empty joined t)
 
 module _ (X : Type 0) where
   -- Where every node finds its children, the list of the planted trees is the nodes.
@@ -156,7 +157,7 @@ module _ {M : Type 0} (A : Type 0) (inside : M → M → Bool) where
   -- Of what stays no row lies inside an earlier one.
   abbrev pub NoneHidden : Type 0
   NoneHidden = (d : Row M A) (N : List (Row M A)) → let K : List (Row M A) = staying inside N in
-      (j i : ℕ) → j < i → i < length K → inside (get_or K i d).match (get_or K j d).match ≡ false
+      (j i : ℕ) → j < i → i < length K → inside (get_or K i d).matching (get_or K j d).matching ≡ false
 
   -- A second pass changes nothing.
   abbrev pub HiddenAgain : Type 0
@@ -166,7 +167,7 @@ module _ {M : Type 0} (A : Type 0) (inside : M → M → Bool) where
   abbrev pub HiddenStep : Type 0
   HiddenStep = Nesting inside → (d : Row M A) (N : List (Row M A)) (i : ℕ) → i < length N
       → let K : List (Row M A) = staying inside (take i N) in
-      staying inside (take (suc i) N) ≡ K ++ cond (inside_one inside (get_or N i d).match K) [] (get_or N i d ∷ [])
+      staying inside (take (suc i) N) ≡ K ++ cond (inside_one inside (get_or N i d).matching K) [] (get_or N i d ∷ [])
 
   -- No more rows stay than there were.
   abbrev pub HiddenLess : Type 0

@@ -11,7 +11,8 @@
 --   compile, compiles    the table of a tree, and of children under a sibling operator
 use Rattle.std.specs.Prelude.{Bool, cond, List, [], ◌∷◌}
 use Rattle.logic.specs.Lists.{All}
-use Rattle.theory.specs.Rows.{Row, kept, join}
+use Rattle.theory.specs.declared.Row.{Row}
+use Rattle.theory.specs.Rows.{kept, join}
 
 infixr 67 ◌▸◌
 -- A tree is what its root holds and its children in order, a forest no tree or one before others. Figure 1: T = (+P) ×
@@ -54,7 +55,7 @@ module _ {M P A O : Type 0} (meets : M → P → Bool) (dont_care : A) (joined :
   -- .. + A'ₖ + 0.
   abbrev pub own : O → List (Row M A) → P → A
   own i [] p = dont_care
-  own i (x ∷ xs) p = cond (meets x.match p) (joined i x.action (own i xs p)) (own i xs p)
+  own i (x ∷ xs) p = cond (meets x.matching p) (joined i x.action (own i xs p)) (own i xs p)
 
   abbrev mutual
     -- The node's own action on the left, that of its children on the right. Figure 1: eval = cmb(D, K) +P A₁.

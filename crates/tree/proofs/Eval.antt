@@ -4,10 +4,11 @@ use mathlib.Core.Path.{◌≡◌, ap₂, ◌∙◌}
 use mathlib.Core.Bool.{Bool, true, false}
 use mathlib.Core.List.{List}
 use Rattle.std.specs.Prelude.{Ok, Err}
-use Rattle.flow.specs.Packet.{packet_of, right_packet_words, wrong_packet}
+use Rattle.refusal.specs.Refusals.{refusal_at}
+use Rattle.refusal.specs.declared.Reason.TheVariants.{WrongPacket}
+use Rattle.flow.specs.Packet.{packet_of, right_packet_words}
 use Rattle.flow.specs.declared.Packet.{Packet}
 use Rattle.action.specs.declared.Action.{Action}
-use Rattle.refusal.specs.Plain.{plain}
 use Rattle.policy.specs.Read.{read_of}
 use Rattle.policy.specs.File.{tree_of}
 use Rattle.policy.specs.declared.Layout.{Layout}
@@ -30,7 +31,7 @@ module _ (f : List ℕ) (l : Layout) (p : List ℕ) (t : Bool) (q : t ≡ right_
   unfolding accepted_action
   accepted-gives {x} h e = rw (← q, h, e)
 
-  pub accepted-refuses : t ≡ false → Err (plain wrong_packet 0) ≡ accepted_action f l p
+  pub accepted-refuses : t ≡ false → Err (refusal_at WrongPacket 0) ≡ accepted_action f l p
   unfolding accepted_action
   accepted-refuses h = rw (← q, h)
 

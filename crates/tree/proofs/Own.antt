@@ -1,16 +1,13 @@
 -- A node's own action: its atoms one by one from the last. Assumes nothing.
-use Prim.Native.Nat.{ℕ, ◌<◌}
-use native.Mathlib.Omega.{arith}
-use mathlib.Core.Path.{◌≡◌, sym, ap, ◌∙◌}
+use mathlib.Core.Path.{◌≡◌, refl, sym, ap, ◌∙◌}
 use mathlib.Core.Bool.{Bool, true, false}
-use mathlib.Core.List.{List, [], ◌++◌, map}
-use lib.ListN.{length}
-use Rattle.words.specs.Records.{rows_of}
-use Rattle.words.proofs.Records.{rows_none}
-use Rattle.words.proofs.Chunks.{whole-next}
+use mathlib.Core.List.{List, [], ◌∷◌, ◌++◌, append_assoc}
+use Rattle.std.proofs.lemmas.List.{append-nil}
+use Prim.Native.Nat.{ℕ}
+use Rattle.theory.specs.declared.Row.{Row}
 use Rattle.theory.specs.Tree.{own}
-use Rattle.row.specs.Row.{row_length, row_of, row_action}
-use Rattle.flow.specs.Match.{meets, match_of}
+use Rattle.row.specs.Row.{rows_in}
+use Rattle.flow.specs.Match.{meets}
 use Rattle.flow.specs.declared.Match.{Match}
 use Rattle.flow.specs.declared.Packet.{Packet}
 use Rattle.action.specs.Operator.{join}
@@ -18,29 +15,41 @@ use Rattle.action.specs.declared.Action.{Action}
 use Rattle.action.specs.declared.Action.TheVariants.{DontCare}
 use Rattle.tree.specs.Steps.{own_action, with_atom}
 
-some_words : 0 < row_length
-some_words = omega arith
-
-module _ (o atom : List ℕ) (p : Packet) (rest : Action) where
-  pub with-met : {t : Bool} {m : Match} {x r : Action} → t ≡ meets m p → t ≡ true → m ≡ match_of atom → x ≡ row_action atom → r ≡ join o x rest
-      → r ≡ with_atom o atom p rest
+module _ (o : List ℕ) (atom : Row Match Action) (p : Packet) (rest : Action) where
+  pub with-met : {t : Bool} {r : Action} → t ≡ meets atom.matching p → t ≡ true → r ≡ join o atom.action rest → r ≡ with_atom o atom p rest
   unfolding with_atom
-  with-met {t} {m} {x} {r} e q h k j =
-      let i : meets (match_of atom) p ≡ true = ap (λ z. meets z p) (sym h) ∙ sym e ∙ q in
-      rw i (j ∙ ap (λ y. join o y rest) k)
+  with-met {t} {r} e q j =
+      let i : meets atom.matching p ≡ true = sym e ∙ q in
+      rw i j
 
-  pub with-unmet : {t : Bool} {m : Match} → t ≡ meets m p → t ≡ false → m ≡ match_of atom → rest ≡ with_atom o atom p rest
+  pub with-unmet : {t : Bool} → t ≡ meets atom.matching p → t ≡ false → rest ≡ with_atom o atom p rest
   unfolding with_atom
-  with-unmet {t} {m} e q h =
-      let i : meets (match_of atom) p ≡ false = ap (λ z. meets z p) (sym h) ∙ sym e ∙ q in
+  with-unmet {t} e q =
+      let i : meets atom.matching p ≡ false = sym e ∙ q in
       rw i
 
-module _ (o : List ℕ) (p : Packet) where
-  pub own-start : DontCare ≡ own_action o [] p
-  unfolding own_action
-  own-start = sym (ap (λ N. own meets DontCare join o N p) (rows_none row_length row_of some_words [] some_words))
+-- Of the atoms, `rest` are left, and those behind them give the action `given`.
+pub record Behind (o : List ℕ) (p : Packet) (atoms rest : List (Row Match Action)) (given : Action) : Type 0 where
+  pub gone : List (Row Match Action)
+  pub parts : rest ++ gone ≡ atoms
+  pub gives : given ≡ own meets DontCare join o gone p
 
-  -- an atom before the others
-  pub own-step : (atom behind : List ℕ) → length atom ≡ row_length → own_action o (atom ++ behind) p ≡ with_atom o atom p (own_action o behind p)
-  unfolding own_action with_atom rows_of
-  own-step atom behind e = ap (λ N. own meets DontCare join o (map row_of N) p) (whole-next row_length atom behind some_words e)
+module _ (o : List ℕ) (p : Packet) where
+  pub behind-start : (atoms rest : List (Row Match Action)) → rest ≡ atoms → Behind o p atoms rest DontCare
+  behind-start atoms rest e = record { gone = []; parts = append-nil rest ∙ e; gives = refl }
+
+  pub behind-step : (atom : Row Match Action) {atoms rest left : List (Row Match Action)} {given next : Action} → Behind o p atoms rest given
+      → rest ≡ left ++ (atom ∷ []) → next ≡ with_atom o atom p given → Behind o p atoms left next
+  unfolding with_atom
+  behind-step atom {atoms} {rest} {left} {given} {next} b e n = record {
+    gone = atom ∷ b.gone;
+    parts = sym (append_assoc left (atom ∷ []) b.gone) ∙ ap (λ l. l ++ b.gone) (sym e) ∙ b.parts;
+    gives = n ∙ ap (with_atom o atom p) b.gives;
+  }
+
+  pub behind-end : (words : List ℕ) {rest : List (Row Match Action)} {given : Action} → Behind o p (rows_in words) rest given → rest ≡ []
+      → given ≡ own_action o words p
+  unfolding own_action
+  behind-end words {rest} {given} b e =
+      let all : b.gone ≡ rows_in words = ap (λ l. l ++ b.gone) (sym e) ∙ b.parts in
+      b.gives ∙ ap (λ N. own meets DontCare join o N p) all

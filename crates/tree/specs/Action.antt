@@ -5,20 +5,21 @@
 --   accepted_action       of an accepted file: the packet is tested, then eval
 --   action_after          what reading answered, carried on
 --   tree_action_of        the tree's action
---   tree_refusal, given   the refusal and the action of an answer
+--   given                 the action of an answer
 use Rattle.std.specs.Prelude.{ℕ, cond, List, Result, Ok, Err}
 use Rattle.theory.specs.Tree.{eval}
-use Rattle.flow.specs.Packet.{packet_of, right_packet_words, wrong_packet}
+use Rattle.refusal.specs.Refusals.{refusal_at}
+use Rattle.refusal.specs.declared.Reason.TheVariants.{WrongPacket}
+use Rattle.refusal.specs.declared.Refusal.{Refusal}
+use Rattle.flow.specs.Packet.{packet_of, right_packet_words}
 use Rattle.flow.specs.Match.{meets}
 use Rattle.flow.specs.declared.Packet.{Packet}
 use Rattle.action.specs.Operator.{join}
 use Rattle.action.specs.declared.Action.{Action}
 use Rattle.action.specs.declared.Action.TheVariants.{DontCare}
-use Rattle.refusal.specs.Plain.{plain}
 use Rattle.policy.specs.Read.{read_of}
 use Rattle.policy.specs.File.{PolicyTree, tree_of}
 use Rattle.policy.specs.declared.Layout.{Layout}
-use Rattle.refusal.specs.declared.Refusal.{Refusal}
 
 -- eval of Figure 1, at the matches, actions and operators of a policy file
 abbrev pub eval_tree : PolicyTree → Packet → Action
@@ -28,7 +29,7 @@ eval_tree t p = eval meets DontCare join t p
 unfoldable pub accepted_action : List ℕ → Layout → List ℕ → Result Action Refusal
 accepted_action f l p =
     cond (right_packet_words p) (Ok (eval_tree (tree_of f l) (packet_of p)))
-    (Err (plain wrong_packet 0))
+    (Err (refusal_at WrongPacket 0))
 
 -- what reading answered, carried on
 abbrev pub action_after : List ℕ → List ℕ → Result Layout Refusal → Result Action Refusal
@@ -38,11 +39,6 @@ action_after f p (Err r) = Err r
 -- THE TREE'S ACTION
 unfoldable pub tree_action_of : List ℕ → List ℕ → Result Action Refusal
 tree_action_of f p = action_after f p (read_of f)
-
--- the number, place, law and actions of an answer: 0, 0, no law and three don't cares where an action is given
-abbrev pub tree_refusal : Result Action Refusal → Refusal
-tree_refusal (Ok a) = plain 0 0
-tree_refusal (Err r) = r
 
 -- the action of an answer: don't care where it is a refusal
 abbrev pub given : Result Action Refusal → Action

@@ -6,8 +6,10 @@
 use Rattle.std.specs.Prelude.{ℕ, ◌≡◌, cond, List}
 use Rattle.words.specs.Records.{rows_of}
 use Rattle.theory.specs.Tree.{own, evals}
-use Rattle.row.specs.Row.{row_length, row_of, row_action}
-use Rattle.flow.specs.Match.{meets, match_of}
+use Rattle.theory.specs.declared.Row.{Row}
+use Rattle.row.specs.Row.{row_length, row_of}
+use Rattle.flow.specs.Match.{meets}
+use Rattle.flow.specs.declared.Match.{Match}
 use Rattle.flow.specs.declared.Packet.{Packet}
 use Rattle.action.specs.Operator.{join}
 use Rattle.action.specs.declared.Action.{Action}
@@ -23,8 +25,8 @@ unfoldable pub own_action : List ℕ → List ℕ → Packet → Action
 own_action o atoms p = own meets DontCare join o (rows_of row_length row_of atoms) p
 
 -- one atom before the others
-unfoldable pub with_atom : List ℕ → List ℕ → Packet → Action → Action
-with_atom o atom p rest = cond (meets (match_of atom) p) (join o (row_action atom) rest) rest
+unfoldable pub with_atom : List ℕ → Row Match Action → Packet → Action → Action
+with_atom o atom p rest = cond (meets atom.matching p) (join o atom.action rest) rest
 
 -- the action is that of the tree at the place, and the next place is behind it
 pub record TreeGave (f : List ℕ) (s : Spot) (p : Packet) (r : Gave) : Type 0 where

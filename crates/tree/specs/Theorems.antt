@@ -1,11 +1,12 @@
 -- What is proved of the tree's action. Each statement is proved in proofs/ under the name given behind it.
 use Rattle.std.specs.Prelude.{ℕ, ◌≡◌, true, false, List, Ok, Err}
-use Rattle.flow.specs.Packet.{packet_of, right_packet_words, wrong_packet}
-use Rattle.refusal.specs.Plain.{plain}
+use Rattle.refusal.specs.Refusals.{refusal_at}
+use Rattle.refusal.specs.declared.Reason.TheVariants.{WrongPacket}
+use Rattle.refusal.specs.declared.Refusal.{Refusal}
+use Rattle.flow.specs.Packet.{packet_of, right_packet_words}
 use Rattle.policy.specs.Read.{read_of}
 use Rattle.policy.specs.File.{tree_of}
 use Rattle.policy.specs.declared.Layout.{Layout}
-use Rattle.refusal.specs.declared.Refusal.{Refusal}
 use Rattle.tree.specs.Action.{eval_tree, tree_action_of}
 
 -- of an accepted file and a right packet, the answer is eval of Figure 1 on the tree that the file holds (action-eval)
@@ -22,4 +23,4 @@ ActionRefused = (f p : List ℕ) (r : Refusal) → read_of f ≡ Err r → tree_
 abbrev pub ActionPacket : Type 0
 ActionPacket =
     (f p : List ℕ) (l : Layout) → read_of f ≡ Ok l → right_packet_words p ≡ false
-    → tree_action_of f p ≡ Err (plain wrong_packet 0)
+    → tree_action_of f p ≡ Err (refusal_at WrongPacket 0)

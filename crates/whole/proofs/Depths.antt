@@ -8,8 +8,9 @@ use mathlib.Core.Logic.{◌⊎◌, inl, inr}
 use lib.Dec.{eqb, leb}
 use lib.ListN.{length, take}
 use borrow.Author.Tests.{leb-true, le-leb, ne_eqb}
-use Rattle.section.specs.Numbers.{deepest, no_tree}
-use Rattle.refusal.specs.Plain.{plain}
+use Rattle.refusal.specs.Refusals.{refusal_at}
+use Rattle.refusal.specs.declared.Reason.TheVariants.{NoTree}
+use Rattle.section.specs.Numbers.{deepest}
 use Rattle.section.specs.Sections.{unless}
 use Rattle.whole.specs.Whole.{waiting_nodes, one_less, shape}
 use Rattle.section.specs.Due.{FirstWrong}
@@ -110,7 +111,7 @@ enter-less k (n ∷ st) h = refl
 
 -- the first node without a place is named
 shape_at : (ks st : List ℕ) (i m : ℕ) → m < length ks → ((j : ℕ) → j < m → Fits (length (run st (take j ks)))) → ¬ Fits (length (run st (take m ks)))
-    → shape ks st i ≡ Err (plain no_tree (i + m))
+    → shape ks st i ≡ Err (refusal_at NoTree (i + m))
 shape_at [] st i m h b w = absurd (omega arith)
 shape_at (k ∷ ks) st i zero h b w =
     let n : ℕ = length (waiting_nodes st) in
@@ -127,7 +128,7 @@ shape_at (k ∷ ks) st i (suc m) h b w =
 
 -- where every node has a place the end decides
 shape-end : (ks st : List ℕ) (i : ℕ) → ((j : ℕ) → j < length ks → Fits (length (run st (take j ks))))
-    → shape ks st i ≡ unless (eqb (length (run st ks)) 0) no_tree (i + length ks)
+    → shape ks st i ≡ unless (eqb (length (run st ks)) 0) NoTree (i + length ks)
 shape-end [] st i b = let z : i + 0 ≡ i = omega arith in rw z
 shape-end (k ∷ ks) st i b =
     let s : List ℕ = waiting_nodes st in
@@ -150,13 +151,13 @@ module _ (ks : List ℕ) where
       record { awaited = t; shallow = omega (arith, f.few) })
 
   -- THE FIRST NODE WITHOUT A PLACE is what the shape test names
-  pub shape-first : (i : ℕ) → FirstWrong (HasPlace ks) (length ks) i → shape ks (1 ∷ []) 0 ≡ Err (plain no_tree i)
+  pub shape-first : (i : ℕ) → FirstWrong (HasPlace ks) (length ks) i → shape ks (1 ∷ []) 0 ≡ Err (refusal_at NoTree i)
   shape-first i w =
       let z : 0 + i ≡ i = omega arith in
       shape_at ks (1 ∷ []) 0 i w.within (λ j l. place-fits j (w.before j l)) (λ f. w.wrong (fits-place i f)) ∙ rw z
 
   -- AND WHERE EVERY NODE HAS ONE it asks whether the tree has ended
-  pub shape-places : ((i : ℕ) → i < length ks → HasPlace ks i) → shape ks (1 ∷ []) 0 ≡ unless (ended ks) no_tree (length ks)
+  pub shape-places : ((i : ℕ) → i < length ks → HasPlace ks i) → shape ks (1 ∷ []) 0 ≡ unless (ended ks) NoTree (length ks)
   shape-places p =
       let z : 0 + length ks ≡ length ks = omega arith in
       let e : eqb (length (run (1 ∷ []) ks)) 0 ≡ ended ks =

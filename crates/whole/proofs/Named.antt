@@ -9,9 +9,7 @@ use lib.Dec.{eqb}
 use lib.ListN.{get_or, length}
 use borrow.Author.Tests.{eqb-true, eq-eqb}
 use Rattle.action.specs.Operator.{right_cell, RightCodes, cells_of}
-use Rattle.action.specs.Laws.{law_search}
-use Rattle.action.specs.declared.Lawful.{Lawful}
-use Rattle.action.specs.declared.Lawful.TheVariants.{Yes, Broken}
+use Rattle.action.specs.Laws.{Searched, law_search}
 use Rattle.action.proofs.Cells.{cells-many, cell-word}
 use Rattle.action.proofs.Exact.{search-exact}
 use Rattle.section.specs.Numbers.{operator_length_in, operator_length}
@@ -22,7 +20,7 @@ use Rattle.whole.specs.Meaning.{operator_at, KeepsLaws, LawsKept}
 use Rattle.section.specs.Due.{RightNode}
 use Rattle.section.specs.declared.Edition.{Edition}
 use Rattle.section.specs.declared.Edition.TheVariants.{First}
-use Rattle.std.specs.Prelude.{Ok}
+use Rattle.std.specs.Prelude.{Ok, Err}
 use Rattle.section.proofs.Each.{each-passed, passed-each}
 use Rattle.logic.proofs.Tests.{by-test, or_split}
 
@@ -46,16 +44,16 @@ named_by i (r ∷ ns) zero h e = rw e
 named_by i (r ∷ ns) (suc n) h e =
     by-test (names i r) (λ t. rw t) (λ t. rw t (named_by i ns n (omega arith) e))
 
-unbroken : (i : ℕ) (x : Lawful) → broken i x ≡ Ok tt → x ≡ Yes
-unbroken i Yes g = refl
-unbroken i (Broken l a b c) g = let w : ◌≡◌ {A = ℕ} 0 1 = cc in absurd (omega arith)
+unbroken : (i : ℕ) (x : Searched) → broken i x ≡ Ok tt → x ≡ Ok tt
+unbroken i (Ok u) g = refl
+unbroken i (Err f) g = let w : ◌≡◌ {A = ℕ} 0 1 = cc in absurd (omega arith)
 
 -- an operator passes exactly when the search of it, if it is named, finds nothing
-pub passed-search : (ns : List (List ℕ)) (i : ℕ) (o : List ℕ) → operator_fault ns i o ≡ Ok tt → named i ns ≡ true → law_search (cells_of o) ≡ Yes
+pub passed-search : (ns : List (List ℕ)) (i : ℕ) (o : List ℕ) → operator_fault ns i o ≡ Ok tt → named i ns ≡ true → law_search (cells_of o) ≡ Ok tt
 unfolding operator_fault
 passed-search ns i o e n = unbroken i (law_search (cells_of o)) (rw n at e)
 
-search-passed : (ns : List (List ℕ)) (i : ℕ) (o : List ℕ) → (named i ns ≡ true → law_search (cells_of o) ≡ Yes) → operator_fault ns i o ≡ Ok tt
+search-passed : (ns : List (List ℕ)) (i : ℕ) (o : List ℕ) → (named i ns ≡ true → law_search (cells_of o) ≡ Ok tt) → operator_fault ns i o ≡ Ok tt
 unfolding operator_fault
 search-passed ns i o h = by-test (named i ns) (λ t. rw (t, h t)) (λ t. rw t)
 
@@ -108,12 +106,12 @@ module _ (a : ℕ) (os ns : List (List ℕ)) (many : length os ≡ a)
       passed-each [] (operator_fault ns) 1 0 os
       (λ j h p q. let z : p ≡ j = omega arith in rw z (search-passed ns j (get_or os j []) (searched j h)))
     where
-      searched : (j : ℕ) → j < length os → named j ns ≡ true → law_search (cells_of (get_or os j [])) ≡ Yes
+      searched : (j : ℕ) → j < length os → named j ns ≡ true → law_search (cells_of (get_or os j [])) ≡ Ok tt
       searched j h t =
           let n : Naming j ns = naming j ns t in
           let r : List ℕ = get_or ns n.node [] in
           let k : KeepsLaws (operator_at os (inner_of r)) × KeepsLaws (operator_at os (sibling_of r)) = keeps n.node n.within in
-          let exact : KeepsLaws (operator_at os j) → law_search (operator_at os j) ≡ Yes =
+          let exact : KeepsLaws (operator_at os j) → law_search (operator_at os j) ≡ Ok tt =
           (search-exact (operator_at os j) (codes j (omega arith))).1 in
           ⊎_elim
           (λ e. let q : inner_of r ≡ j = eqb-true (inner_of r) j e in exact (rw (← q) k.0))

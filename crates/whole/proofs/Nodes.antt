@@ -4,8 +4,7 @@ use mathlib.Core.Path.{◌≡◌, refl, sym, ap, ◌∙◌}
 use mathlib.Core.Bool.{Bool, true, false, ◌||◌}
 use mathlib.Core.List.{List, ◌∷◌}
 use Rattle.action.specs.Operator.{cells_of}
-use Rattle.action.specs.Laws.{law_search}
-use Rattle.action.specs.declared.Lawful.{Lawful}
+use Rattle.action.specs.Laws.{Searched, law_search}
 use Rattle.section.specs.Sections.{Test}
 use Rattle.whole.specs.Whole.{names, named, broken, operator_fault}
 use Rattle.section.specs.Cells.{operator_row, operator_rows}
@@ -35,7 +34,7 @@ pub operators-next : (ed : Edition) (x : List ℕ) (xs : List (List ℕ)) → op
 operators-next First x xs = refl
 
 module _ (ns : List (List ℕ)) (i : ℕ) (o : List ℕ) (t : Bool) (e : t ≡ named i ns) where
-  pub tested : (l : Lawful) (cells : List ℕ) (x : Test) → t ≡ true → cells ≡ cells_of o → l ≡ law_search cells → x ≡ broken i l → x ≡ operator_fault ns i o
+  pub tested : (l : Searched) (cells : List ℕ) (x : Test) → t ≡ true → cells ≡ cells_of o → l ≡ law_search cells → x ≡ broken i l → x ≡ operator_fault ns i o
   unfolding operator_fault
   tested l cells x p q r s = s ∙ rw (r, q, ← e, p)
 

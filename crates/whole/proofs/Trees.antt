@@ -11,12 +11,13 @@ use borrow.Author.Tests.{eqb-true, leb-true, le-leb}
 use Rattle.theory.specs.Tree.{Tree, Forest, node, bare, ◌▸◌}
 use Rattle.theory.specs.Nodes.{Listed, take_trees, drop_trees, count_trees, plant, list_tree, list_trees, ChildrenFound}
 use Rattle.theory.proofs.Nodes.{◌⧺◌, list-plant, plants-before, plant-list}
-use Rattle.section.specs.Numbers.{deepest, no_tree}
-use Rattle.refusal.specs.Plain.{plain}
+use Rattle.refusal.specs.Refusals.{refusal_at}
+use Rattle.refusal.specs.declared.Reason.TheVariants.{NoTree}
+use Rattle.refusal.specs.declared.Refusal.{Refusal}
+use Rattle.section.specs.Numbers.{deepest}
 use Rattle.section.specs.Sections.{Test}
 use Rattle.whole.specs.Whole.{waiting_nodes, one_less, shape}
 use Rattle.whole.specs.Meaning.{depth, depths, OneTree}
-use Rattle.refusal.specs.declared.Refusal.{Refusal}
 use Rattle.std.specs.Prelude.{Ok, Err}
 use Rattle.section.proofs.Records.{unless-true}
 use Rattle.logic.proofs.Tests.{and_left, and_right}
@@ -64,7 +65,7 @@ module _ {X : Type 0} where
   -- what passes has its trees
   pub shape-trees : (ns : List (Listed X)) (st : List ℕ) (i : ℕ) → shape (map (λ n. n.child_count) ns) st i ≡ Ok tt → ChildrenFound ns × Awaited st (plant ns)
   shape-trees [] st i e =
-      (tt, bare-awaited st bare refl (none_left (waiting_nodes st) (eqb-true _ _ (unless-true (eqb (length (waiting_nodes st)) 0) no_tree i e))))
+      (tt, bare-awaited st bare refl (none_left (waiting_nodes st) (eqb-true _ _ (unless-true (eqb (length (waiting_nodes st)) 0) NoTree i e))))
     where
       none_left : (s : List ℕ) → length s ≡ 0 → s ≡ []
       none_left [] h = refl
@@ -74,7 +75,7 @@ module _ {X : Type 0} where
       let k : ℕ = n.child_count in
       let rest : Test = shape (map (λ n. n.child_count) ns) (k ∷ one_less s) (suc i) in
       let g : ((leb 1 (length s) && leb (length s) deepest) ≡ true) × (rest ≡ Ok tt) =
-      guarded (leb 1 (length s) && leb (length s) deepest) rest (plain no_tree i) e in
+      guarded (leb 1 (length s) && leb (length s) deepest) rest (refusal_at NoTree i) e in
       let waits : 1 ≤ length s = leb-true 1 (length s) (and_left (leb 1 (length s)) (leb (length s) deepest) g.0) in
       let few : length s ≤ deepest = leb-true (length s) deepest (and_right (leb 1 (length s)) (leb (length s) deepest) g.0) in
       let ih : ChildrenFound ns × Awaited (k ∷ one_less s) (plant ns) = shape-trees ns (k ∷ one_less s) (suc i) g.1 in

@@ -11,11 +11,12 @@ use borrow.Author.Tests.{eqb-true, ltb-true, le-leb, lt-leb}
 use mathlib.Core.Logic.{⊎_elim}
 use Rattle.std.proofs.lemmas.Bool.Decides.{nat_tests}
 use Rattle.logic.proofs.Tests.{or_split}
-use Rattle.refusal.specs.Plain.{plain}
+use Rattle.refusal.specs.Refusals.{refusal_at}
 use Rattle.section.specs.Sections.{Test, unless, children_of}
 use Rattle.whole.specs.Whole.{waiting_nodes, one_less, shape, stacked}
 use Rattle.std.specs.Prelude.{Err}
 use Rattle.whole.proofs.Stack.{stacked-length, enter}
+use Rattle.refusal.specs.declared.Reason.TheVariants.{NoTree}
 
 -- a node that is awaited, and not too deep
 pub going : (d : ℕ) → (eqb d 0 || ltb 16 d) ≡ false → (0 < d) × (d ≤ 16)
@@ -29,11 +30,11 @@ module _ (ys : List (List ℕ)) (i : ℕ) (w : List ℕ) (h d : ℕ) (v : Test)
 
   -- the node x is next, and those behind it
   module _ (x : List ℕ) (xs : List (List ℕ)) (e : ys ≡ x ∷ xs) where
-    turn : v ≡ cond (leb 1 d && leb d 16) (shape (map children_of xs) (get_or x 4 0 ∷ one_less (stacked w d)) (suc i)) (Err (plain 8 i))
+    turn : v ≡ cond (leb 1 d && leb d 16) (shape (map children_of xs) (get_or x 4 0 ∷ one_less (stacked w d)) (suc i)) (Err (refusal_at NoTree i))
     turn = sym inv ∙ rw (e, opened, ← s)
 
     -- the tree had ended, or is too deep here
-    pub stopped : (eqb d 0 || ltb 16 d) ≡ true → Err (plain 8 i) ≡ v
+    pub stopped : (eqb d 0 || ltb 16 d) ≡ true → Err (refusal_at NoTree i) ≡ v
     stopped t =
         ⊎_elim
         (λ h. let z : d ≡ 0 = eqb-true d 0 h in sym (turn ∙ rw z))
@@ -44,5 +45,5 @@ module _ (ys : List (List ℕ)) (i : ℕ) (w : List ℕ) (h d : ℕ) (v : Test)
         → shape (map children_of xs) (stacked (set (set w (d - 1) (get_or w (d - 1) 0 - 1)) d (get_or x 4 0)) (d + 1)) (i + 1) ≡ v
     on p q n = rw (add-one i, enter w d (get_or x 4 0) p (omega arith)) (sym (turn ∙ rw (le-leb 1 d p, le-leb d 16 q)))
 
-  pub finished : ys ≡ [] → unless (eqb d 0) 8 i ≡ v
+  pub finished : ys ≡ [] → unless (eqb d 0) NoTree i ≡ v
   finished e = let g : shape [] (stacked w h) i ≡ v = rw e at inv in rw opened at g

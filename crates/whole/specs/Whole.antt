@@ -9,12 +9,11 @@
 --   stacked                the stack that an array is
 use Rattle.std.specs.Prelude.{ℕ, zero, suc, ◌+◌, ◌/◌, pred, Bool, false, cond, ◌&&◌, ◌||◌, List, [], ◌∷◌, Ok, Err, map, eqb, leb, get_or, length}
 use Rattle.action.specs.Operator.{cells_of}
-use Rattle.action.specs.Laws.{law_search}
-use Rattle.action.specs.declared.Lawful.{Lawful}
-use Rattle.action.specs.declared.Lawful.TheVariants.{Yes, Broken}
+use Rattle.action.specs.Laws.{Searched, law_search}
 use Rattle.words.specs.Records.{records}
-use Rattle.refusal.specs.Plain.{plain}
-use Rattle.section.specs.Numbers.{node_length, deepest, no_tree, wrong_sum, law_broken}
+use Rattle.refusal.specs.Refusals.{refusal_at}
+use Rattle.refusal.specs.declared.Reason.TheVariants.{NoTree, WrongSum, LawBroken}
+use Rattle.section.specs.Numbers.{node_length, deepest}
 use Rattle.section.specs.Sections.{Test, unless, each, inner_of, sibling_of, own_of, children_of}
 
 -- the nodes that a list of words holds
@@ -35,11 +34,11 @@ one_less (n ∷ st) = pred n ∷ st
 -- nodes in order, by their child counts: first whether the tree had already ended, then depth; at the end, whether
 -- children are missing
 abbrev pub shape : List ℕ → List ℕ → ℕ → Test
-shape [] st i = unless (eqb (length (waiting_nodes st)) 0) no_tree i
+shape [] st i = unless (eqb (length (waiting_nodes st)) 0) NoTree i
 shape (k ∷ ks) st i =
     cond (leb 1 (length (waiting_nodes st)) && leb (length (waiting_nodes st)) deepest)
     (shape ks (k ∷ one_less (waiting_nodes st)) (suc i))
-    (Err (plain no_tree i))
+    (Err (refusal_at NoTree i))
 
 -- the nodes are one tree, no deeper than allowed: one node is awaited, the root
 unfoldable pub shape_fault : List (List ℕ) → Test
@@ -52,7 +51,7 @@ own_atoms (r ∷ rs) = own_of r + own_atoms rs
 
 -- it is the number of atoms
 unfoldable pub sum_fault : List (List ℕ) → ℕ → Test
-sum_fault ns b = unless (eqb (own_atoms ns) b) wrong_sum 0
+sum_fault ns b = unless (eqb (own_atoms ns) b) WrongSum 0
 
 -- a node names the operator i as inner or sibling
 abbrev pub names : ℕ → List ℕ → Bool
@@ -64,9 +63,9 @@ named i [] = false
 named i (r ∷ rs) = names i r || named i rs
 
 -- the refusal for the operator i where the search found a broken law
-abbrev pub broken : ℕ → Lawful → Test
-broken i Yes = Ok tt
-broken i (Broken l a b c) = Err (record { number = law_broken; place = i; law = l; first = a; second = b; third = c })
+abbrev pub broken : ℕ → Searched → Test
+broken i (Ok u) = Ok tt
+broken i (Err f) = Err (refusal_at (LawBroken f) i)
 
 -- the operator i keeps the laws, if some node names it
 unfoldable pub operator_fault : List (List ℕ) → ℕ → List ℕ → Test

@@ -1,30 +1,36 @@
--- Words of bytes and bytes of words in a buffer that they fill from its start. Assumes nothing.
-use Rattle.std.proofs.Common.{◌≡◌, ap, ◌∙◌, List, [], ◌∷◌, ◌++◌, ℕ, suc, ◌+◌}
-use Rattle.std.proofs.Common.{◌*◌, ◌≤◌, ◌<◌, length, take, get_or, arith, drop_of_length-le, append-nil, ◌-◌}
-use borrow.Rule.Slice.PartMut.{put_mid}
-use Rattle.std.proofs.lemmas.Slice.{take-put_mid}
+-- A word against its bytes, and bytes of words in a buffer that they fill from its start. Assumes nothing.
+use Rattle.std.proofs.Common.{◌≡◌, ap, ◌∙◌, List, [], ◌∷◌, ◌++◌, ℕ, ◌+◌, ◌/◌, ◌%◌, ◌*◌, ◌≤◌, ◌<◌, length, take, get_or, arith, w32}
+use Rattle.std.specs.declared.option.Option.{Option}
+use Rattle.std.specs.Int.{from_le_bytes}
+use Rattle.std.specs.Io.KnownBytes.{Consumes}
 use Rattle.words.specs.Words.{copied}
 use Rattle.words.specs.Records.{flat}
-use Rattle.words.specs.Bytes.{word_bytes, words_in, bytes_of}
-use Rattle.words.specs.Theorems.{EveryByte}
-use Rattle.words.proofs.Records.{flat_append}
-use Rattle.words.proofs.Laid.{copied-fits, take-laid, laid-front}
-use Rattle.words.proofs.Bytes.{length-words, length-bytes, bytes_read}
+use Rattle.words.specs.Bytes.{word_bytes, bytes_of}
+use Rattle.words.proofs.Laid.{copied-fits, take-laid}
+use Rattle.words.proofs.Bytes.{length-bytes}
+use Rattle.words.proofs.RecordLaws.{flat_append}
+use Rattle.wire.proofs.Known.{consumes_then}
 
-pub every_byte : (bytes : List ℕ) → ((i : ℕ) → get_or bytes i 0 < 256) → EveryByte bytes
-every_byte [] h = tt
-every_byte (b ∷ bytes) h = (h 0, every_byte bytes (λ i. h (suc i)))
-
--- words that fill a buffer are the bytes that they were read from
-pub words_stored : (bytes l : List ℕ) → EveryByte bytes → length bytes ≡ word_bytes * length l → flat bytes_of (copied 0 (words_in bytes) l) ≡ bytes
-words_stored bytes l b h =
-    let n : length (words_in bytes) ≡ length l = length-words bytes ∙ omega arith in
-    let c : copied 0 (words_in bytes) l ≡ words_in bytes =
-    copied-fits 0 (words_in bytes) l (omega arith)
-    ∙ laid-front (words_in bytes) l (length l) n (omega arith)
-    ∙ ap (λ d. words_in bytes ++ d) (drop_of_length-le l {i = length l} (omega arith))
-    ∙ append-nil (words_in bytes) in
-    ap (flat bytes_of) c ∙ bytes_read bytes b (omega arith)
+-- the bytes of the word that four bytes are
+pub word_read : (b : List ℕ) (w : ℕ) → length b ≡ word_bytes → ((i : ℕ) → get_or b i 0 < 256) → w ≡ from_le_bytes w32 b → bytes_of w ≡ b
+word_read [] w h k e = absurd (omega arith)
+word_read (p ∷ []) w h k e = absurd (omega arith)
+word_read (p ∷ q ∷ []) w h k e = absurd (omega arith)
+word_read (p ∷ q ∷ r ∷ []) w h k e = absurd (omega arith)
+word_read (p ∷ q ∷ r ∷ s ∷ []) w h k e =
+    let kp : p < 256 = k 0 in
+    let kq : q < 256 = k 1 in
+    let kr : r < 256 = k 2 in
+    let ks : s < 256 = k 3 in
+    let f : w ≡ p + q * 256 + r * 65536 + s * 16777216 = e in
+    let a : w % 256 ≡ p = omega arith in
+    let b' : w / 256 ≡ q + 256 * r + 65536 * s = omega arith in
+    let b : w / 256 % 256 ≡ q = rw b' (omega arith) in
+    let c' : w / 65536 ≡ r + 256 * s = omega arith in
+    let c : w / 65536 % 256 ≡ r = rw c' (omega arith) in
+    let d : w / 16777216 ≡ s = omega arith in
+    rw (a, b, c, d)
+word_read (p ∷ q ∷ r ∷ s ∷ t ∷ b) w h k e = absurd (omega arith)
 
 -- the bytes of words, at the start of a buffer
 pub bytes_stored : (words l m : List ℕ) → m ≡ copied 0 (flat bytes_of words) l → word_bytes * length words ≤ length l
@@ -34,7 +40,7 @@ bytes_stored words l m e h =
     ap (take (word_bytes * length words)) (e ∙ copied-fits 0 (flat bytes_of words) l (omega arith))
     ∙ take-laid (flat bytes_of words) l (word_bytes * length words) n h
 
--- the same of a block that was read
-pub block_read : (a n : ℕ) (xs ys : List ℕ) → n ≡ a + length ys → a ≤ length xs
-    → flat bytes_of (take n (put_mid a (n - a) xs ys)) ≡ flat bytes_of (take a xs) ++ flat bytes_of ys
-block_read a n xs ys h k = rw (take-put_mid a (n - a) xs ys n h k) (flat_append bytes_of (take a xs) ys)
+-- one more word that was read
+pub word_more : (a b c : Option (List ℕ)) (ws : List ℕ) (w : ℕ) → Consumes a b (flat bytes_of ws) → Consumes b c (bytes_of w)
+    → Consumes a c (flat bytes_of (ws ++ w ∷ []))
+word_more a b c ws w p q = rw (flat_append bytes_of ws (w ∷ [])) (consumes_then a b c (flat bytes_of ws) (bytes_of w) p q)

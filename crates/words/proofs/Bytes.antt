@@ -1,63 +1,65 @@
--- Words laid from bytes, and bytes from words: the turns of the two loops, their ends, and that each reads back as the other. Assumes nothing.
-use Prim.Native.Nat.{ℕ, suc, ◌+◌, ◌-◌, ◌*◌, ◌/◌, ◌%◌, ◌≤◌, ◌<◌}
+-- Words laid from bytes, and bytes from words: the turns of the two loops, and that each reads back as the other. Assumes nothing.
+use Prim.Native.Nat.{ℕ, zero, suc, ◌+◌, ◌-◌, ◌*◌, ◌/◌, ◌%◌, ◌^◌, ◌≤◌, ◌<◌}
 use native.Mathlib.Omega.{arith}
 use native.Mathlib.Numerals.{add-one}
 use mathlib.Core.Path.{◌≡◌, refl, sym, ap, ap₂, ◌∙◌}
-use mathlib.Core.List.{List, [], ◌∷◌, ◌++◌}
-use lib.ListN.{length, get_or, take, drop, set, drop_of_length-le, length-map}
+use mathlib.Core.List.{List, [], ◌∷◌, ◌++◌, map}
+use borrow.Rule.Slice.PartMut.{put_mid}
+use Rattle.std.specs.Int.{w32, to_le_bytes, from_le_bytes}
+use Rattle.std.specs.Simd.{first_chunks}
+use lib.ListN.{length, get_or, take, drop, drop_of_length-le, length-map}
 use lib.Seq.{drop-cons}
 use Rattle.words.specs.Words.{laid}
 use Rattle.words.specs.Records.{records, rows_of, flat}
 use Rattle.words.specs.Bytes.{word_bytes, word_of, words_in, bytes_of}
 use Rattle.words.specs.Theorems.{WordsRead, BytesRead}
-use Rattle.words.proofs.Laid.{laid_none, laid_cons, laid_then}
-use Rattle.words.proofs.Records.{rows_more, rows_at, rows_end, rows-flat, length-records}
+use Rattle.words.proofs.Laid.{laid_none, laid_then, put-laid}
+use Rattle.words.proofs.RecordLaws.{rows_more, rows-flat, length-records}
 
--- the words of the bytes from a place on are still to be laid over l, and then it is the whole
-pub record WordsAhead (bytes : List ℕ) (from : ℕ) (l : List ℕ) (i : ℕ) (whole : List ℕ) : Type 0 where
-  pub is : laid i (words_in (drop from bytes)) l ≡ whole
+-- the chunks of some bytes are their records, and a chunk is read as its word
+chunks-records : (n k : ℕ) (xs : List ℕ) → first_chunks k n xs ≡ records n k xs
+chunks-records zero k xs = refl
+chunks-records (suc n) k xs = ap (λ rs. take k xs ∷ rs) (chunks-records n k (drop k xs))
 
-pub words-turn : {bytes l whole : List ℕ} {i from v : ℕ} → WordsAhead bytes from l i whole → v ≡ word_of (take (from + word_bytes - from) (drop from bytes))
-    → from + word_bytes ≤ length bytes → WordsAhead bytes (from + word_bytes) (set l i v) (i + 1) whole
-words-turn {bytes} {l} {whole} {i} {from} {v} e d h = record {
-  is =
-      let q : from + word_bytes - from ≡ word_bytes = omega arith in
-      let w : v ≡ word_of (take word_bytes (drop from bytes)) = d ∙ ap (λ k. word_of (take k (drop from bytes))) q in
-      rw (add-one i, w)
-      (sym (laid_cons i (word_of (take word_bytes (drop from bytes))) (words_in (drop (from + word_bytes) bytes)) l)
-      ∙ ap (λ F. laid i F l) (sym (rows_at word_bytes word_of (omega arith) bytes from h))
-      ∙ e.is);
-}
+word-at : (rs : List (List ℕ)) (i : ℕ) → get_or (map word_of rs) i 0 ≡ word_of (get_or rs i [])
+word-at [] i = refl
+word-at (r ∷ rs) zero = refl
+word-at (r ∷ rs) (suc i) = word-at rs i
 
-pub words-end : {bytes l whole : List ℕ} {i from : ℕ} → WordsAhead bytes from l i whole → length bytes < from + word_bytes → l ≡ whole
-words-end {bytes} {l} {whole} {i} {from} e h =
-    sym (laid_none i l) ∙ ap (λ F. laid i F l) (sym (rows_end word_bytes word_of (omega arith) bytes from h)) ∙ e.is
+pub word-read : (bytes : List ℕ) (fours : List (List ℕ)) (i v : ℕ) → fours ≡ first_chunks word_bytes (length bytes / word_bytes) bytes
+    → v ≡ from_le_bytes w32 (get_or fours i []) → v ≡ get_or (words_in bytes) i 0
+unfolding rows_of
+word-read bytes fours i v e d =
+    let w : v ≡ word_of (get_or fours i []) = omega (arith, d) in
+    w
+    ∙ ap (λ (rs : List (List ℕ)). word_of (get_or rs i [])) (e ∙ chunks-records (length bytes / word_bytes) word_bytes bytes)
+    ∙ sym (word-at (records (length bytes / word_bytes) word_bytes bytes) i)
 
--- the four bytes of a word
-pub laid-four : (a p q r s : ℕ) (l : List ℕ) → set (set (set (set l a p) (a + 1) q) (a + 2) r) (a + 3) s ≡ laid a (p ∷ q ∷ r ∷ s ∷ []) l
-unfolding laid
-laid-four a p q r s l =
-    let e : a + 1 ≡ suc a = omega arith in
-    let f : a + 2 ≡ suc (suc a) = omega arith in
-    let g : a + 3 ≡ suc (suc (suc a)) = omega arith in
-    rw (e, f, g)
+-- the four bytes of a word, as they are written
+pub bytes-written : (w : ℕ) → w < 2 ^ 32 → to_le_bytes w32 w ≡ bytes_of w
+bytes-written w h =
+    let top : w / 16777216 % 256 ≡ w / 16777216 = omega arith in
+    ap (λ (x : ℕ). w % 256 ∷ w / 256 % 256 ∷ w / 65536 % 256 ∷ x ∷ []) top
 
 -- the bytes of the words from a place on are still to be laid over l, and then it is the whole
-pub record BytesAhead (words : List ℕ) (i : ℕ) (l : List ℕ) (a : ℕ) (whole : List ℕ) : Type 0 where
-  pub is : laid a (flat bytes_of (drop i words)) l ≡ whole
+abbrev pub bytes_ahead : List ℕ → ℕ → List ℕ → List ℕ
+bytes_ahead words i l = laid (i * word_bytes) (flat bytes_of (drop i words)) l
 
-pub bytes-turn : {words l l' whole : List ℕ} {i a : ℕ} → BytesAhead words i l a whole → l' ≡ laid a (bytes_of (get_or words i 0)) l → i < length words
-    → BytesAhead words (i + 1) l' (a + word_bytes) whole
-bytes-turn {words} {l} {l'} {whole} {i} {a} e d h = record {
-  is =
-      rw (add-one i, d)
-      (laid_then a (bytes_of (get_or words i 0)) (flat bytes_of (drop (suc i) words)) l
-      ∙ ap (λ x. laid a (flat bytes_of x) l) (sym (drop-cons words i 0 h))
-      ∙ e.is);
-}
+pub bytes-turn : (words l part whole : List ℕ) (i : ℕ) → bytes_ahead words i l ≡ whole → part ≡ to_le_bytes w32 (get_or words i 0) → get_or words i 0 < 2 ^ 32
+    → i < length words → i * word_bytes + word_bytes ≤ length l → bytes_ahead words (i + 1) (put_mid (i * word_bytes) (i * word_bytes + word_bytes - i * word_bytes) l part) ≡ whole
+bytes-turn words l part whole i e d w h fits =
+    let a : (i + 1) * word_bytes ≡ i * word_bytes + word_bytes = omega arith in
+    let k : i * word_bytes + word_bytes - i * word_bytes ≡ word_bytes = omega arith in
+    let p : put_mid (i * word_bytes) (i * word_bytes + word_bytes - i * word_bytes) l part ≡ laid (i * word_bytes) (bytes_of (get_or words i 0)) l =
+    put-laid (i * word_bytes) _ (bytes_of (get_or words i 0)) l part (d ∙ bytes-written (get_or words i 0) w) k fits in
+    rw (p, a, add-one i)
+    (laid_then (i * word_bytes) (bytes_of (get_or words i 0)) (flat bytes_of (drop (suc i) words)) l
+    ∙ ap (λ x. laid (i * word_bytes) (flat bytes_of x) l) (sym (drop-cons words i 0 h))
+    ∙ e)
 
-pub bytes-end : {words l whole : List ℕ} {i a : ℕ} → BytesAhead words i l a whole → length words ≤ i → l ≡ whole
-bytes-end {words} {l} {whole} {i} {a} e h = sym (laid_none a l) ∙ ap (λ x. laid a (flat bytes_of x) l) (sym (drop_of_length-le words h)) ∙ e.is
+pub bytes-end : (words l whole : List ℕ) (i : ℕ) → bytes_ahead words i l ≡ whole → length words ≤ i → l ≡ whole
+bytes-end words l whole i e h =
+    sym (laid_none (i * word_bytes) l) ∙ ap (λ x. laid (i * word_bytes) (flat bytes_of x) l) (sym (drop_of_length-le words h)) ∙ e
 
 -- there are as many words as whole words, and four bytes for each word
 pub length-words : (bytes : List ℕ) → length (words_in bytes) ≡ length bytes / word_bytes

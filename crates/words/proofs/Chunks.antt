@@ -18,7 +18,7 @@ use Rattle.std.specs.declared.iter.Enumerate.{Enumerate}
 use Rattle.std.specs.Prelude.{Some, None}
 use Rattle.std.specs.Borrow.{Bor}
 use Rattle.words.specs.Records.{records, rows_of}
-use Rattle.words.proofs.Records.{length-records}
+use Rattle.words.proofs.RecordLaws.{length-records}
 
 -- the records of k words that a list of words holds
 abbrev pub whole : ℕ → List ℕ → List (List ℕ)

@@ -1,12 +1,13 @@
--- Laws of words laid over a buffer: part after part, what is laid, what stays, and the turns of the loops that copy and clear. Assumes nothing.
+-- Laws of words laid over a buffer: part after part, what is laid, what stays, what a written part is, and the turns of a loop that stores. Assumes nothing.
 use Prim.Native.Nat.{ℕ, suc, ◌+◌, ◌-◌, ◌≤◌, ◌<◌}
 use native.Mathlib.Omega.{arith}
 use native.Mathlib.Numerals.{add-one}
 use native.Mathlib.Nat.{add-zero}
 use mathlib.Core.Path.{◌≡◌, refl, sym, ap, ◌∙◌}
 use mathlib.Core.List.{List, [], ◌∷◌, ◌++◌, append_assoc, append-nil}
-use lib.ListN.{length, get_or, take, drop, set, replicate, length-replicate, drop_of_length-le, get_or-append}
-use lib.Seq.{sets, length-sets, sets-eq, set_out, drop-cons, take_all, take_at, drop_at}
+use borrow.Rule.Slice.PartMut.{put_mid}
+use lib.ListN.{length, get_or, take, drop, set, replicate, drop_of_length-le, get_or-append, length-drop}
+use lib.Seq.{sets, length-sets, sets-eq, set_out, drop-cons, drop-drop, take_all, take_at, drop_at, length-take-le}
 use borrow.Author.Tests.{le-leb, lt-leb}
 use Rattle.words.specs.Words.{laid, copied, cleared}
 use Rattle.logic.proofs.Tests.{by_le}
@@ -80,43 +81,39 @@ length-copied a F l =
     (λ h. rw (copied-fits a F l h) (length-laid a F l))
     (λ h. rw (copied-not a F l h))
 
--- the loop that copies: a turn, and its end
-pub copy-turn : (a i : ℕ) (F l whole : List ℕ) → i < length F → laid (a + i) (drop i F) l ≡ whole
-    → laid (a + (i + 1)) (drop (i + 1) F) (set l (a + i) (get_or F i 0)) ≡ whole
-copy-turn a i F l whole h e =
-    let q : a + (i + 1) ≡ suc (a + i) = omega arith in
-    rw (q, add-one i)
-    (sym (laid_cons (a + i) (get_or F i 0) (drop (suc i) F) l) ∙ ap (λ G. laid (a + i) G l) (sym (drop-cons F i 0 h)) ∙ e)
+-- a part of a buffer, written over by words as long as it, is those words laid
+pub put-laid : (a k : ℕ) (F l part : List ℕ) → part ≡ F → k ≡ length F → a + length F ≤ length l → put_mid a k l part ≡ laid a F l
+put-laid a k F l part e q h =
+    rw (e, q) (ap (λ d. take a l ++ (F ++ d)) (drop-drop (length F) a l) ∙ sym (laid-is a F l h))
 
-pub copy-end : (a i : ℕ) (F l whole : List ℕ) → length F ≤ i → laid (a + i) (drop i F) l ≡ whole → l ≡ whole
-copy-end a i F l whole h e = sym (laid_none (a + i) l) ∙ ap (λ G. laid (a + i) G l) (sym (drop_of_length-le F h)) ∙ e
-
--- the loop that clears n words: a turn, and its end
-pub clear-turn : (n i : ℕ) (l whole : List ℕ) → i < n → laid i (replicate (n - i) 0) l ≡ whole → laid (i + 1) (replicate (n - (i + 1)) 0) (set l i 0) ≡ whole
-clear-turn n i l whole h e =
-    let q : n - i ≡ suc (n - (i + 1)) = omega arith in
-    ap (λ k. laid k (replicate (n - (i + 1)) 0) (set l i 0)) (add-one i)
-    ∙ sym (laid_cons i 0 (replicate (n - (i + 1)) 0) l)
-    ∙ ap (λ k. laid i (replicate k 0) l) (sym q)
-    ∙ e
-
-pub clear-end : (n i : ℕ) (l whole : List ℕ) → n ≤ i → laid i (replicate (n - i) 0) l ≡ whole → l ≡ whole
-clear-end n i l whole h e =
-    let q : n - i ≡ 0 = omega arith in
-    sym (laid_none i l) ∙ ap (λ k. laid i (replicate k 0) l) (sym q) ∙ e
-
--- zeros laid from a place to the end are the buffer cleared from there
-pub laid-cleared : (a : ℕ) (l : List ℕ) → laid a (replicate (length l - a) 0) l ≡ cleared a l
+-- zeros written over all from a place on are the buffer cleared from there
+pub put-cleared : (a : ℕ) (l part : List ℕ) → a ≤ length l → part ≡ replicate (length (take (length l - a) (drop a l))) 0 → put_mid a (length l - a) l part ≡ cleared a l
 unfolding cleared
-laid-cleared a l =
-    by_le a (length l)
-    (λ h.
-    let n : ℕ = length l - a in
-    let z : List ℕ = replicate n 0 in
-    let e : length z ≡ n = length-replicate n 0 in
-    laid-is a (replicate n 0) l (omega arith)
-    ∙ ap (λ d. take a l ++ (replicate n 0 ++ d)) (drop_of_length-le l {i = a + length z} (omega arith))
-    ∙ ap (λ d. take a l ++ d) (append-nil (replicate n 0)))
-    (λ h.
+put-cleared a l part h e =
+    let n : length (drop a l) ≡ length l - a = length-drop a l in
+    let m : length (take (length l - a) (drop a l)) ≡ length l - a = length-take-le (length l - a) (drop a l) (omega arith) in
+    let d : drop (length l - a) (drop a l) ≡ [] = drop_of_length-le (drop a l) (omega arith) in
+    rw (e, m, d) (ap (λ x. take a l ++ x) (append-nil (replicate (length l - a) 0)))
+
+-- a buffer cleared from its end on is as it was
+pub cleared-none : (a : ℕ) (l : List ℕ) → length l < a → cleared a l ≡ l
+unfolding cleared
+cleared-none a l h =
     let q : length l - a ≡ 0 = omega arith in
-    rw (q, laid_none a l, take_all a l (omega arith)) (sym (append-nil l)))
+    rw (q, take_all a l (omega arith)) (append-nil l)
+
+-- the loops that store words one by one, the next at the place p: a turn, and its end
+pub store-turn : (p : ℕ) (F l whole : List ℕ) (i v : ℕ) → laid p (drop i F) l ≡ whole → i < length F → v ≡ get_or F i 0
+    → laid (p + 1) (drop (i + 1) F) (set l p v) ≡ whole
+store-turn p F l whole i v e h d =
+    rw (add-one p, add-one i, d)
+    (sym (laid_cons p (get_or F i 0) (drop (suc i) F) l) ∙ ap (λ G. laid p G l) (sym (drop-cons F i 0 h)) ∙ e)
+
+pub store-end : (p : ℕ) (F l whole : List ℕ) (i : ℕ) → laid p (drop i F) l ≡ whole → length F ≤ i → l ≡ whole
+store-end p F l whole i e h = sym (laid_none p l) ∙ ap (λ G. laid p G l) (sym (drop_of_length-le F h)) ∙ e
+
+pub copy-turn : (a : ℕ) (F l whole : List ℕ) (i : ℕ) → i < length F → laid (a + i) (drop i F) l ≡ whole
+    → laid (a + (i + 1)) (drop (i + 1) F) (set l (a + i) (get_or F i 0)) ≡ whole
+copy-turn a F l whole i h e =
+    let q : a + (i + 1) ≡ a + i + 1 = omega arith in
+    rw q (store-turn (a + i) F l whole i (get_or F i 0) e h refl)

@@ -1,4 +1,5 @@
 pub mod Laid
-pub mod Records
+pub mod RecordLaws
 pub mod Bytes
 pub mod Chunks
+pub mod Going

@@ -1,4 +1,5 @@
 pub mod Words
 pub mod Records
 pub mod Bytes
+pub mod Left
 pub mod Theorems

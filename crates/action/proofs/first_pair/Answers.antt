@@ -1,38 +1,28 @@
--- Turn k tries entry k of the pairs.
-use Rattle.std.proofs.Common.{◌≡◌, ◌<◌, rules, length, refl, arith}
-use Rattle.action.specs.Laws.{shown, pairs, commutes, first_pair}
+-- A turn is a search for a pair of one first action.
+use Rattle.std.proofs.Common.{arith}
+use Rattle.std.proofs.lemmas.Result.{err_from_is_err_and}
+use Rattle.action.specs.Laws.{shown}
 use Rattle.action.specs.declared.Action.TheVariants.{DontCare}
 use Rattle.action.proofs.Along.{hit, miss, none_left}
-use Rattle.action.proofs.Product.{pair-tried}
-use Rattle.action.proofs.Same.{met, unmet}
+use Rattle.action.proofs.Product.{pairs_by-first}
 use Rattle.action.proofs.first_pair.Goals as goal
 
-pub loop-k-init : goal.loop-k-init
-unfolding first_pair
-loop-k-init c = refl
+pub loop-a-init : goal.loop-a-init
+loop-a-init c = pairs_by-first c.args.cells.now
 
-pub returns-then-ne : goal.returns-then-ne
-unfolding pairs shown
-returns-then-ne c =
-    let l = c.loop-k in
-    let o = c.args.cells.now in
-    let h : l.k < length pairs = omega arith in
-    let unlike : c.join.result ≡ c.join-in-loop-k.result → ⊥ = search rules in
-    hit (commutes o) pairs (DontCare, DontCare) l.k h l.invariant
-    (pair-tried o l.k _ _ _ _ _ h c.showing-a.ensures c.showing-b.ensures c.join.ensures c.join-in-loop-k.ensures (unmet _ _ unlike))
-    refl
+pub returns-in_err-with_second : goal.returns-in_err-with_second
+unfolding shown
+returns-in_err-with_second c =
+    let l = c.loop-a in
+    let p = err_from_is_err_and c.from_residual.result c.from_residual.ensures.1 in
+    rw (p.1, p.2) (hit _ shown l.a-index l.invariant DontCare (omega arith) c.with_second.ensures c.in_err-with_second.was)
 
-pub loop-k-preserved : goal.loop-k-preserved
-unfolding pairs shown
-loop-k-preserved c =
-    let l = c.loop-k in
-    let o = c.args.cells.now in
-    let h : l.k < length pairs = omega arith in
-    let alike : c.join.result ≡ c.join-in-loop-k.result = search rules in
-    miss (commutes o) pairs (DontCare, DontCare) l.k h l.invariant
-    (pair-tried o l.k _ _ _ _ _ h c.showing-a.ensures c.showing-b.ensures c.join.ensures c.join-in-loop-k.ensures (met _ _ alike))
-    refl
+pub loop-a-preserved : goal.loop-a-preserved
+unfolding shown
+loop-a-preserved c =
+    let l = c.loop-a in
+    miss _ shown l.a-index l.invariant DontCare (omega arith) c.with_second.ensures c.in_ok-with_second.was
 
 pub returns : goal.returns
-unfolding pairs shown
-returns c = none_left _ pairs c.loop-k.k _ (omega arith) c.loop-k.invariant
+unfolding shown
+returns c = none_left _ shown c.loop-a.a-index c.loop-a.invariant (omega arith)

@@ -1,7 +1,7 @@
--- What is left of the search at turn k has the whole search's answer.
+-- What is left of the search along the first actions has the whole search's answer.
 use Rattle.std.proofs.Common.{◌≡◌, drop}
-use Rattle.action.specs.Laws.{along, pairs, commutes, first_pair}
+use Rattle.action.specs.Laws.{along, shown, first_pair, with_second}
 use Rattle.action.proofs.first_pair.Given as goal
 
-abbrev pub invariant-loop-k : goal.invariant-loop-k
-invariant-loop-k l = along (commutes l.cells) (drop l.k pairs) ≡ first_pair l.cells
+abbrev pub invariant-loop-a : goal.invariant-loop-a
+invariant-loop-a l = along (with_second l.cells) (drop l.a-index shown) ≡ first_pair l.cells

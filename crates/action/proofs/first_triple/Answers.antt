@@ -1,36 +1,28 @@
--- Turn k tries pair k with all thirds.
-use Rattle.std.proofs.Common.{◌<◌, length, arith}
-use Rattle.action.specs.Laws.{shown, pairs}
+-- A turn is a search for a triple of one first action.
+use Rattle.std.proofs.Common.{arith}
+use Rattle.std.proofs.lemmas.Result.{err_from_is_err_and}
+use Rattle.action.specs.Laws.{shown}
 use Rattle.action.specs.declared.Action.TheVariants.{DontCare}
-use Rattle.action.proofs.Along.{else-hit, else-miss, turn, none_left}
-use Rattle.action.proofs.Product.{by_pair, pair-thirds, triples-by-pair}
+use Rattle.action.proofs.Along.{hit, miss, none_left}
+use Rattle.action.proofs.Product.{triples_by-first}
 use Rattle.action.proofs.first_triple.Goals as goal
 
-pub loop-k-init : goal.loop-k-init
-loop-k-init c = triples-by-pair c.args.cells.now
+pub loop-a-init : goal.loop-a-init
+loop-a-init c = triples_by-first c.args.cells.now
 
-pub returns-in-Broken : goal.returns-in-Broken
-unfolding pairs shown
-returns-in-Broken c =
-    let l = c.loop-k in
-    let o = c.args.cells.now in
-    let h : l.k < length pairs = omega arith in
-    else-hit _ _ _
-    (turn (by_pair o) pairs (DontCare, DontCare) l.k h l.invariant
-    (pair-thirds o l.k _ _ _ h c.showing.ensures c.showing-in-loop-k.ensures c.with_third-found.ensures))
-    _ _ _ _ c.in-Broken.is
+pub returns-in_err-with_pair : goal.returns-in_err-with_pair
+unfolding shown
+returns-in_err-with_pair c =
+    let l = c.loop-a in
+    let p = err_from_is_err_and c.from_residual.result c.from_residual.ensures.1 in
+    rw (p.1, p.2) (hit _ shown l.a-index l.invariant DontCare (omega arith) c.with_pair.ensures c.in_err-with_pair.was)
 
-pub loop-k-preserved : goal.loop-k-preserved
-unfolding pairs shown
-loop-k-preserved c =
-    let l = c.loop-k in
-    let o = c.args.cells.now in
-    let h : l.k < length pairs = omega arith in
-    else-miss _ _ _
-    (turn (by_pair o) pairs (DontCare, DontCare) l.k h l.invariant
-    (pair-thirds o l.k _ _ _ h c.showing.ensures c.showing-in-loop-k.ensures c.with_third-found.ensures))
-    c.in_default.is
+pub loop-a-preserved : goal.loop-a-preserved
+unfolding shown
+loop-a-preserved c =
+    let l = c.loop-a in
+    miss _ shown l.a-index l.invariant DontCare (omega arith) c.with_pair.ensures c.in_ok-with_pair.was
 
 pub returns : goal.returns
-unfolding pairs shown
-returns c = none_left _ pairs c.loop-k.k _ (omega arith) c.loop-k.invariant
+unfolding shown
+returns c = none_left _ shown c.loop-a.a-index c.loop-a.invariant (omega arith)

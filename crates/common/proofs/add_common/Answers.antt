@@ -6,11 +6,11 @@ use Rattle.common.proofs.add_common.Goals as goal
 
 pub returns-then-not-overlap : goal.returns-then-not-overlap
 returns-then-not-overlap c =
-    lays-none (common-dropped _ _ _ c.read_match-other.ensures c.overlap.ensures c.if-not-overlap.true) (omega arith)
+    lays-none (common-dropped _ _ _ c.read-matching.ensures c.overlap.ensures c.if-not-overlap.true) (omega arith)
 
 pub returns : goal.returns
 returns c =
     lays-same
-    (common-kept _ _ _ c.read_match-other.ensures c.overlap.ensures c.if-not-overlap.false
-    c.common.ensures c.row_action.ensures c.join.ensures c.words_of_row-words.ensures)
+    (common-kept _ _ _ c.read-matching.ensures c.overlap.ensures c.if-not-overlap.false
+    c.common-matching.ensures c.row_action.ensures c.join-action.ensures c.words_of_row.ensures)
     c.append.ensures

@@ -1,22 +1,22 @@
 -- One turn of the loop is one row of the left table.
-use Rattle.std.proofs.Common.{arith}
-use Rattle.common.proofs.Turns.{common-rows-next, common-rows-end}
-use Rattle.common.proofs.Going.{start, step, stop, finish}
+use Rattle.std.proofs.Common.{ap, ◌∙◌, arith}
+use Rattle.row.specs.Left.{rows_left}
+use Rattle.common.proofs.Turns.{both-all, both-next, both-end}
+use Rattle.common.proofs.Going.{started, step, stop, finish}
 use Rattle.common.proofs.common_rows.Goals as goal
 
-pub loop-i-init : goal.loop-i-init
-loop-i-init c = (omega arith, start _ _ _ (omega arith))
+pub loop-row-init : goal.loop-row-init
+loop-row-init c =
+    started (both-all _ _ _ (ap rows_left c.into_iter-row-iterator.ensures.into_iter_gives ∙ c.of-row-items.ensures)) (omega arith)
 
 pub returns-in_err-done : goal.returns-in_err-done
 returns-in_err-done c =
     rw c.from_residual.ensures
-    (stop _ c.loop-i.invariant.1 (common-rows-next _ _ _ _ c.loop-i-test.true) c.common_with.ensures c.in_err-done.was)
+    (stop _ c.loop-row.invariant (both-next _ _ c.in-Some.ensures.steps) c.common_with.ensures c.in_err-done.was)
 
-pub loop-i-preserved : goal.loop-i-preserved
-loop-i-preserved c = (
-  omega arith,
-  step _ c.loop-i.invariant.1 (common-rows-next _ _ _ _ c.loop-i-test.true) c.common_with.ensures c.in_ok-done.was c.common_with.auto.out,
-)
+pub loop-row-preserved : goal.loop-row-preserved
+loop-row-preserved c =
+    step _ c.loop-row.invariant (both-next _ _ c.in-Some.ensures.steps) c.common_with.ensures c.in_ok-done.was c.common_with.auto.out
 
 pub returns : goal.returns
-returns c = finish c.loop-i.invariant.1 (common-rows-end _ _ _ _ c.loop-i-test.false)
+returns c = finish c.loop-row.invariant (both-end _ _ c.in-None.ensures.steps.0)

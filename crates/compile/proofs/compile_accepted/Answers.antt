@@ -10,7 +10,7 @@ pub overflow_mul-words : goal.overflow_mul-words
 overflow_mul-words c = omega (arith, c.room_of-words.ensures)
 
 pub returns-then-scratch-words : goal.returns-then-scratch-words
-returns-then-scratch-words c = no-scratch _ _ c.room_of-words.ensures c.if-scratch-words.true c.plain.ensures
+returns-then-scratch-words c = no-scratch _ _ c.room_of-words.ensures c.if-scratch-words.true c.at.ensures
 
 pub subtree-built-requires : goal.subtree-built-requires
 subtree-built-requires c =

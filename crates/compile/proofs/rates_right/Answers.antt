@@ -1,22 +1,14 @@
--- One turn of the loop is one row.
-use Rattle.compile.proofs.Settling.{rates-more, rates-wrong, rates-end}
+-- Asked of each row.
+use Rattle.std.proofs.Common.{◌∙◌, rules}
+use borrow.Author.Tests.{tests}
+use Rattle.std.proofs.lemmas.Iterator.Search.{all_from_yields_List}
+use Rattle.row.specs.Row.{right_row_action}
+use Rattle.compile.proofs.Rates.{rates-asked, rates-all}
 use Rattle.compile.proofs.rates_right.Goals as goal
-
-pub loop-row-preserved : goal.loop-row-preserved
-loop-row-preserved c =
-    let i = c.loop-row.invariant in
-    let g = c.in-Some.ensures.steps in
-    record {
-      size = rw g.0 i.size;
-      rest = rates-more c.loop-row.row-iterator c.next.new.self i.rest i.size c.in-Some.row g c.right_row_action.ensures c.if-not-right_row_action.false;
-    }
-
-pub returns-then-not-right_row_action : goal.returns-then-not-right_row_action
-returns-then-not-right_row_action c =
-    let i = c.loop-row.invariant in
-    rates-wrong c.loop-row.row-iterator c.next.new.self i.rest i.size c.in-Some.row c.in-Some.ensures.steps c.right_row_action.ensures
-    c.if-not-right_row_action.true
 
 pub returns : goal.returns
 returns c =
-    let i = c.loop-row.invariant in rates-end c.loop-row.row-iterator c.next.new.self i.rest i.size c.in-None.ensures.steps
+    all_from_yields_List right_row_action c.all.new.self _ _ c.all.ensures.ran
+    (rates-asked _ c.args.rows.now c.chunks_exact.ensures.size c.chunks_exact.ensures.rest)
+    (λ x b q k. search (rules, tests))
+    ∙ rates-all c.args.rows.now

@@ -4,7 +4,7 @@ use Rattle.compile.proofs.settle.Goals as goal
 
 pub returns-in_default : goal.returns-in_default
 returns-in_default c =
-    settles-full c.clear_from.ensures c.in_default.is c.clear_from-in_default.ensures c.plain.ensures
+    settles-full c.clear_from.ensures c.in_default.is c.clear_from-in_default.ensures c.at.ensures
 
 pub slice_bounds-rates_right-end : goal.slice_bounds-rates_right-end
 slice_bounds-rates_right-end c = within_end c.in-Some.is c.requires
@@ -12,7 +12,7 @@ slice_bounds-rates_right-end c = within_end c.in-Some.is c.requires
 pub returns-then-not-rates_right : goal.returns-then-not-rates_right
 returns-then-not-rates_right c =
     settles-wrong c.clear_from.ensures c.in-Some.is c.rates_right.ensures c.if-not-rates_right.true
-    c.clear_from-then-not-rates_right.ensures c.plain-then-not-rates_right.ensures
+    c.clear_from-then-not-rates_right.ensures c.at-then-not-rates_right.ensures
 
 pub returns : goal.returns
 returns c =

@@ -8,8 +8,8 @@ use Rattle.hidden.proofs.keep_rows.Goals.{then-not-inside_one, else-not-inside_o
 pub loop-i-init : goal.loop-i-init
 loop-i-init c = keeping_start c.args.table.now
 
-pub slice_bounds-read_match-end : goal.slice_bounds-read_match-end
-slice_bounds-read_match-end c = omega (arith, keeping-length c.loop-i.invariant)
+pub slice_bounds-read-end : goal.slice_bounds-read-end
+slice_bounds-read-end c = omega (arith, keeping-length c.loop-i.invariant)
 
 pub slice_bounds-row_action-end : goal.slice_bounds-row_action-end
 slice_bounds-row_action-end c = omega (arith, keeping-length c.loop-i.invariant)
@@ -21,9 +21,9 @@ loop-i-preserved c =
     elim c.if-not-inside_one.branch [
       | then-not-inside_one w ↦
           rw (w.table-is, w.to-is)
-          (keeping-stays k h _ c.read_match-m.ensures _ c.inside_one.ensures _ w.row_action.ensures _ w.words_of_row-words.ensures _ w.copy.ensures
+          (keeping-stays k h _ c.read-m.ensures _ c.inside_one.ensures _ w.row_action.ensures _ w.words_of_row-words.ensures _ w.copy.ensures
           w.if-not-inside_one.true)
-      | else-not-inside_one w ↦ rw (w.table-is, w.to-is) (keeping-goes k h _ c.read_match-m.ensures _ c.inside_one.ensures w.if-not-inside_one.false)
+      | else-not-inside_one w ↦ rw (w.table-is, w.to-is) (keeping-goes k h _ c.read-m.ensures _ c.inside_one.ensures w.if-not-inside_one.false)
     ]
 
 pub shape_of-table : goal.shape_of-table

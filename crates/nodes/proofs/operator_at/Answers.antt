@@ -6,4 +6,4 @@ use Rattle.nodes.proofs.operator_at.Goals as goal
 
 pub returns : goal.returns
 unfolding cells_at
-returns c = c.operator_of.ensures ∙ ap cells_of c.from_operator.ensures
+returns c = c.from_words.ensures ∙ ap cells_of c.from_operator.ensures

@@ -17,7 +17,7 @@ pub loop-j-preserved : goal.loop-j-preserved
 loop-j-preserved c =
     let l = c.loop-j in
     let g = c.args in
-    back-turn g.table.now g.levels.now g.i l.j l.best _ l.invariant c.loop-j-test.true _ c.row_match-m.ensures _ c.raised-best.ensures
+    back-turn g.table.now g.levels.now g.i l.j l.best _ l.invariant c.loop-j-test.true _ c.match_at-m.ensures _ c.raised-best.ensures
 
 pub returns : goal.returns
 returns c =

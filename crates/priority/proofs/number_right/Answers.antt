@@ -6,7 +6,7 @@ use Rattle.priority.proofs.number_right.Goals as goal
 pub returns-then-not-fits : goal.returns-then-not-fits
 returns-then-not-fits c =
     let g = c.args in
-    short-buffer g.table.now g.priorities.now g.chain.now g.rows c.requires c.if-not-fits.true
+    rw c.at.ensures (short-buffer g.table.now g.priorities.now g.chain.now g.rows c.requires c.if-not-fits.true)
 
 pub put_numbers-requires : goal.put_numbers-requires
 put_numbers-requires c =

@@ -6,4 +6,4 @@ pub returns-then-not-passes : goal.returns-then-not-passes
 returns-then-not-passes c = rw (c.if-not-passes.true, and-false)
 
 pub returns : goal.returns
-returns c = rw (c.overlap.ensures, c.row_match.ensures, c.if-not-passes.false, and-true)
+returns c = rw (c.overlap.ensures, c.match_at.ensures, c.if-not-passes.false, and-true)

@@ -8,8 +8,8 @@ returns-then-count-eq0 c =
     let g = c.args in
     linking-none g.table.now g.levels.now g.chain.now _ c.if-count-eq0.true
 
-pub put_place-requires : goal.put_place-requires
-put_place-requires c =
+pub put-requires : goal.put-requires
+put-requires c =
     let g = c.args in
     let s = linking-start g.table.now g.levels.now g.chain.now g.count _ c.requires.1 c.if-count-eq0.false c.requires.3
     c.first_of_level-at.ensures in
@@ -22,18 +22,18 @@ loop-l-init c =
       before = g.chain.now;
       link = linking-start g.table.now g.levels.now g.chain.now g.count _ c.requires.1 c.if-count-eq0.false c.requires.3
           c.first_of_level-at.ensures;
-      is = c.put_place.ensures;
+      is = c.put.ensures;
     }
 
-pub put_place-requires-in-loop-l : goal.put_place-requires-in-loop-l
-put_place-requires-in-loop-l c =
+pub put-requires-in-loop-l : goal.put-requires-in-loop-l
+put-requires-in-loop-l c =
     let g = c.loop-l.invariant in
     let t = linking-turn _ _ _ _ _ _ _ _ _ g.link c.loop-l-test.true g.is c.step_back-at.ensures in
     (t.within, omega (arith, t.row))
 
 pub loop-l-preserved : goal.loop-l-preserved
 loop-l-preserved c =
-    linked-turn _ _ _ _ _ _ _ _ _ c.loop-l.invariant c.loop-l-test.true c.step_back-at.ensures c.put_place-in-loop-l.ensures
+    linked-turn _ _ _ _ _ _ _ _ _ c.loop-l.invariant c.loop-l-test.true c.step_back-at.ensures c.put-in-loop-l.ensures
 
 pub returns : goal.returns
 returns c = linked-end _ _ _ _ _ _ _ c.loop-l.invariant c.loop-l-test.false

@@ -7,8 +7,8 @@ pub loop-word-preserved : goal.loop-word-preserved
 loop-word-preserved c =
     let l = c.loop-word in
     let g = c.args in (
-      length-set l.priorities l.word-index c.put_priority.new.word ∙ l.invariant.0,
+      length-set l.priorities l.word-index c.put.new.word ∙ l.invariant.0,
       word-turn (λ x. g.count - x)
           g.priorities.now l.priorities l.word-index l.invariant.1 l.invariant.0 (omega arith) _ _ refl
-          (ap (set l.priorities l.word-index) c.put_priority.ensures),
+          (ap (set l.priorities l.word-index) c.put.ensures),
     )

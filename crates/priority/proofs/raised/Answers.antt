@@ -9,7 +9,7 @@ use Rattle.priority.proofs.raised.Goals as goal
 pub returns-then-level-best : goal.returns-then-level-best
 returns-then-level-best c =
     let g = c.args in
-    raised-low g.best g.level (overlap (get_or (rows_in g.table.now) g.j past).match g.m) c.if-level-best.true
+    raised-low g.best g.level (overlap (get_or (rows_in g.table.now) g.j past).matching g.m) c.if-level-best.true
 
 pub returns-then-overlaps : goal.returns-then-overlaps
 returns-then-overlaps c =

@@ -35,10 +35,10 @@ module _ (ws : List ℕ) {n : Match} {p a : Bool} (read : n ≡ match_of ws) (pl
 
 pub returns-then-not-is_plain-right_row_action : goal.returns-then-not-is_plain-right_row_action
 returns-then-not-is_plain-right_row_action c =
-    wrong _ c.read_match-m.ensures c.is_plain.ensures c.right_row_action.ensures
+    wrong _ c.read-m.ensures c.is_plain.ensures c.right_row_action.ensures
     c.if-not-is_plain-right_row_action.true
 
 pub returns : goal.returns
 returns c =
-    by-packets _ c.read_match-m.ensures c.is_plain.ensures c.right_row_action.ensures
+    by-packets _ c.read-m.ensures c.is_plain.ensures c.right_row_action.ensures
     c.if-not-is_plain-right_row_action.false c.contradicts.ensures

@@ -1,7 +1,7 @@
 -- The row's words are laid behind the common rows.
 use Rattle.std.proofs.Common.{arith}
 use Rattle.rows.proofs.Own.{lays-then, lays-first-full}
-use Rattle.common.proofs.Going.{lays-case, lays-ends}
+use Rattle.common.proofs.Going.{lays-case, lays-same, lays-ends}
 use Rattle.rows.proofs.row_before.Goals as goal
 
 pub returns-in_err-end : goal.returns-in_err-end
@@ -12,4 +12,5 @@ append-requires c =
     let n = lays-ends c.common_with.ensures c.in_ok-end.was in omega (arith, n.1, c.common_with.auto.out)
 
 pub returns : goal.returns
-returns c = lays-then (lays-case c.in_ok-end.was c.common_with.ensures) c.append.ensures
+returns c =
+    lays-then (lays-case c.in_ok-end.was c.common_with.ensures) (lays-same c.words_of_row.ensures c.append.ensures)

@@ -1,13 +1,13 @@
--- The rows that the iterator still has to give are left to scan.
-use Rattle.std.proofs.Common.{◌≡◌}
-use mathlib.Core.List.{map}
-use Rattle.words.proofs.Chunks.{left, Going}
-use Rattle.row.specs.Row.{row_length, row_of, rows_in}
+-- The rows that are left are still to be scanned.
+use Rattle.std.proofs.Common.{◌≡◌, ◌+◌, length}
+use Rattle.row.specs.Row.{rows_in}
+use Rattle.row.specs.Left.{rows_left}
 use Rattle.table.specs.Scan.{found}
+use Rattle.table.specs.Table.{row_count}
 use Rattle.table.proofs.first_match.Given as goal
 
 abbrev pub invariant-loop-i : goal.invariant-loop-i
 invariant-loop-i l = record {
-  going : Going row_length l.table l.i-iterator;
-  rest : found l.i-iterator.count (map row_of (left row_length l.i-iterator.iter)) l.p ≡ found 0 (rows_in l.table) l.p;
+  rest : found l.i-iterator.count (rows_left l.i-iterator.iter) l.p ≡ found 0 (rows_in l.table) l.p;
+  all : l.i-iterator.count + length (rows_left l.i-iterator.iter) ≡ row_count l.table;
 }

@@ -4,7 +4,7 @@ use Rattle.table.proofs.Tables.{match-at, match-past}
 use Rattle.table.proofs.match_at.Goals as goal
 
 pub returns-then-i-table : goal.returns-then-i-table
-returns-then-i-table c = c.read_match.ensures ∙ match-at _ c.args.i c.if-i-table.true
+returns-then-i-table c = c.read.ensures ∙ match-at _ c.args.i c.if-i-table.true
 
 pub returns : goal.returns
-returns c = c.read_match-2.ensures ∙ match-past c.args.table.now c.args.i c.if-i-table.false
+returns c = c.read-2.ensures ∙ match-past c.args.table.now c.args.i c.if-i-table.false

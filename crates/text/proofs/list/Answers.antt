@@ -23,7 +23,7 @@ pub returns-then-right_input-clause-upper_bound : goal.returns-then-right_input-
 returns-then-right_input-clause-upper_bound c = puts-within c.list_file.ensures
 
 pub returns-clause-puts : goal.returns-clause-puts
-returns-clause-puts c = input-refused _ (sym c.right_input.ensures ∙ c.if-right_input.false) c.put_refusal.ensures
+returns-clause-puts c = input-refused _ (sym c.right_input.ensures ∙ c.if-right_input.false) (rw c.at.ensures at c.put.ensures)
 
 pub returns-clause-upper_bound : goal.returns-clause-upper_bound
-returns-clause-upper_bound c = puts-within c.put_refusal.ensures
+returns-clause-upper_bound c = puts-within c.put.ensures

@@ -17,4 +17,4 @@ pub returns-in-Ok : goal.returns-in-Ok
 returns-in-Ok c = file-listed c.compile.ensures refl refl c.in-Ok.is c.list_rows.ensures
 
 pub returns-in-Err : goal.returns-in-Err
-returns-in-Err c = file-refused c.compile.ensures refl refl c.in-Err.is c.put_refusal.ensures
+returns-in-Err c = file-refused c.compile.ensures refl refl c.in-Err.is c.put.ensures

@@ -27,4 +27,4 @@ returns-in-Ok c =
 pub returns-in-Err : goal.returns-in-Err
 returns-in-Err c =
     let pass = c.drop_hidden.ensures in
-    kept-refused c.args.table.now pass.value pass.table_after c.in-Err.is c.put_refusal.ensures
+    kept-refused c.args.table.now pass.value pass.table_after c.in-Err.is c.put.ensures

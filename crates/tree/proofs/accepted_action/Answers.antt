@@ -8,9 +8,9 @@ subtree-gave-requires c = start-reached _ _ c.requires _ c.root.ensures
 
 pub returns-then-not-right_packet_words : goal.returns-then-not-right_packet_words
 returns-then-not-right_packet_words c =
-    rw c.plain.ensures (accepted-refuses _ _ _ _ c.right_packet_words.ensures c.if-not-right_packet_words.true)
+    rw c.at.ensures (accepted-refuses _ _ _ _ c.right_packet_words.ensures c.if-not-right_packet_words.true)
 
 pub returns : goal.returns
 returns c =
     accepted-gives _ _ _ _ c.right_packet_words.ensures c.if-not-right_packet_words.false
-    (root-gave _ _ c.requires _ c.root.ensures _ c.read_packet.ensures c.subtree-gave.ensures)
+    (root-gave _ _ c.requires _ c.root.ensures _ c.read.ensures c.subtree-gave.ensures)

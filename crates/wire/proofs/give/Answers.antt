@@ -1,7 +1,7 @@
 -- A turn writes the bytes of the next block.
 use Rattle.std.proofs.Common.{◌++◌, ap, sym, ◌∙◌, append_assoc, rules}
 use Rattle.words.specs.Bytes.{bytes_of}
-use Rattle.words.proofs.Records.{flat_append}
+use Rattle.words.proofs.RecordLaws.{flat_append}
 use Rattle.wire.proofs.Known.{appends_then}
 use Rattle.wire.proofs.give.Goals as goal
 

@@ -1,10 +1,10 @@
--- A turn clears one word of those that are left; at the end nothing is left.
-use Rattle.std.proofs.Common.{◌∙◌, arith, length-set}
-use Rattle.words.proofs.Laid.{clear-turn, clear-end, laid-cleared}
+-- All from the place on is zeros, and behind the end there is nothing to clear.
+use Rattle.std.proofs.Common.{sym}
+use Rattle.words.proofs.Laid.{put-cleared, cleared-none}
 use Rattle.words.proofs.clear_from.Goals as goal
 
-pub loop-i-preserved : goal.loop-i-preserved
-loop-i-preserved c = simp length-set (clear-turn _ _ _ _ (omega arith) c.loop-i.invariant)
+pub returns-then-at-out : goal.returns-then-at-out
+returns-then-at-out c = put-cleared _ _ _ c.if-at-out.true (c.fill.ensures.after (λ y e. cc))
 
-pub returns : goal.returns
-returns c = clear-end _ _ _ _ (omega arith) c.loop-i.invariant ∙ laid-cleared _ _
+pub returns-else-at-out : goal.returns-else-at-out
+returns-else-at-out c = sym (cleared-none _ _ c.if-at-out.false)

@@ -4,4 +4,4 @@ use Rattle.flow.proofs.packets.right_packet_words.Goals as goal
 
 pub returns : goal.returns
 unfolding right_packet_words
-returns c = rw (c.right_packet.ensures, c.read_packet.ensures)
+returns c = rw (c.is_right.ensures, c.read.ensures)

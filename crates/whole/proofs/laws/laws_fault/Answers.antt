@@ -1,9 +1,9 @@
 -- A turn tries one operator.
-use Rattle.std.proofs.Common.{◌+◌, ap, ◌∙◌, drop, arith}
+use Rattle.std.proofs.Common.{ap, ◌∙◌}
 use Rattle.std.proofs.lemmas.Result.{err_from_is_err_and}
-use Rattle.words.specs.Records.{records}
-use Rattle.words.proofs.Chunks.{started, left-next, whole-range}
+use Rattle.words.proofs.Chunks.{started, left-next}
 use Rattle.section.specs.Numbers.{operator_length_in}
+use Rattle.section.specs.declared.EditionWords.{EditionWords}
 use Rattle.section.specs.Cells.{operator_rows}
 use Rattle.section.proofs.Each.{hit, miss}
 use Rattle.whole.specs.Whole.{node_records, operator_fault, laws_fault}
@@ -14,15 +14,10 @@ pub loop-i-init : goal.loop-i-init
 unfolding laws_fault
 loop-i-init c =
     let g = c.args in
-    let k = operator_length_in g.edition in
-    let s = started k _ _ _ _ c.chunks_exact.ensures.rest (c.chunks_exact.ensures.size ∙ c.operator_words.ensures) c.enumerate-i-items.ensures.source
-    c.enumerate-i-items.ensures.count c.into_iter-i-iterator.ensures.into_iter_gives in
-    let w = whole-range k g.operators (g.h + 1) c.behind-end.result g.file.now (operator-long g.edition) (omega (arith, c.behind-end.ensures))
-    (omega (arith, c.behind-end.ensures, c.requires.1)) in
-    record {
-      size = s.going.size;
-      same = rw (s.none, s.left, w);
-    }
+    let s = started (operator_length_in g.edition) g.operators.now _ _ _ c.chunks_exact.ensures.rest
+    (c.chunks_exact.ensures.size ∙ ap (λ (w : EditionWords). w.operator) c.words-step.ensures)
+    c.enumerate-i-items.ensures.source c.enumerate-i-items.ensures.count c.into_iter-i-iterator.ensures.into_iter_gives in
+    record { size = s.going.size; same = rw (s.none, s.left) }
 
 pub returns-in_err-operator_fault : goal.returns-in_err-operator_fault
 returns-in_err-operator_fault c =
@@ -32,10 +27,9 @@ returns-in_err-operator_fault c =
     let more = left-next k l.i-iterator.iter c.next.new.self.iter c.in-Some.operator (operator-long g.edition) l.invariant.size c.in-Some.ensures.steps.0 in
     let p = err_from_is_err_and c.from_residual.result c.from_residual.ensures.1 in
     rw (p.1, p.2, ← c.in_err-operator_fault.was)
-    (hit (operator_fault (node_records c.node_words-nodes.result.now)) l.i-iterator.count 1 l.invariant.same
+    (hit (operator_fault (node_records g.nodes.now)) l.i-iterator.count 1 l.invariant.same
     (ap (operator_rows g.edition) more ∙ operators-next g.edition _ _) (rw c.in-Some.ensures.steps.1 at c.operator_fault.ensures)
-    c.in_err-operator_fault.was
-    ∙ ap (λ ns. laws_fault ns (operator_rows g.edition (records g.operators k (drop (g.h + 1) g.file.now)))) c.node_words-nodes.ensures)
+    c.in_err-operator_fault.was)
 
 pub loop-i-preserved : goal.loop-i-preserved
 loop-i-preserved c =
@@ -46,7 +40,7 @@ loop-i-preserved c =
     record {
       size = c.in-Some.ensures.steps.0.0 ∙ l.invariant.size;
       same = rw c.in-Some.ensures.steps.2
-          (miss (operator_fault (node_records c.node_words-nodes.result.now)) l.i-iterator.count 1 l.invariant.same
+          (miss (operator_fault (node_records g.nodes.now)) l.i-iterator.count 1 l.invariant.same
           (ap (operator_rows g.edition) more ∙ operators-next g.edition _ _)
           (rw c.in-Some.ensures.steps.1 at c.operator_fault.ensures) c.in_ok-operator_fault.was);
     }

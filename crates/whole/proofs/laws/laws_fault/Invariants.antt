@@ -1,7 +1,6 @@
 -- The operators that are left come to what all operators come to.
-use Rattle.std.proofs.Common.{◌≡◌, ◌+◌, drop}
-use Rattle.words.specs.Records.{records}
-use Rattle.words.proofs.Chunks.{left}
+use Rattle.std.proofs.Common.{◌≡◌}
+use Rattle.words.proofs.Chunks.{left, whole}
 use Rattle.section.specs.Numbers.{operator_length_in}
 use Rattle.section.specs.Cells.{operator_rows}
 use Rattle.section.specs.Sections.{each}
@@ -14,5 +13,5 @@ invariant-loop-i l = record {
   same : each (operator_fault (node_records l.nodes)) l.i-iterator.count 1
       (operator_rows l.edition (left (operator_length_in l.edition) l.i-iterator.iter))
       ≡ laws_fault (node_records l.nodes)
-      (operator_rows l.edition (records l.operators (operator_length_in l.edition) (drop (l.h + 1) l.file)));
+      (operator_rows l.edition (whole (operator_length_in l.edition) l.operators));
 }

@@ -15,6 +15,6 @@ loop-node-preserved c =
     let s : own_atoms (left node_length l.node-iterator) ≡ own_of c.in-Some.node.now + own_atoms behind = ap own_atoms more in
     record {
       size = c.in-Some.ensures.steps.0 ∙ l.invariant.size;
-      small = omega (arith, l.invariant.small, c.word.type_inv, c.word.ensures, c.wide-sum.ensures);
-      same = omega (arith, l.invariant.same, c.word.ensures, c.wide-sum.ensures);
+      small = omega (arith, l.invariant.small, c.word.type_inv, c.word.ensures);
+      same = omega (arith, l.invariant.same, c.word.ensures);
     }

@@ -1,7 +1,0 @@
--- Its flags and its protocol tell.
-use Rattle.flow.specs.Match.{contradicts}
-use Rattle.flow.proofs.matches.contradicts.Goals as goal
-
-pub returns : goal.returns
-unfolding contradicts
-returns c = c.clash.ensures

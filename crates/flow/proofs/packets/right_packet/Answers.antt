@@ -1,9 +1,0 @@
--- The addresses have 32 bits since they are u32, and the rest is the definition.
-use Rattle.std.proofs.Common.{arith, ◌^◌}
-use borrow.Author.Tests.{lt-ltb}
-use Rattle.flow.specs.Packet.{right_packet}
-use Rattle.flow.proofs.packets.right_packet.Goals as goal
-
-pub returns : goal.returns
-unfolding right_packet
-returns c = rw (lt-ltb c.args.p.source (2 ^ 32) (omega arith), lt-ltb c.args.p.destination (2 ^ 32) (omega arith))

@@ -1,0 +1,36 @@
+-- A row against its words: written, then read, and read, then written. Assumes nothing.
+use Prim.Native.Nat.{ℕ, ◌*◌}
+use native.Mathlib.Omega.{arith}
+use mathlib.Core.Path.{◌≡◌, sym, ap, ap₂, ◌∙◌}
+use mathlib.Core.Bool.{true}
+use mathlib.Core.List.{List, [], ◌∷◌, ◌++◌}
+use lib.ListN.{get_or, length, drop, drop_of_length-le}
+use lib.Seq.{drop-cons}
+use Rattle.words.proofs.RecordLaws.{length-flat}
+use Rattle.theory.specs.declared.Row.{Row}
+use Rattle.flow.specs.Match.{match_length, match_of, match_words}
+use Rattle.flow.specs.declared.Match.{Match}
+use Rattle.flow.proofs.Words.{match-read-words}
+use Rattle.action.specs.Action.{kind_of, rate_of, action_of}
+use Rattle.action.specs.declared.Action.{Action}
+use Rattle.action.proofs.Words.{words-of-action}
+use Rattle.row.specs.Spelled.{row-some, row-long, row_back}
+use Rattle.row.specs.Row.{row_length, row_of, row_action, row_words, words_of, kind_place, rate_place, right_row_action}
+
+-- rows have so many words
+pub words_count : (N : List (Row Match Action)) → length (words_of N) ≡ length N * row_length
+words_count N = length-flat row_length row_of row-some row_words row-long row_back N
+
+-- words with a right action are those of the row that they are
+pub words_back : (ws : List ℕ) → length ws ≡ row_length → right_row_action ws ≡ true → row_words (row_of ws) ≡ ws
+unfolding row_action right_row_action
+words_back ws h right =
+    let k : ℕ = get_or ws kind_place 0 in
+    let n : ℕ = get_or ws rate_place 0 in
+    let w : (kind_of (action_of k n) ≡ k) × (rate_of (action_of k n) ≡ n) = words-of-action k n right in
+    let behind : drop match_length ws ≡ k ∷ n ∷ [] =
+    drop-cons ws kind_place 0 (omega arith)
+    ∙ ap (λ l. k ∷ l) (drop-cons ws rate_place 0 (omega arith) ∙ ap (λ l. n ∷ l) (drop_of_length-le ws {i = row_length} (omega arith))) in
+    ap₂ (λ x y. match_words (match_of ws) ++ (x ∷ y ∷ [])) w.0 w.1
+    ∙ ap (λ l. match_words (match_of ws) ++ l) (sym behind)
+    ∙ match-read-words ws (omega arith)

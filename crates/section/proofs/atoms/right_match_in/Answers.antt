@@ -1,7 +1,0 @@
--- There is one edition, and of its atoms a row's test reads no more than a row has.
-use Rattle.section.proofs.Editions.{one-edition}
-use Rattle.section.proofs.Lengths.{match-first}
-use Rattle.section.proofs.atoms.right_match_in.Goals as goal
-
-pub returns : goal.returns
-returns c = rw (one-edition c.args.edition, c.right_row_match.ensures, match-first)
