@@ -101,10 +101,12 @@ module _ {ws table : List ℕ} {i to : ℕ} (k : Keeping ws table i to) where
           }
 
       -- it stays, and is stored behind those that do
-      module _ (a : Action) (p : a ≡ row_action (nth table i)) (row : List ℕ) (w : row ≡ row_words (record { matching = m; action = a }))
-          (table' : List ℕ) (s : table' ≡ copied to row table) where
+      module _ (a : Action) (p : a ≡ row_action (nth table i)) (table' : List ℕ) (s : table' ≡ copied to (row_words (record { matching = m; action = a })) table) where
+        abbrev row : List ℕ
+        row = row_words (record { matching = m; action = a })
+
         row_next : row ≡ row_words next
-        row_next = w ∙ ap₂ (λ x y. row_words (record { matching = x; action = y })) q p ∙ ap row_words next-words
+        row_next = ap₂ (λ x y. row_words (record { matching = x; action = y })) q p ∙ ap row_words next-words
 
         pub keeping-stays : b ≡ false → Keeping ws table' (i + 1) (to + row_length)
         keeping-stays t =

@@ -11,9 +11,9 @@ ghost use Rattle.hidden.specs.Hidden.{kept_words, kept_of, table_kept};
 
 use flow::Match;
 use refusal::Refusal;
-use row::{ROW_WORDS, Rows, row_action, words_of_row};
+use row::{ROW_WORDS, Row, RowSpelling, Rows, row_action};
 use table::check;
-use words::{clear_from, copy};
+use words::{Written, clear_from};
 
 // Takes the hidden rows out of a table: the others move to its front, in order, and the words
 // behind them become 0. Answers how many rows stay.
@@ -41,8 +41,11 @@ fn keep_rows(table: &mut [u32]) -> usize
         // The action is read where the row stays: no row that goes needs it.
         let m = Match::read(&table[from..end]);
         if !inside_one(m, &table[..to]) {
-            let words = words_of_row(m, row_action(&table[from..end]));
-            copy(table, to, &words);
+            let row = Row {
+                matching: m,
+                action: row_action(&table[from..end]),
+            };
+            RowSpelling::write(table, to, row);
             to += ROW_WORDS;
         }
     }

@@ -21,7 +21,7 @@ loop-i-preserved c =
     elim c.if-not-inside_one.branch [
       | then-not-inside_one w ↦
           rw (w.table-is, w.to-is)
-          (keeping-stays k h _ c.read-m.ensures _ c.inside_one.ensures _ w.row_action.ensures _ w.words_of_row-words.ensures _ w.copy.ensures
+          (keeping-stays k h _ c.read-m.ensures _ c.inside_one.ensures _ w.row_action.ensures _ w.write.ensures
           w.if-not-inside_one.true)
       | else-not-inside_one w ↦ rw (w.table-is, w.to-is) (keeping-goes k h _ c.read-m.ensures _ c.inside_one.ensures w.if-not-inside_one.false)
     ]
