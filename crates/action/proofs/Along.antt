@@ -1,37 +1,27 @@
--- A search along a list: a loop's turn at an entry, and what its answer says of the entries; by the answer that an entry gives.
-use Prim.Native.Nat.{ℕ, suc, ◌+◌, ◌≤◌, ◌<◌}
-use native.Mathlib.Numerals.{add-one}
+-- A search along a list: what its answer says of the entries, and a chain that searches; by the answer that an entry gives.
+use Prim.Native.Nat.{ℕ}
 use native.Mathlib.Omega.{arith}
-use mathlib.Core.Path.{◌≡◌, refl, sym, ap, ap₂, ◌∙◌}
+use mathlib.Core.Path.{◌≡◌, refl, sym, ap, ap₂, subst, ◌∙◌}
+use denote.Param.Members.{Mut}
+use Rattle.std.specs.Fn.{Called}
+use Rattle.std.specs.List.{FoldsTo}
+use Rattle.std.specs.Iterator.{Yields, YieldsThen, AlwaysYields, TryForEachTurn}
+use Rattle.std.specs.Option.{MatchOption}
+use Rattle.std.specs.Result.{IsErr, IsErrAnd, result_from_control_flow}
+use Rattle.std.specs.declared.ops.ControlFlow.TheVariants.{Continue, Break}
+use Rattle.std.proofs.lemmas.Result.{err_from_is_err_and}
+use Rattle.std.proofs.lemmas.Iterator.{YieldsList}
+use Rattle.std.specs.Prelude.{Option, Some, None}
 use mathlib.Core.Logic.{⊎_elim}
-use mathlib.Core.Bool.{Bool, true, false, cond, ◌&&◌}
+use mathlib.Core.Bool.{Bool, true, ◌&&◌}
 use mathlib.Core.List.Memᴰ
 use mathlib.Core.List.{List, [], ◌∷◌, ◌++◌, map, foldr}
-use lib.ListN.{get_or, length, drop, drop_of_length-le}
-use lib.Seq.{drop-cons}
 use Rattle.logic.proofs.Tests.{and_left, and_right}
 use Rattle.std.specs.Prelude.{Ok, Err}
 use Rattle.action.specs.Laws.{◌else◌, ◌among◌, Searched, along, product}
 use Rattle.action.specs.declared.LawFailure.{LawFailure}
 
--- a turn of the loop at entry k of the list, where w is the whole search's answer and x is what the entry shows: a failure is the answer, and else the
--- search goes on
-module _ {X : Type 0} (t : X → Searched) (xs : List X) (k : ℕ) {w : Searched} (inv : along t (drop k xs) ≡ w) where
-  module _ (d : X) (h : k < length xs) {x : Searched} (e : x ≡ t (get_or xs k d)) where
-    next : w ≡ ◌else◌ x (along t (drop (k + 1) xs))
-    next = sym inv ∙ rw (drop-cons xs k d h, e, add-one)
-
-    pub hit : {f : LawFailure} → x ≡ Err f → Err f ≡ w
-    hit g = sym (rw g at next)
-
-    pub miss : x ≡ Ok tt → along t (drop (k + 1) xs) ≡ w
-    miss g = sym (rw g at next)
-
-  -- at the list's end nothing was found
-  pub none_left : length xs ≤ k → Ok tt ≡ w
-  none_left h = rw (drop_of_length-le xs h) at inv
-
--- searches along a joined list, along a list's images, and along equal tests
+-- searches along a joined list, and along a list's images
 else-assoc : (x y z : Searched) → ◌else◌ x (◌else◌ y z) ≡ ◌else◌ (◌else◌ x y) z
 else-assoc (Ok u) y z = refl
 else-assoc (Err f) y z = refl
@@ -43,10 +33,6 @@ along-append t (x ∷ xs) ys = ap (λ z. ◌else◌ (t x) z) (along-append t xs 
 along-map : {X Y : Type 0} (t : Y → Searched) (f : X → Y) (xs : List X) → along t (map f xs) ≡ along (λ x. t (f x)) xs
 along-map t f [] = refl
 along-map t f (x ∷ xs) = ap (λ z. ◌else◌ (t (f x)) z) (along-map t f xs)
-
-pub along-same : {X : Type 0} (t u : X → Searched) → ((x : X) → t x ≡ u x) → (xs : List X) → along t xs ≡ along u xs
-along-same t u e [] = refl
-along-same t u e (x ∷ xs) = ap₂ (λ (y z : Searched). ◌else◌ y z) (e x) (along-same t u e xs)
 
 -- a search along all pairs is one along the first list, of searches along the second
 pub along-product : {X Y : Type 0} (t : X × Y → Searched) (xs : List X) (ys : List Y) → along t (product xs ys) ≡ along (λ x. along (λ y. t (x, y)) ys) xs
@@ -90,3 +76,43 @@ pub all_among : {X : Type 0} (t : X → Bool) (xs : List X) → foldr (λ x b. t
 all_among t [] e x m = absurd (Memᴰ.not-nil m)
 all_among t (y ∷ ys) e x m =
     ⊎_elim (λ p. rw p (and_left (t y) _ e)) (λ n. all_among t ys (and_right (t y) _ e) x n) (Memᴰ.cases_cons m)
+
+-- what the first of two answers makes of both
+passes : (x y : Searched) → x ≡ Ok tt → y ≡ ◌else◌ x y
+passes x y e = rw e
+
+fails : (f : LawFailure) (x y : Searched) → x ≡ Err f → Err f ≡ ◌else◌ x y
+fails f x y e = rw e
+
+-- what a chain of searches answers, where o is the item at which it broke off
+abbrev Stops : {A F : Type 0} → Mut F (A × Unit {0}) Searched → Searched → F → Option A → Type 0
+Stops {A} {F} g r j o = MatchOption o (r ≡ result_from_control_flow (Continue tt)) (λ x. (w : Searched) × (h : F) × (e : _) × Called g j (x, tt) w h
+    × (w ≡ result_from_control_flow (Break e)) × (IsErr r × IsErrAnd r (λ y. y ≡ e.0)))
+
+-- a chain that tries a search at each of a list and hands on the first failure is a search along the list
+module _ {S A X F : Type 0} (steps : S → Option A → S → Type 0) (v : A → X) (g : Mut F (A × Unit {0}) Searched) (t : X → Searched) (f : F)
+    (answers : (x : A) (w : Searched) (q : F) → Called g f (x, tt) w q → (q ≡ f) × (w ≡ t (v x))) where
+  tries : (xs : List A) (all : List X) (s k u : S) (j : F) (o : Option A) (r : Searched) → AlwaysYields steps v s all → Yields steps s xs k
+      → FoldsTo (TryForEachTurn g (λ w b. w ≡ result_from_control_flow b)) f xs j → steps k o u → Stops g r j o → r ≡ along t all
+  tries [] [] s k u j None r e y c p m = m
+  tries [] [] s k u j (Some x) r e y c p m = absurd (e x u (subst (λ z. steps z (Some x) u) (sym y) p))
+  tries [] (z ∷ all) s k u j None r e y c p m = absurd (e.0 u (subst (λ z. steps z None u) (sym y) p))
+  tries [] (z ∷ all) s k u j (Some x) r e y c p m =
+      let a = (e.1 x u (subst (λ z. steps z (Some x) u) (sym y) p)).0 in
+      let b = answers x m.0 m.1 (subst (λ q. Called g q (x, tt) m.0 m.1) (sym c) m.3) in
+      let q = err_from_is_err_and r m.5.1 in
+      q.1 ∙ ap Err q.2 ∙ fails m.2.0 (t z) (along t all) (ap t (sym a) ∙ sym b.1 ∙ m.4)
+  tries (x ∷ xs) [] s k u j o r e y c p m = absurd (e x y.0 y.1)
+  tries (x ∷ xs) (z ∷ all) s k u j o r e y c p m =
+      let a = e.1 x y.0 y.1 in
+      let b = answers x c.1.0 c.0 c.1.1 in
+      tries xs all y.0 k u j o r a.1 y.2 (subst (λ q. FoldsTo (TryForEachTurn g (λ w b. w ≡ result_from_control_flow b)) q xs j) b.0 c.2) p m
+      ∙ passes (t z) (along t all) (ap t (sym a.0) ∙ sym b.1 ∙ c.1.2)
+
+pub tried : {S A X F : Type 0} {steps : S → Option A → S → Type 0} {v : A → X} {g : Mut F (A × Unit {0}) Searched} {s : S} {all : List X}
+    (t : X → Searched) (u : S) (f : F) (r : Searched)
+    → (xs : List A) × (o : Option A) × (j : F) × YieldsThen steps s xs o u × FoldsTo (TryForEachTurn g (λ w b. w ≡ result_from_control_flow b)) f xs j × Stops g r j o
+    → YieldsList steps v s all
+    → ((x : A) (w : Searched) (q : F) → Called g f (x, tt) w q → (q ≡ f) × (w ≡ t (v x)))
+    → r ≡ along t all
+tried {steps = steps} {v = v} {g = g} {s = s} {all = all} t u f r d e answers = tries steps v g t f answers d.0 all s d.3.0 u d.2 d.1 r e.runs d.3.1 d.4 d.3.2 d.5

@@ -1,20 +1,20 @@
 -- The finite search refuses exactly the operators that break a law, at any rates: what holds along the list carries over by a change of rates.
 use Prim.Native.Nat.{ℕ}
 use native.Mathlib.Omega.{arith}
-use mathlib.Core.Path.{◌≡◌, refl, sym}
+use mathlib.Core.Path.{◌≡◌, refl}
 use Rattle.std.specs.Prelude.{Ok, Err}
-use mathlib.Core.Bool.{Bool, true, false, cond}
+use mathlib.Core.Bool.{Bool, true, false}
 use mathlib.Core.List.{List}
 use Rattle.logic.proofs.Tests.{by-test}
 use Rattle.action.specs.Action.{rate_of, in_range}
 use Rattle.action.specs.Operator.{join}
 use Rattle.action.specs.Laws.{◌among◌, Commutative, Associative, same, shown, pairs, triples, commutes, associates, first_pair, first_triple, law_search}
-use Rattle.action.specs.Laws.{Searched, failure, told, Shows}
+use Rattle.action.specs.Laws.{Searched, told, Shows}
 use Rattle.action.specs.Theorems.{SearchExact, SearchShows, ShownInRange}
 use Rattle.action.specs.declared.Action.{Action}
 use Rattle.action.specs.declared.Action.TheVariants.{DontCare, Allow, Deny, Gmb}
-use Rattle.action.specs.declared.Law.TheVariants.{Commutativity, Associativity}
 use Rattle.action.specs.declared.LawFailure.{LawFailure}
+use Rattle.action.specs.declared.LawFailure.TheVariants.{Commutativity, Associativity}
 use Rattle.action.proofs.Along.{else-left, else-right, along-ok, ok-along, else-failure, along-failure, all_among}
 use Rattle.action.proofs.Product.{among-product, product-among}
 use Rattle.action.proofs.Joined.{identity}
@@ -127,19 +127,16 @@ search-shows o f e =
     (along-failure (associates o) triples f triple)
     e
   where
-    Breaks : LawFailure → Type 0
-    Breaks g = Shows o g.law g.first g.second g.third
-
-    pair : (p : Action × Action) → p among pairs → commutes o p ≡ Err f → Breaks f
+    pair : (p : Action × Action) → p among pairs → commutes o p ≡ Err f → Shows o f
     pair p m =
         let (u, v) = p in
         let h = product-among p shown shown m in
-        broken Breaks (join o u v) (join o v u) (failure Commutativity u v DontCare) (λ n. (h.0, h.1, refl, n))
+        broken (Shows o) (join o u v) (join o v u) (Commutativity u v) (λ n. (h.0, h.1, n))
 
-    triple : (t : Action × (Action × Action)) → t among triples → associates o t ≡ Err f → Breaks f
+    triple : (t : Action × (Action × Action)) → t among triples → associates o t ≡ Err f → Shows o f
     triple t m =
         let (u, p) = t in
         let (v, w) = p in
         let h = product-among t shown pairs m in
         let k = product-among p shown shown h.1 in
-        broken Breaks (join o (join o u v) w) (join o u (join o v w)) (failure Associativity u v w) (λ n. (h.0, k.0, k.1, n))
+        broken (Shows o) (join o (join o u v) w) (join o u (join o v w)) (Associativity u v w) (λ n. (h.0, k.0, k.1, n))

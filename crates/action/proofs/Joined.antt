@@ -1,9 +1,10 @@
 -- Joining: don't care is the identity, and the code's ways through a join are the definition's; by its tests.
 use Prim.Native.Nat.{ℕ, ◌+◌, ◌*◌, ◌-◌}
-use mathlib.Core.Path.{◌≡◌, refl}
+use native.Mathlib.Omega.{arith}
+use mathlib.Core.Path.{◌≡◌, refl, sym, ◌∙◌}
 use mathlib.Core.List.{List}
 use lib.ListN.{get_or}
-use borrow.Author.Tests.{eq-eqb, ne_eqb}
+use borrow.Author.Tests.{ne_eqb}
 use Rattle.action.specs.Action.{kind_of}
 use Rattle.action.specs.Operator.{kinds, coded, join}
 use Rattle.action.specs.Theorems.{Identity}
@@ -22,15 +23,21 @@ identity o a = (refl, right a)
     right (Gmb n) = refl
 
 -- the three ways through `join`
-module _ (o : List ℕ) (a b : Action) (k l : ℕ) (p : k ≡ kind_of a) (q : l ≡ kind_of b) where
-  pub join-left-none : k ≡ 0 → b ≡ join o a b
-  unfolding join
-  join-left-none t = rw (← p, t)
+pub join-left-none : (o : List ℕ) (a b : Action) → a ≡ DontCare → b ≡ join o a b
+unfolding join
+join-left-none o a b e = rw e refl
 
-  pub join-right-none : ¬ (k ≡ 0) → l ≡ 0 → a ≡ join o a b
-  unfolding join
-  join-right-none s t = rw (← p, ← q, ne_eqb k 0 s, eq-eqb l 0 t)
+pub join-right-none : (o : List ℕ) (a b : Action) → b ≡ DontCare → a ≡ join o a b
+join-right-none o a b e = rw e (sym (identity o a).1)
 
-  pub join-coded : (r : Action) → ¬ (k ≡ 0) → ¬ (l ≡ 0) → r ≡ coded (get_or o ((k - 1) * kinds + (l - 1)) 0) a b → r ≡ join o a b
-  unfolding join
-  join-coded r s t e = rw (← p, ← q, ne_eqb k 0 s, ne_eqb l 0 t) e
+without-kind : (a : Action) → kind_of a ≡ 0 → a ≡ DontCare
+without-kind DontCare e = refl
+without-kind Allow e = absurd (omega (arith, e))
+without-kind Deny e = absurd (omega (arith, e))
+without-kind (Gmb n) e = absurd (omega (arith, e))
+
+pub join-coded : (o : List ℕ) (a b : Action) (k l : ℕ) → k ≡ kind_of a → l ≡ kind_of b → (r : Action) → ¬ (a ≡ DontCare) → ¬ (b ≡ DontCare)
+    → r ≡ coded (get_or o ((k - 1) * kinds + (l - 1)) 0) a b → r ≡ join o a b
+unfolding join
+join-coded o a b k l p q r s t e =
+    rw (← p, ← q, ne_eqb k 0 (λ z. s (without-kind a (sym p ∙ z))), ne_eqb l 0 (λ z. t (without-kind b (sym q ∙ z)))) e

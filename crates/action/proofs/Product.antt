@@ -3,7 +3,7 @@ use Prim.Native.Nat.{ℕ}
 use mathlib.Core.Path.{◌≡◌, sym, ap, ap₂}
 use mathlib.Core.Logic.{⊎_elim}
 use mathlib.Core.List.Memᴰ
-use mathlib.Core.List.{List, [], ◌∷◌, ◌++◌, map}
+use mathlib.Core.List.{List, [], ◌∷◌, map}
 use Rattle.action.specs.Laws.{◌among◌, along, product, shown, pairs, triples, commutes, associates}
 use Rattle.action.specs.Laws.{first_pair, with_second, first_triple, with_pair, with_third}
 use Rattle.action.specs.declared.Action.{Action}

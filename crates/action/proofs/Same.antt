@@ -1,16 +1,14 @@
 -- The test of equal actions, against their equality.
 use Prim.Native.Nat.{ℕ}
 use native.Mathlib.Omega.{arith}
-use mathlib.Core.Path.{◌≡◌, refl, sym, ap, ap₂, ◌∙◌}
-use mathlib.Core.Bool.{Bool, true, false}
+use mathlib.Core.Path.{◌≡◌, sym, ap, ap₂, ◌∙◌}
+use mathlib.Core.Bool.{true, false}
 use lib.Dec.{eqb}
 use borrow.Author.Tests.{eqb-true, eq-eqb}
 use Rattle.logic.proofs.Tests.{and_left, and_right, and_both}
 use Rattle.action.specs.Action.{kind_of, rate_of, action_of}
-use Rattle.action.specs.Laws.{same, told}
+use Rattle.action.specs.Laws.{same}
 use Rattle.action.specs.declared.Action.{Action}
-use Rattle.action.specs.declared.LawFailure.{LawFailure}
-use Rattle.std.specs.Prelude.{Ok, Err}
 use Rattle.action.proofs.Words.{action-of-words}
 
 pub same-eq : (a b : Action) → same a b ≡ true → a ≡ b
@@ -24,18 +22,3 @@ eq-same a b e = and_both (eq-eqb _ _ (ap kind_of e)) (eq-eqb _ _ (ap rate_of e))
 
 pub unequal : (x y : Action) → same x y ≡ false → ¬ (x ≡ y)
 unequal x y t e = let z : ◌≡◌ {A = ℕ} 0 1 = cc (eq-same x y e) in omega arith
-
--- what a comparison of two actions found, as a search tells it
-module _ (f : LawFailure) {x y : Action} where
-  pub told-by : {u v : Action} → x ≡ u → y ≡ v → told (same x y) f ≡ told (same u v) f
-  told-by p q = rw (p, q)
-
-  pub keeps : x ≡ y → told (same x y) f ≡ Ok tt
-  keeps e = rw (eq-same x y e)
-
-  pub shows : (x ≡ y → ⊥) → told (same x y) f ≡ Err f
-  shows n = go (same x y) (same-eq x y)
-    where
-      go : (t : Bool) → (t ≡ true → x ≡ y) → told t f ≡ Err f
-      go false g = refl
-      go true g = absurd (n (g refl))

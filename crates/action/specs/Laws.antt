@@ -2,7 +2,6 @@
 --
 --   Commutative o, Associative o   the laws, over all actions in range
 --   same a b                       equal actions
---   failure l a b c                a broken law and the actions that show it
 --   Searched                       what a search finds: nothing, or a failure
 --   told kept f                    nothing where a law is kept, else its failure
 --   commutes o (a, b)              nothing, or the failure that a pair shows; associates o (a, (b, c)) for a triple
@@ -14,16 +13,15 @@
 --   with_pair o a                  the first triple of a and some pair; with_third o a b that of a, b and some third
 --   law_search o                   the search: pairs, then triples
 --   x among xs                     an entry of a list
---   Shows o l a b c                actions of the list that break the law l
+--   Shows o f                      the actions that f names are of the list, and show that the law that it names is broken
 use Rattle.std.specs.Prelude.{ℕ, ◌≡◌, Bool, true, cond, ◌&&◌, eqb, Result, Ok, Err}
 use mathlib.Core.List.{List, [], ◌∷◌, ◌++◌, map, Memᴰ}
 use Rattle.action.specs.Action.{kind_of, rate_of, in_range}
 use Rattle.action.specs.Operator.{join}
 use Rattle.action.specs.declared.Action.{Action}
-use Rattle.action.specs.declared.Action.TheVariants.{DontCare, Allow, Deny, Gmb}
-use Rattle.action.specs.declared.Law.{Law}
-use Rattle.action.specs.declared.Law.TheVariants.{Commutativity, Associativity}
+use Rattle.action.specs.declared.Action.TheVariants.{Allow, Deny, Gmb}
 use Rattle.action.specs.declared.LawFailure.{LawFailure}
+use Rattle.action.specs.declared.LawFailure.TheVariants.{Commutativity, Associativity}
 
 -- commutative over all actions in range
 abbrev pub Commutative : List ℕ → Type 0
@@ -39,10 +37,6 @@ Associative o =
 abbrev pub same : Action → Action → Bool
 same a b = eqb (kind_of a) (kind_of b) && eqb (rate_of a) (rate_of b)
 
--- a broken law and the actions that show it
-abbrev pub failure : Law → Action → Action → Action → LawFailure
-failure l a b c = record { law = l; first = a; second = b; third = c }
-
 -- what a search finds: nothing, or a failure
 abbrev pub Searched : Type 0
 Searched = Result (Unit {0}) LawFailure
@@ -55,14 +49,14 @@ told kept f = cond kept (Ok tt) (Err f)
 unfoldable pub commutes : List ℕ → Action × Action → Searched
 commutes o p =
     let (a, b) = p in
-    told (same (join o a b) (join o b a)) (failure Commutativity a b DontCare)
+    told (same (join o a b) (join o b a)) (Commutativity a b)
 
 -- nothing, or the failure of associativity that a triple shows
 unfoldable pub associates : List ℕ → Action × (Action × Action) → Searched
 associates o t =
     let (a, p) = t in
     let (b, c) = p in
-    told (same (join o (join o a b) c) (join o a (join o b c))) (failure Associativity a b c)
+    told (same (join o (join o a b) c) (join o a (join o b c))) (Associativity a b c)
 
 -- the showing actions
 unfoldable pub shown : List Action
@@ -121,8 +115,8 @@ infixl 10 ◌among◌
 abbrev pub ◌among◌ : {X : Type 0} → X → List X → Type 0
 x among xs = Memᴰ x xs
 
--- actions of the list that break a law; for a pair the third is don't care
-abbrev pub Shows : List ℕ → Law → Action → Action → Action → Type 0
-Shows o Commutativity a b c = (a among shown) × (b among shown) × (c ≡ DontCare) × ¬ (join o a b ≡ join o b a)
-Shows o Associativity a b c =
+-- the actions of the list that show that a law is broken
+abbrev pub Shows : List ℕ → LawFailure → Type 0
+Shows o (Commutativity a b) = (a among shown) × (b among shown) × ¬ (join o a b ≡ join o b a)
+Shows o (Associativity a b c) =
     (a among shown) × (b among shown) × (c among shown) × ¬ (join o (join o a b) c ≡ join o a (join o b c))

@@ -21,7 +21,7 @@ SearchExact = (o : List ℕ) → RightCodes o → (law_search o ≡ Ok tt) ↔ (
 
 -- what the search names are actions of the list, and they break the law that it names, whatever the operator's codes
 abbrev pub SearchShows : Type 0
-SearchShows = (o : List ℕ) (f : LawFailure) → law_search o ≡ Err f → Shows o f.law f.first f.second f.third
+SearchShows = (o : List ℕ) (f : LawFailure) → law_search o ≡ Err f → Shows o f
 
 -- the actions of the list are in range
 abbrev pub ShownInRange : Type 0

@@ -1,4 +1,6 @@
-// Actions, operators, how an operator joins two actions, and the search for a broken law.
+//! Actions, operators, how an operator joins two actions, and the search for a broken law. What is read from words
+//! cannot fail and says no more than it can: an unknown kind is don't care and a missing word 0, so it is no From,
+//! which loses nothing, and no TryFrom.
 #![tactic(auto)]
 
 ghost use Rattle.std.specs.Prelude.{◌≡◌, ◌≤◌, max, min};
@@ -10,13 +12,14 @@ ghost use Rattle.action.specs.Laws.{first_pair, with_second, first_triple, with_
 use std::array;
 use words::word;
 
-// The largest rate, in kbit/s.
+/// The largest rate, in kbit/s.
 pub const LARGEST_RATE: u32 = 100_000_000;
 
-// An operator's cells: one for each two kinds, don't care left out.
+/// An operator's cells: one for each two kinds, don't care left out.
 pub const CELLS: usize = (KINDS * KINDS) as usize;
 
-// The kinds' numbers. The kinds below GMB have no rate.
+// The kinds' numbers; the kinds below GMB have no rate. They stand beside the enum because words carry them, and
+// because a cell's place is counted from those of two actions.
 const DONT_CARE: u32 = 0;
 
 const ALLOW: u32 = 1;
@@ -32,6 +35,7 @@ const KINDS: u32 = GMB;
 const RATE_CELL: usize = CELLS - 1;
 
 // What a cell's code gives: an action of its own, one of the two that meet, or a GMB of the larger or the smaller rate.
+// Codes are numbers: a word that is no code counts as don't care, and still is a word of the operator.
 const GIVES_ALLOW: u32 = 1;
 
 const GIVES_DENY: u32 = 2;
@@ -51,7 +55,7 @@ const LARGEST_CODE: u32 = GIVES_RIGHT;
 const LARGEST_RATE_CODE: u32 = GIVES_SMALLER;
 
 // The actions that the search takes, in list order.
-static SHOWN: [Action; 5] = [
+static SAMPLES: [Action; 5] = [
     Action::Allow,
     Action::Deny,
     Action::Gmb(1),
@@ -59,8 +63,12 @@ static SHOWN: [Action; 5] = [
     Action::Gmb(3),
 ];
 
+/// The words of an action: its kind and its rate.
+pub type ActionWords = [u32; 2];
+
 #[derive(Clone, Copy, PartialEq, Eq)]
 pub enum Action {
+    /// The identity of every operator.
     DontCare,
     Allow,
     Deny,
@@ -68,10 +76,7 @@ pub enum Action {
 }
 
 impl Action {
-    // The identity of every operator.
-    pub const DONT_CARE: Action = Action::DontCare;
-
-    // The number of its kind.
+    /// The number of its kind.
     pub fn kind(self) -> u32
         ensures { (result ≡ kind_of self) × (result ≤ kinds) }
     {
@@ -83,7 +88,7 @@ impl Action {
         }
     }
 
-    // Its rate, 0 where it has none.
+    /// Its rate, 0 where it has none.
     pub fn rate(self) -> u32
         ensures { result ≡ rate_of self }
     {
@@ -93,7 +98,7 @@ impl Action {
         }
     }
 
-    // The action of a kind and a rate. A kind that is not known gives don't care.
+    /// The action of a kind and a rate. A kind that is not known gives don't care.
     #[tactic(auto, unfolding(crate::specs::Action::action_of))]
     pub fn from_words(kind: u32, rate: u32) -> Action
         ensures { result ≡ action_of kind rate }
@@ -102,11 +107,11 @@ impl Action {
             ALLOW => Action::Allow,
             DENY => Action::Deny,
             GMB => Action::Gmb(rate),
-            _ => Action::DONT_CARE,
+            _ => Action::DontCare,
         }
     }
 
-    // Whether two words are an action's: a kind, a rate that is not too large, and a rate other than 0 for GMB alone.
+    /// Whether two words are an action's: a kind, a rate that is not too large, and a rate other than 0 for GMB alone.
     pub fn right_words(kind: u32, rate: u32) -> bool
         ensures { result ≡ right_action kind rate }
     {
@@ -114,39 +119,62 @@ impl Action {
     }
 }
 
-// The codes of the cells: the left action's kind slowest, the right's fastest.
+// The action's two words.
+impl From<Action> for ActionWords {
+    ghost use Rattle.std.specs.Prelude.{◌≡◌, ◌∷◌, []};
+    ghost use Rattle.action.specs.Action.{kind_of, rate_of};
+
+    ghost from_gives = { λ a r. r ≡ kind_of a ∷ rate_of a ∷ [] };
+
+    fn from(a: Action) -> ActionWords {
+        [a.kind(), a.rate()]
+    }
+}
+
+/// The codes of the cells: the left action's kind slowest, the right's fastest.
 #[derive(Clone, Copy)]
 pub struct Operator {
     pub cells: [u32; CELLS],
 }
 
-// The laws that an operator has to keep.
+/// A broken law and the actions that show it: joined the one way and the other, they give two actions.
 #[derive(Clone, Copy, PartialEq, Eq)]
-pub enum Law {
-    Commutativity,
-    Associativity,
-}
-
-// A broken law and the actions that show it. Two show that an operator is not commutative: the third is don't care.
-#[derive(Clone, Copy, PartialEq, Eq)]
-pub struct LawFailure {
-    pub law: Law,
-    pub first: Action,
-    pub second: Action,
-    pub third: Action,
+pub enum LawFailure {
+    Commutativity(Action, Action),
+    Associativity(Action, Action, Action),
 }
 
 impl Operator {
-    // The two operators that are supplied by name.
+    /// The two operators that are supplied by name.
     pub const SIBLING: Operator = Operator {
-        cells: [1, 2, 4, 2, 2, 2, 3, 2, 5],
+        cells: [
+            GIVES_ALLOW,
+            GIVES_DENY,
+            GIVES_RIGHT,
+            GIVES_DENY,
+            GIVES_DENY,
+            GIVES_DENY,
+            GIVES_LEFT,
+            GIVES_DENY,
+            GIVES_LARGER,
+        ],
     };
 
     pub const PARENT: Operator = Operator {
-        cells: [1, 2, 4, 1, 2, 4, 3, 2, 5],
+        cells: [
+            GIVES_ALLOW,
+            GIVES_DENY,
+            GIVES_RIGHT,
+            GIVES_ALLOW,
+            GIVES_DENY,
+            GIVES_RIGHT,
+            GIVES_LEFT,
+            GIVES_DENY,
+            GIVES_LARGER,
+        ],
     };
 
-    // A constant carries no contract: this and the next say which cells the two have.
+    /// The cells of the two constants, which carry no contract of their own, stand in this and the next.
     pub fn sibling() -> Operator
         ensures { result.cells ≡ sibling }
     {
@@ -159,7 +187,7 @@ impl Operator {
         Operator::PARENT
     }
 
-    // The operator whose cells the first words are. Words that are missing count as 0.
+    /// The operator whose cells the first words are. Words that are missing count as 0.
     pub fn from_words(words: &[u32]) -> Operator
         ensures { result.cells ≡ cells_of words.now }
     {
@@ -168,40 +196,79 @@ impl Operator {
         }
     }
 
-    // Two actions joined.
-    pub fn join(self, left: Action, right: Action) -> Action
-        ensures { result ≡ join self.cells left right }
+    /// Two actions joined. A code that is not known gives don't care.
+    pub fn join(&self, left: Action, right: Action) -> Action
+        ensures { result ≡ join self.now.cells left right }
     {
-        join(&self.cells, left, right)
+        if left == Action::DontCare {
+            return right;
+        }
+        if right == Action::DontCare {
+            return left;
+        }
+        let cell = (left.kind() - 1) * KINDS + (right.kind() - 1);
+        coded(word(&self.cells, cell as usize), left, right)
     }
 
-    // The first pair that breaks commutativity, or else the first triple that breaks associativity.
+    /// The first pair that breaks commutativity, or else the first triple that breaks associativity.
     #[tactic(auto, unfolding(crate::specs::Laws::law_search))]
     pub fn law_search(self) -> Result<(), LawFailure>
         ensures { result ≡ law_search self.cells }
     {
-        first_pair(&self.cells)?;
-        first_triple(&self.cells)
+        self.first_pair()?;
+        self.first_triple()
+    }
+
+    // The pairs in order, the first action slowest.
+    fn first_pair(&self) -> Result<(), LawFailure>
+        ensures { result ≡ first_pair self.now.cells }
+    {
+        SAMPLES.iter().try_for_each(|a| self.with_second(*a))
+    }
+
+    // The first pair of this action and a second that breaks commutativity.
+    fn with_second(&self, a: Action) -> Result<(), LawFailure>
+        ensures { result ≡ with_second self.now.cells a }
+    {
+        SAMPLES.iter().try_for_each(|b| {
+            if self.join(a, *b) == self.join(*b, a) {
+                Ok(())
+            } else {
+                Err(LawFailure::Commutativity(a, *b))
+            }
+        })
+    }
+
+    // The triples in order, the first action slowest.
+    fn first_triple(&self) -> Result<(), LawFailure>
+        ensures { result ≡ first_triple self.now.cells }
+    {
+        SAMPLES.iter().try_for_each(|a| self.with_pair(*a))
+    }
+
+    // The first triple of this action and a pair that breaks associativity.
+    fn with_pair(&self, a: Action) -> Result<(), LawFailure>
+        ensures { result ≡ with_pair self.now.cells a }
+    {
+        SAMPLES.iter().try_for_each(|b| self.with_third(a, *b))
+    }
+
+    // The first triple of these two actions and a third that breaks associativity.
+    fn with_third(&self, a: Action, b: Action) -> Result<(), LawFailure>
+        ensures { result ≡ with_third self.now.cells a b }
+    {
+        let ab = self.join(a, b);
+        SAMPLES.iter().try_for_each(|c| {
+            if self.join(ab, *c) == self.join(a, self.join(b, *c)) {
+                Ok(())
+            } else {
+                Err(LawFailure::Associativity(a, b, *c))
+            }
+        })
     }
 }
 
-// Two actions joined by an operator's cells. A code that is not known gives don't care.
-fn join(cells: &[u32], left: Action, right: Action) -> Action
-    ensures { result ≡ join cells.now left right }
-{
-    let k = left.kind();
-    let l = right.kind();
-    if k == DONT_CARE {
-        return right;
-    }
-    if l == DONT_CARE {
-        return left;
-    }
-    let cell = (k - 1) * KINDS + (l - 1);
-    coded(word(cells, cell as usize), left, right)
-}
-
-// Whether a cell may have a code.
+/// Whether a cell may have a code.
 #[tactic(auto, unfolding(crate::specs::Operator::right_cell))]
 pub fn right_cell(cell: usize, code: u32) -> bool
     ensures { result ≡ right_cell cell code }
@@ -233,76 +300,6 @@ fn coded(code: u32, left: Action, right: Action) -> Action
         GIVES_RIGHT => right,
         GIVES_LARGER => Action::Gmb(m.max(n)),
         GIVES_SMALLER => Action::Gmb(m.min(n)),
-        _ => Action::DONT_CARE,
+        _ => Action::DontCare,
     }
-}
-
-// The pairs in order, the first action slowest.
-fn first_pair(cells: &[u32]) -> Result<(), LawFailure>
-    ensures { result ≡ first_pair cells.now }
-{
-    // Each action before commutes with all.
-    for a in &SHOWN {
-        with_second(cells, *a)?;
-    }
-    Ok(())
-}
-
-// The first pair of an action and some second.
-fn with_second(cells: &[u32], a: Action) -> Result<(), LawFailure>
-    ensures { result ≡ with_second cells.now a }
-{
-    // The action commutes with each before.
-    for b in &SHOWN {
-        if join(cells, a, *b) != join(cells, *b, a) {
-            return Err(LawFailure {
-                law: Law::Commutativity,
-                first: a,
-                second: *b,
-                third: Action::DONT_CARE,
-            });
-        }
-    }
-    Ok(())
-}
-
-// The triples in order, the first action slowest.
-fn first_triple(cells: &[u32]) -> Result<(), LawFailure>
-    ensures { result ≡ first_triple cells.now }
-{
-    // Each action before associates with all pairs.
-    for a in &SHOWN {
-        with_pair(cells, *a)?;
-    }
-    Ok(())
-}
-
-// The first triple of an action and some pair.
-fn with_pair(cells: &[u32], a: Action) -> Result<(), LawFailure>
-    ensures { result ≡ with_pair cells.now a }
-{
-    // The action and each second before associate with all thirds.
-    for b in &SHOWN {
-        with_third(cells, a, *b)?;
-    }
-    Ok(())
-}
-
-// The first triple of two actions and some third.
-fn with_third(cells: &[u32], a: Action, b: Action) -> Result<(), LawFailure>
-    ensures { result ≡ with_third cells.now a b }
-{
-    let ab = join(cells, a, b);
-    // The two associate with each third before.
-    for c in &SHOWN {
-        if join(cells, ab, *c) != join(cells, a, join(cells, b, *c)) {
-            return Err(LawFailure {
-                law: Law::Associativity,
-                first: a,
-                second: b,
-                third: *c,
-            });
-        }
-    }
-    Ok(())
 }

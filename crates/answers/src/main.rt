@@ -1,5 +1,5 @@
-// Answers calls: reads them from standard input, and writes each answer with every buffer that was lent for writing.
-// What a call and its answer look like stands in tests/README.md.
+//! Answers calls: reads them from standard input, and writes each answer with every buffer that was lent for writing.
+//! What a call and its answer look like stands in tests/README.md.
 #![tactic(auto)]
 
 ghost use Rattle.std.specs.Prelude.{OnOk};
@@ -18,8 +18,9 @@ fn main(rt: HostRuntime) -> io::Result<()> {
     Ok(())
 }
 
-// Answers call after call, and hands each answer on before the next call is read. No run uses up the turns.
+// Answers call after call, and hands each answer on before the next call is read.
 fn answer_all<R: Read, W: Write>(alloc: Global, input: &mut R, output: &mut W) -> io::Result<()> {
+    // No `forever`: that needs the handle to wait, and none is taken. No run uses up the turns.
     for _ in 0..u64::MAX {
         answer(alloc, input, output)?;
         output.flush()?;

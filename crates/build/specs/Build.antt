@@ -18,12 +18,12 @@ use Rattle.action.specs.declared.Action.{Action}
 use Rattle.policy.specs.File.{PolicyNode, PolicyTree}
 use Rattle.nodes.specs.Nodes.{node_at, cells_at, atom_words_at}
 use Rattle.nodes.specs.Walk.{next_spot, Reached, tree_at, children_at, AfterTree, AfterChildren}
-use Rattle.nodes.specs.declared.NodeWords.{NodeWords}
+use Rattle.section.specs.declared.Node.{Node}
 use Rattle.nodes.specs.declared.Spot.{Spot}
 use Rattle.common.specs.Lays.{Lays}
 use Rattle.rows.specs.Places.{part}
 use Rattle.rows.specs.Tables.{join_words, own_words}
-use Rattle.build.specs.declared.Part.{Part}
+use Rattle.build.specs.declared.BuiltTable.{BuiltTable}
 use Rattle.row.specs.Row.{words_of}
 
 -- the table of a tree
@@ -36,7 +36,7 @@ compile_trees ts o = compiles common is_empty operator.join ts o
 
 -- the table of a node's own atoms, in words
 abbrev pub own_at : List ℕ → Spot → List ℕ
-own_at f s = own_words (cells_at f (node_at f s.left).inner) (atom_words_at f s.atom (node_at f s.left).own)
+own_at f s = own_words (cells_at f (node_at f s.nodes_left).inner) (atom_words_at f s.next_atom (node_at f s.nodes_left).own)
 
 -- the table of the subtree at a place, in words
 unfoldable pub tree_words : List ℕ → Spot → List ℕ
@@ -47,33 +47,33 @@ unfoldable pub children_words : List ℕ → Spot → ℕ → ℕ → List ℕ
 children_words f s k o = words_of (compile_trees (children_at f s k) (cells_at f o))
 
 -- by the answer: F was laid at a place, and the next place is as told; or there was no room
-abbrev pub BuildsBy : ℕ → List ℕ → List ℕ → List ℕ → (Spot → Type 0) → Option Part → Type 0
+abbrev pub BuildsBy : ℕ → List ℕ → List ℕ → List ℕ → (Spot → Type 0) → Option BuiltTable → Type 0
 BuildsBy a F old new told (Some p) = Lays a F old new (Some p.end) × told p.next
 BuildsBy a F old new told None = Lays a F old new None
 
 -- the same, with its parts named
-pub record Builds (a : ℕ) (F old new : List ℕ) (told : Spot → Type 0) (r : Option Part) : Type 0 where
+pub record Builds (a : ℕ) (F old new : List ℕ) (told : Spot → Type 0) (r : Option BuiltTable) : Type 0 where
   pub is : BuildsBy a F old new told r
 
 -- a node's own rows
-abbrev pub NodeBuilt : List ℕ → Spot → ℕ → List ℕ → List ℕ → Option Part → Type 0
+abbrev pub NodeBuilt : List ℕ → Spot → ℕ → List ℕ → List ℕ → Option BuiltTable → Type 0
 NodeBuilt f s a old new r = Builds a (own_at f s) old new (λ next. next ≡ next_spot f s) r
 
 -- a subtree's rows
-abbrev pub TreeBuilt : List ℕ → Spot → ℕ → List ℕ → List ℕ → Option Part → Type 0
+abbrev pub TreeBuilt : List ℕ → Spot → ℕ → List ℕ → List ℕ → Option BuiltTable → Type 0
 TreeBuilt f s a old new r = Builds a (tree_words f s) old new (AfterTree f s) r
 
 -- the rows of some children
-abbrev pub ChildrenBuilt : List ℕ → Spot → ℕ → ℕ → ℕ → List ℕ → List ℕ → Option Part → Type 0
+abbrev pub ChildrenBuilt : List ℕ → Spot → ℕ → ℕ → ℕ → List ℕ → List ℕ → Option BuiltTable → Type 0
 ChildrenBuilt f s sibling k a old new r = Builds a (children_words f s k sibling) old new (AfterChildren f s k) r
 
 -- what was built from a place on ends below a limit
-abbrev pub Within : ℕ → ℕ → Option Part → Type 0
+abbrev pub Within : ℕ → ℕ → Option BuiltTable → Type 0
 Within b limit (Some p) = (b ≤ p.end) × (p.end ≤ limit)
 Within b limit None = Unit {0}
 
 -- a part that was built from b on, joined with what stands from a up to b
-abbrev pub JoinBuilt : List ℕ → ℕ → ℕ → Part → List ℕ → List ℕ → Option Part → Type 0
+abbrev pub JoinBuilt : List ℕ → ℕ → ℕ → BuiltTable → List ℕ → List ℕ → Option BuiltTable → Type 0
 JoinBuilt o a b p old new r = Builds a (join_words o (part a b old) (part b p.end old)) old new (λ next. next ≡ p.next) r
 
 -- a place that the walk reached, a start in a buffer, and the other buffer as long
@@ -82,14 +82,14 @@ AtPlace f s start table scratch = Reached f s × (start ≤ length table) × (le
 
 -- the same, where a node stands
 abbrev pub AtNode : List ℕ → Spot → ℕ → List ℕ → List ℕ → Type 0
-AtNode f s start table scratch = Reached f s × (0 < s.left) × (start ≤ length table) × (length scratch ≡ length table)
+AtNode f s start table scratch = Reached f s × (0 < s.nodes_left) × (start ≤ length table) × (length scratch ≡ length table)
 
 -- the same, with the node that stands there
-abbrev pub OfNode : List ℕ → Spot → NodeWords → ℕ → List ℕ → List ℕ → Type 0
+abbrev pub OfNode : List ℕ → Spot → Node → ℕ → List ℕ → List ℕ → Type 0
 OfNode f s n start table scratch =
-    Reached f s × (0 < s.left) × (n ≡ node_at f s.left) × (start ≤ length table) × (length scratch ≡ length table)
+    Reached f s × (0 < s.nodes_left) × (n ≡ node_at f s.nodes_left) × (start ≤ length table) × (length scratch ≡ length table)
 
 -- a part that was built from a middle on, behind a start, and the other buffer as long
-abbrev pub OfBuilt : ℕ → ℕ → Part → List ℕ → List ℕ → Type 0
+abbrev pub OfBuilt : ℕ → ℕ → BuiltTable → List ℕ → List ℕ → Type 0
 OfBuilt start middle p table scratch =
     (start ≤ middle) × (middle ≤ p.end) × (p.end ≤ length table) × (length scratch ≡ length table)

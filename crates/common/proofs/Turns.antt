@@ -1,15 +1,21 @@
 -- The turns of the loops over rows: the next row of those that are left, and then the others. Assumes nothing.
 --
 --   common-dropped, common-kept        the common row of two rows: none where their matches do not overlap
---   with-next, with-end                the common rows of a row and a table, row by row
+--   with_chunks                        the common rows of a row and the rows that some chunks are; with-all, with-next,
+--                                      with-end
 --   both_rows, both-next, both-end     those of the rows that are left and a table
-use Prim.Native.Nat.{ℕ, ◌+◌, ◌-◌, ◌*◌, ◌/◌, ◌≤◌, ◌<◌}
+use Prim.Native.Nat.{ℕ, suc, ◌+◌, ◌/◌, ◌≤◌, ◌<◌}
 use native.Mathlib.Omega.{arith}
+use native.Mathlib.Numerals.{add-one}
 use mathlib.Core.Path.{◌≡◌, sym, ap, ap₂, ◌∙◌}
 use mathlib.Core.Bool.{Bool, true, false, not}
-use mathlib.Core.List.{List, [], ◌∷◌, ◌++◌}
-use lib.ListN.{length, take, drop}
-use Rattle.words.proofs.RecordLaws.{flat_append, rows_at, rows_end}
+use mathlib.Core.List.{List, [], ◌∷◌, ◌++◌, map}
+use lib.ListN.{length, get_or, drop, drop_of_length-le}
+use lib.Seq.{drop-cons}
+use Rattle.std.specs.Simd.{first_chunks}
+use Rattle.words.specs.Records.{rows_of}
+use Rattle.words.proofs.RecordLaws.{flat_append}
+use Rattle.words.proofs.Bytes.{chunks-records}
 use Rattle.theory.specs.Rows.{kept, common_row, common_with, common_rows}
 use Rattle.theory.specs.declared.Row.{Row}
 use Rattle.flow.specs.Match.{is_empty, overlap, common, match_of}
@@ -46,25 +52,26 @@ module _ (o : List ℕ) (r : Row Match Action) where
         let h₂ : z ≡ operator.join o r.action (row_action s) = cc in
         w ∙ ap₂ (λ (m : Match) (a : Action). row_words (record { matching = m; action = a })) h₁ h₂ ∙ rw h
 
-  -- the common row with row i, and then those with the rows behind it
-  pub with-next : (ws : List ℕ) (i : ℕ) → i < length ws / row_length
-      → common_with_words o r (drop (i * row_length) ws)
-      ≡ common_words o r (take (i * row_length + row_length - i * row_length) (drop (i * row_length) ws)) ++ common_with_words o r (drop ((i + 1) * row_length) ws)
-  unfolding common_with_words common_words
-  with-next ws i h =
-      let from : ℕ = i * row_length in
-      let e : from + row_length - from ≡ row_length = omega arith in
-      let next : (i + 1) * row_length ≡ from + row_length = omega arith in
-      let N : List (Row Match Action) = rows_in (drop (from + row_length) ws) in
-      rw (e, next)
-      (ap (λ N. words_of (common_with common is_empty (operator.join o) r N)) (rows_at row_length row_of some_words ws from (omega arith))
-      ∙ flat_append row_words (kept is_empty (common_row common (operator.join o) r (row_of (take row_length (drop from ws)))))
-      (common_with common is_empty (operator.join o) r N))
+  -- the words of the common rows with the rows that some chunks are
+  unfoldable pub with_chunks : List (List ℕ) → List ℕ
+  with_chunks rs = words_of (common_with common is_empty (operator.join o) r (map row_of rs))
 
-  pub with-end : (ws : List ℕ) (i : ℕ) → length ws / row_length ≤ i → common_with_words o r (drop (i * row_length) ws) ≡ []
-  unfolding common_with_words
-  with-end ws i h =
-      ap (λ N. words_of (common_with common is_empty (operator.join o) r N)) (rows_end row_length row_of some_words ws (i * row_length) (omega arith))
+  pub with-all : {rs : List (List ℕ)} (ws : List ℕ) → rs ≡ first_chunks row_length (length ws / row_length) ws → with_chunks rs ≡ common_with_words o r ws
+  unfolding with_chunks common_with_words rows_of
+  with-all ws e = ap with_chunks (e ∙ chunks-records (length ws / row_length) row_length ws)
+
+  -- the common row with row i, and then those with the rows behind it
+  pub with-next : (rs : List (List ℕ)) (i : ℕ) → i < length rs → with_chunks (drop i rs) ≡ common_words o r (get_or rs i []) ++ with_chunks (drop (i + 1) rs)
+  unfolding with_chunks common_words
+  with-next rs i h =
+      rw (add-one i)
+      (ap with_chunks (drop-cons rs i [] h)
+      ∙ flat_append row_words (kept is_empty (common_row common (operator.join o) r (row_of (get_or rs i []))))
+      (common_with common is_empty (operator.join o) r (map row_of (drop (suc i) rs))))
+
+  pub with-end : (rs : List (List ℕ)) (i : ℕ) → length rs ≤ i → with_chunks (drop i rs) ≡ []
+  unfolding with_chunks
+  with-end rs i h = ap with_chunks (drop_of_length-le rs h)
 
 module _ (o right : List ℕ) where
   -- the words of the common rows of some rows and a table

@@ -1,6 +1,8 @@
-// The common rows of two tables, stored one behind the other in a lent buffer. Only the joining
-// calls these functions: they ask for a place inside the buffer, and where there is no room they do
-// not say what words are left, since the compile then clears the buffer.
+//! The common rows of two tables, stored one behind the other in a lent buffer. Only the joining
+//! calls these functions: they ask for a place inside the buffer, and where there is no room they do
+//! not say what words are left, since the compile then clears the buffer.
+//! The buffer and the place stay two parameters: in one struct, the proof of `rows::join_atom` did
+//! not close.
 #![tactic(auto)]
 
 ghost use Rattle.std.specs.Prelude.{◌≤◌, length};
@@ -10,12 +12,10 @@ ghost use Rattle.common.specs.Tables.{common_words, common_with_words, common_ro
 use action::Operator;
 use flow::Match;
 use row::{ROW_WORDS, Row, Rows, row_action, words_of_row};
-use words::copy;
+use words::Spelling;
 
-// The common rows of two tables: each row of the left in order, with each row of the right in
-// order. Each function answers the place past what it stored. The buffer and the place stay two
-// parameters: with both in one struct (tried), the proof of what the buffer holds once the struct
-// is gone did not close, in `rows::join_atom`.
+/// The common rows of two tables: each row of the left in order, with each row of the right in
+/// order. Each function answers the place past what it stored.
 pub fn common_rows(
     operator: Operator,
     left: &[u32],
@@ -35,7 +35,7 @@ pub fn common_rows(
     Some(done)
 }
 
-// The common rows of one row and a table.
+/// The common rows of one row and a table.
 pub fn common_with(
     operator: Operator,
     row: Row,
@@ -47,12 +47,9 @@ pub fn common_with(
     ensures { Lays at (common_with_words operator.cells row table.now) out.old out.new result }
 {
     let mut done = at;
-    // From at up to done stand the common rows of the row and the first i rows of the table. By
-    // place: over `Rows`, which reads a row's action before its match is tested, the compile took
-    // up to 1.46 times as long, and over chunks up to 1.4 times.
-    for i in 0..table.len() / ROW_WORDS {
-        let from = i * ROW_WORDS;
-        done = add_common(operator, row, &table[from..from + ROW_WORDS], out, done)?;
+    // From at up to done stand the common rows of the row and the rows gone over.
+    for other in table.as_chunks::<ROW_WORDS>().0 {
+        done = add_common(operator, row, other, out, done)?;
     }
     Some(done)
 }
@@ -74,17 +71,18 @@ fn add_common(
     }
     let matching = row.matching.common(matching);
     let action = operator.join(row.action, row_action(other));
-    append(out, at, &words_of_row(matching, action))
+    append(out, at, &words_of_row(Row { matching, action }))
 }
 
-// Stores some words from a place on, if they fit.
+/// Stores some words from a place on, if they fit.
 pub fn append(out: &mut [u32], at: usize, words: &[u32]) -> Option<usize>
     requires { at ≤ length out.old }
     ensures { Lays at words.now out.old out.new result }
 {
-    if out.len() - at < words.len() {
+    let end = at + words.len();
+    if out.len() < end {
         return None;
     }
-    copy(out, at, words);
-    Some(at + words.len())
+    out[at..end].copy_from_slice(words);
+    Some(end)
 }

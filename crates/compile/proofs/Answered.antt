@@ -35,7 +35,7 @@ use Rattle.policy.specs.declared.Layout.{Layout}
 use Rattle.policy.proofs.Accepted.{accepted-exactly, accepted-tree}
 use Rattle.words.specs.Words.{zeros}
 use Rattle.compile.specs.Compile.{room, compiled_rows, fine, accepted_answer, after_reading, answer_of, table_after}
-use Rattle.compile.specs.Compile.{Compiled, scratch_after}
+use Rattle.compile.specs.Compile.{scratch_after}
 use Rattle.compile.specs.Theorems.{RoomExactly, RowsAnswered, AnswerTells, AnswersRows}
 use Rattle.row.proofs.RowLaws.{words_count}
 use Rattle.logic.specs.Lists.{All}

@@ -33,7 +33,7 @@ use Rattle.common.specs.Lays.{Lays}
 use Rattle.build.specs.Build.{compile_tree, tree_words, Builds, TreeBuilt, Within}
 use Rattle.compile.specs.Compile.{room, compiled_rows, fine, all_right, fine_words, answer_of, table_after, scratch_after}
 use Rattle.compile.specs.Compile.{Compiled, Compiles, AcceptedCompiles, Settled, Settles}
-use Rattle.build.specs.declared.Part.{Part}
+use Rattle.build.specs.declared.BuiltTable.{BuiltTable}
 use Rattle.common.proofs.Turns.{some_words}
 use Rattle.common.proofs.Going.{Fitted, made-words, made-full, lays-ends}
 
@@ -73,25 +73,25 @@ cleared-all : (l : List ℕ) → cleared 0 l ≡ zeros (length l)
 unfolding cleared
 cleared-all l = let q : length l - 0 ≡ length l = omega arith in ap zeros q
 
--- the three answers of `settle`
-module _ {t s t' s' : List ℕ} {b : Option Part} (k : s' ≡ cleared 0 s) where
+-- the three answers of `finish`
+module _ {t s t' s' : List ℕ} {b : Option BuiltTable} (k : s' ≡ cleared 0 s) where
   pub settles-full : {r : Refusal} → b ≡ None → t' ≡ cleared 0 t → r ≡ refusal_at NoRoom 0 → Settles t s t' s' b (Err r)
   settles-full {r} e h q = record { is = subst (Settled t t' (Err r)) (sym e) (ap refused q, h ∙ cleared-all t); scratch = k ∙ cleared-all s }
 
-  pub settles-rows : {p : Part} {x : Bool} → b ≡ Some p → x ≡ fine_words (take p.end t) → x ≡ true → t' ≡ cleared p.end t
+  pub settles-rows : {p : BuiltTable} {x : Bool} → b ≡ Some p → x ≡ fine_words (take p.end t) → x ≡ true → t' ≡ cleared p.end t
       → Settles t s t' s' b (Ok (p.end / row_length))
   unfolding cleared
   settles-rows {p} {x} e q h g =
       let i : fine_words (take p.end t) ≡ true = sym q ∙ h in
       record { is = subst (Settled t t' (Ok (p.end / row_length))) (sym e) (rw i, rw i g); scratch = k ∙ cleared-all s }
 
-  pub settles-wrong : {p : Part} {x : Bool} {r : Refusal} → b ≡ Some p → x ≡ fine_words (take p.end t) → x ≡ false → t' ≡ cleared 0 t
+  pub settles-wrong : {p : BuiltTable} {x : Bool} {r : Refusal} → b ≡ Some p → x ≡ fine_words (take p.end t) → x ≡ false → t' ≡ cleared 0 t
       → r ≡ refusal_at WrongRate 0 → Settles t s t' s' b (Err r)
   settles-wrong {p} {x} {r} e q h g a =
       let i : fine_words (take p.end t) ≡ false = sym q ∙ h in
       record { is = subst (Settled t t' (Err r)) (sym e) (rw i (ap refused a), rw i (g ∙ cleared-all t)); scratch = k ∙ cleared-all s }
 
-pub within_end : {n : ℕ} {b : Option Part} {p : Part} → b ≡ Some p → Within 0 n b → p.end ≤ n
+pub within_end : {n : ℕ} {b : Option BuiltTable} {p : BuiltTable} → b ≡ Some p → Within 0 n b → p.end ≤ n
 within_end {n} e h = (subst (Within 0 n) e h).1
 
 -- the words that were laid from the first word on, and what is behind them
@@ -175,14 +175,14 @@ module _ (f : List ℕ) (l : Layout) (e : read_of f ≡ Ok l) (root : Spot) (sta
       either true = refl
       either false = refl
 
-  pub accepted-settles : (b : Option Part) → TreeBuilt f root 0 (take (row_length * n) t) new b
+  pub accepted-settles : (b : Option BuiltTable) → TreeBuilt f root 0 (take (row_length * n) t) new b
       → Settles mid clean t' s' b r → AcceptedCompiles f l t s t' s' r
   unfolding F
   accepted-settles (Some p) k g = some k.is.0 g.is g.scratch
   accepted-settles None k g = too_many k.is g.is g.scratch
 
 -- what was built stands within the table
-pub built-inside : {a : ℕ} {F old new mid : List ℕ} {P : Spot → Type 0} (rest : List ℕ) (b : Option Part) → Builds a F old new P b → length new ≡ length old
+pub built-inside : {a : ℕ} {F old new mid : List ℕ} {P : Spot → Type 0} (rest : List ℕ) (b : Option BuiltTable) → Builds a F old new P b → length new ≡ length old
     → mid ≡ new ++ rest → Within a (length mid) b
 built-inside {a} {F} {old} {new} {mid} rest (Some p) k same at =
     let n = lays-ends k.is.0 refl in

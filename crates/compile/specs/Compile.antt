@@ -25,7 +25,7 @@ use Rattle.policy.specs.Read.{Reading, read_of}
 use Rattle.policy.specs.File.{tree_of}
 use Rattle.policy.specs.declared.Layout.{Layout}
 use Rattle.build.specs.Build.{compile_tree}
-use Rattle.build.specs.declared.Part.{Part}
+use Rattle.build.specs.declared.BuiltTable.{BuiltTable}
 use Rattle.words.specs.Words.{zeros}
 
 -- the buffer's words divided by a row's, rounded down, at most 4,096
@@ -106,13 +106,13 @@ pub record AcceptedCompiles (f : List ℕ) (l : Layout) (t s t' s' : List ℕ) (
   pub scratch : s' ≡ accepted_scratch (compiled_rows f l) t s
 
 -- what settling a build leaves: its answer and the table, by the words that were built
-abbrev pub Settled : List ℕ → List ℕ → Compiled → Option Part → Type 0
+abbrev pub Settled : List ℕ → List ℕ → Compiled → Option BuiltTable → Type 0
 Settled t t' r (Some p) =
     (r ≡ cond (fine_words (take p.end t)) (Ok (p.end / row_length)) (Err (refusal_at WrongRate 0)))
     × (t' ≡ cond (fine_words (take p.end t)) (take p.end t ++ zeros (length t - p.end)) (zeros (length t)))
 Settled t t' r None = (r ≡ Err (refusal_at NoRoom 0)) × (t' ≡ zeros (length t))
 
-pub record Settles (t s t' s' : List ℕ) (b : Option Part) (r : Compiled) : Type 0 where
+pub record Settles (t s t' s' : List ℕ) (b : Option BuiltTable) (r : Compiled) : Type 0 where
   pub is : Settled t t' r b
   pub scratch : s' ≡ zeros (length s)
 

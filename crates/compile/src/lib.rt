@@ -1,5 +1,6 @@
-// The compile: the rows of a policy's tree, joined within the lent buffers, and refused for room
-// exactly when they must be.
+//! The compile: the rows of a policy's tree, joined within the lent buffers, and refused for room
+//! exactly when they must be.
+//! The table and the scratch stay two parameters: both are lent by the caller, as two slices of C.
 #![tactic(auto)]
 
 ghost use Rattle.std.specs.Prelude.{◌≡◌, Ok, length};
@@ -7,15 +8,15 @@ ghost use Rattle.policy.specs.Read.{read_of};
 ghost use Rattle.build.specs.Build.{Within};
 ghost use Rattle.compile.specs.Compile.{room, fine_words, Compiles, AcceptedCompiles, Settles};
 
-use build::{Part, subtree};
-use nodes::root;
+use build::{BuiltTable, subtree};
+use nodes::{File, root};
 use policy::{Layout, read};
 use refusal::{Reason, Refusal};
 use row::{MOST_ROWS, ROW_WORDS, right_row_action};
 use words::clear_from;
 
-// Compiles the policy in a file into a table, within the table and the scratch. Answers how many
-// rows the table has.
+/// Compiles the policy in a file into a table, within the table and the scratch. Answers how many
+/// rows the table has.
 pub fn compile(file: &[u32], table: &mut [u32], scratch: &mut [u32]) -> Result<usize, Refusal>
     ensures { Compiles file.now table.old scratch.old table.new
         scratch.new result }
@@ -40,12 +41,22 @@ fn compile_accepted(
         return Err(Reason::NoScratch.at(0));
     }
     let start = root(layout);
-    let built = subtree(file, start, &mut table[..words], &mut scratch[..words], 0);
-    settle(table, scratch, built)
+    let built = subtree(
+        File { words: file },
+        start,
+        &mut table[..words],
+        &mut scratch[..words],
+        0,
+    );
+    finish(table, scratch, built)
 }
 
-// The answer of a build, with clean buffers.
-fn settle(table: &mut [u32], scratch: &mut [u32], built: Option<Part>) -> Result<usize, Refusal>
+// Clears the scratch and what lies behind the rows, and answers how many rows there are.
+fn finish(
+    table: &mut [u32],
+    scratch: &mut [u32],
+    built: Option<BuiltTable>,
+) -> Result<usize, Refusal>
     requires { Within 0 (length table.old) built }
     ensures { Settles table.old scratch.old table.new
         scratch.new built result }

@@ -1,7 +1,10 @@
-// One node with k unconstrained atoms has 2^k - 1 rows: each atom doubles its table and adds a row. The largest table
-// has room for the rows of 12 atoms, and those of 13 are refused. Writes the row count of 12 atoms, and the number of
-// the refusal of 13.
+//! One node with k unconstrained atoms has 2^k - 1 rows: each atom doubles its table and adds a row. The largest table
+//! has room for the rows of 12 atoms, and those of 13 are refused. Writes the row count of 12 atoms, and the number of
+//! the refusal of 13.
 #![tactic(auto)]
+
+ghost use Rattle.std.specs.Prelude.{◌≤◌};
+ghost use Rattle.doubling.specs.declared.TheConstants.{MANY};
 
 use compile::compile;
 use row::{MOST_ROWS, ROW_WORDS};
@@ -32,14 +35,13 @@ fn show_both(rt: &impl Print) -> io::Result<()> {
 }
 
 // Writes the answer for the file with so many atoms: the row count, or the refusal's number.
-fn show(rt: &impl Print, atoms: usize) -> io::Result<()> {
-    // Arrays, since no function over words takes memory from a heap.
+fn show(rt: &impl Print, atoms: usize) -> io::Result<()>
+    requires { atoms ≤ MANY }
+{
+    // Arrays, since a heap would add the C library's memory to what is trusted.
     let mut file = [0u32; BEFORE + ATOM_WORDS * MANY + BEHIND];
     let mut table = [0u32; ROW_WORDS * MOST_ROWS];
     let mut scratch = [0u32; ROW_WORDS * MOST_ROWS];
-    if MANY < atoms {
-        return Ok(());
-    }
     let behind = BEFORE + ATOM_WORDS * atoms;
     let count = atoms as u32;
     copy(&mut file, 0, &[1, 1, 1, 1, 1, 1, 1, 1, 1, 1, count]);

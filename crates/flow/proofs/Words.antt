@@ -1,5 +1,6 @@
 -- Packets and matches against their words: written, then read, and read, then written. Assumes nothing.
 use mathlib.Core.Path.{◌≡◌, refl, sym, ap, ◌∙◌}
+use mathlib.Core.Bool.{Bool, true, false, cond}
 use mathlib.Core.List.{List, ◌∷◌, ◌++◌}
 use Prim.Native.Nat.{ℕ, zero, suc, ◌+◌, ◌≤◌}
 use native.Mathlib.Omega.{arith}
@@ -7,7 +8,10 @@ use lib.ListN.{length, drop, get_or}
 use lib.Seq.{drop-cons}
 use Rattle.words.specs.Words.{copied}
 use Rattle.words.proofs.Laid.{copied-fits, laid-is}
-use Rattle.flow.specs.Packet.{packet_length, packet_of, packet_words}
+use Rattle.std.specs.Prelude.{Result, Ok, Err}
+use Rattle.flow.specs.Packet.{packet_length, packet_of, packet_words, right_packet_words, packet_in}
+use Rattle.flow.specs.declared.Packet.{Packet}
+use Rattle.flow.specs.declared.packets.InvalidPacket.{InvalidPacket}
 use Rattle.flow.specs.Match.{match_length, match_of, match_words}
 use Rattle.flow.specs.Theorems.{MatchWordsRead, MatchReadWords, MatchWrittenRead, PacketWordsRead, PacketReadWords, PacketWrittenRead}
 
@@ -43,3 +47,21 @@ packet-read-words l h = spell packet_length 0 l h
 
 pub packet-written-read : PacketWrittenRead
 packet-written-read p l h = ap packet_of (copied-front (packet_words p) l h)
+
+-- where words are read as a packet they are its words, and where they are not they are none
+pub packet-found : (l : List ℕ) (p : Packet) → packet_in l ≡ Ok p → (right_packet_words l ≡ true) × (packet_of l ≡ p)
+unfolding packet_in
+packet-found l p e = go (right_packet_words l) refl e
+  where
+    go : (t : Bool) → right_packet_words l ≡ t → ◌≡◌ {A = Result Packet InvalidPacket} (cond t (Ok (packet_of l)) (Err (record {}))) (Ok p)
+        → (right_packet_words l ≡ true) × (packet_of l ≡ p)
+    go true q h = (q, cc)
+    go false q h = cc
+
+pub packet-none : (l : List ℕ) (x : InvalidPacket) → packet_in l ≡ Err x → right_packet_words l ≡ false
+unfolding packet_in
+packet-none l x e = go (right_packet_words l) refl e
+  where
+    go : (t : Bool) → right_packet_words l ≡ t → ◌≡◌ {A = Result Packet InvalidPacket} (cond t (Ok (packet_of l)) (Err (record {}))) (Err x) → right_packet_words l ≡ false
+    go true q h = cc
+    go false q h = q

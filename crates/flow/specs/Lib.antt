@@ -1,3 +1,4 @@
 pub mod Packet
 pub mod Match
+pub mod Spelled
 pub mod Theorems

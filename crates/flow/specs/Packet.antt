@@ -4,18 +4,15 @@
 --   packet_of, packet_words   the packet that some words are, and its words
 --   right_packet              the values are in their ranges
 --   right_packet_words        some words are a packet
---   wrong_packet              the number of words that are none
-use Rattle.std.specs.Prelude.{ℕ, ◌^◌, Bool, ◌&&◌, List, [], ◌∷◌, eqb, ltb, get_or, length}
+--   packet_in                 the packet that some words are, if they are one
+use Rattle.std.specs.Prelude.{ℕ, ◌^◌, Bool, cond, ◌&&◌, List, [], ◌∷◌, Result, Ok, Err, eqb, ltb, get_or, length}
 use Rattle.field.specs.Prefix.{address_bits}
 use Rattle.flow.specs.declared.Packet.{Packet}
+use Rattle.flow.specs.declared.packets.InvalidPacket.{InvalidPacket}
 
 -- how many words a packet has
 abbrev pub packet_length : ℕ
 packet_length = 6
-
--- the number of words that are no packet
-abbrev pub WrongPacket : ℕ
-WrongPacket = 11
 
 -- in-ports and ports are below this number
 abbrev pub port_limit : ℕ
@@ -53,3 +50,7 @@ right_packet p =
 -- some words are a packet: exactly six, with values in their ranges
 unfoldable pub right_packet_words : List ℕ → Bool
 right_packet_words l = eqb (length l) packet_length && right_packet (packet_of l)
+
+-- the packet that some words are, if they are one
+unfoldable pub packet_in : List ℕ → Result Packet InvalidPacket
+packet_in l = cond (right_packet_words l) (Ok (packet_of l)) (Err (record {}))

@@ -1,23 +1,24 @@
-// A packet and a match: which packets meet a match, when two matches overlap, when one lies inside another, and the
-// match that both together are.
+//! A packet and a match: which packets meet a match, when two matches overlap, when one lies inside another, and the
+//! match that both together are.
 #![tactic(auto)]
 
-pub use crate::packets::right_packet_words;
+pub use crate::packets::InvalidPacket;
 use field::Prefix;
 
 mod matches;
 mod packets;
 
-// How many words a packet and a match have.
+/// How many words a packet has.
 pub const PACKET_WORDS: usize = 6;
 
+/// How many words a match has.
 pub const MATCH_WORDS: usize = 9;
 
 pub type PacketWords = [u32; PACKET_WORDS];
 
 pub type MatchWords = [u32; MATCH_WORDS];
 
-// The flags: which values of a match are constrained, and that no packet meets it.
+/// The flags: which values of a match are constrained, and that no packet meets it.
 pub const IN_PORT: u32 = 1;
 
 pub const PROTOCOL: u32 = 2;
@@ -57,7 +58,9 @@ pub struct Packet {
     pub destination_port: u32,
 }
 
-#[derive(Clone, Copy, PartialEq)]
+/// The flags are bits of a word beside the values, since any nine words are a match and are written again as they were.
+/// The kit's `bitflags` would keep all bits as well: a dependency more for the same `&`.
+#[derive(Clone, Copy, PartialEq, Eq)]
 pub struct Match {
     pub in_port: u32,
     pub source: Prefix,

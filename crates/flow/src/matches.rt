@@ -1,21 +1,21 @@
-// Matches: which packets meet one, when two overlap, when one lies inside another, and the match that both together
-// are.
+//! Matches: which packets meet one, when two overlap, when one lies inside another, and the match that both together
+//! are.
+
 ghost use Rattle.std.specs.Prelude.{◌≡◌};
 ghost use Rattle.field.specs.Value.{values_meet, value_inside};
-ghost use Rattle.words.specs.Words.{copied};
-ghost use Rattle.flow.specs.Match.{match_of, match_words, constrains, has_ports, meets_ports, clash, contradicts};
+ghost use Rattle.flow.specs.Match.{constrains, has_ports, clash, contradicts};
 ghost use Rattle.flow.specs.Match.{unmet, is_empty, is_none, is_plain, right_match, meets, overlap, inside, both};
 ghost use Rattle.flow.specs.Match.{common};
 
 use crate::{
-    DESTINATION_PORT, EMPTY, EMPTY_FLAGS, IN_PORT, KNOWN_FLAGS, Match, MatchWords, PORT_LIMIT,
-    PORTS, PROTOCOL, PROTOCOL_LIMIT, Packet, SOURCE_PORT, TCP, UDP,
+    DESTINATION_PORT, EMPTY, EMPTY_FLAGS, IN_PORT, KNOWN_FLAGS, MATCH_WORDS, Match, MatchWords,
+    PORT_LIMIT, PORTS, PROTOCOL, PROTOCOL_LIMIT, Packet, SOURCE_PORT, TCP, UDP,
 };
 use field::{Prefix, common_value, meets_value, right_value, value_inside, values_meet};
-use words::{copy, word};
+use words::{Spelling, Written, copy, word};
 
 impl Match {
-    // The empty match of flag 16.
+    /// The empty match of flag 16.
     pub const NONE: Match = Match {
         in_port: 0,
         source: Prefix {
@@ -32,7 +32,7 @@ impl Match {
         flags: EMPTY,
     };
 
-    // Whether a packet meets the match. The addresses are tested first, as in overlap.
+    /// Whether a packet meets the match. The addresses are tested first, as in overlap.
     pub fn meets(self, p: Packet) -> bool
         ensures { result ≡ meets self p }
     {
@@ -51,10 +51,10 @@ impl Match {
                     self.destination_port,
                     p.destination_port,
                 )
-                & meets_ports(self.constrains(PORTS), p.protocol))
+                & (!self.constrains(PORTS) | has_ports(p.protocol)))
     }
 
-    // Whether some packet meets both matches. The addresses are tested first: most that do not overlap differ there.
+    /// Whether some packet meets both matches. The addresses are tested first: most that do not overlap differ there.
     pub fn overlap(self, other: Match) -> bool
         ensures { result ≡ overlap self other }
     {
@@ -75,7 +75,7 @@ impl Match {
             )
     }
 
-    // Whether every packet that meets the match meets the other. The addresses are tested first, as in overlap.
+    /// Whether every packet that meets the match meets the other. The addresses are tested first, as in overlap.
     pub fn lies_inside(self, other: Match) -> bool
         ensures { result ≡ inside self other }
     {
@@ -94,7 +94,7 @@ impl Match {
                     & self.inside_in(other, PROTOCOL, self.protocol, other.protocol)))
     }
 
-    // The match that exactly the packets meet that meet both: empty where there are none.
+    /// The match that exactly the packets meet that meet both: empty where there are none.
     pub fn common(self, other: Match) -> Match
         ensures { result ≡ common self other }
     {
@@ -105,96 +105,53 @@ impl Match {
         }
     }
 
-    // Whether no packet meets the match: it has flag 16, or contradicts itself.
+    /// Whether no packet meets the match: it has flag 16, or contradicts itself.
     pub fn is_empty(self) -> bool
         ensures { result ≡ is_empty self }
     {
         self.constrains(EMPTY) | self.contradicts()
     }
 
-    // Whether the match contradicts itself: it constrains a port, and the protocol to one without ports.
+    /// Whether the match contradicts itself: it constrains a port, and the protocol to one without ports.
     pub fn contradicts(self) -> bool
         ensures { result ≡ contradicts self }
     {
         clash(self.flags, self.protocol)
     }
 
-    // Whether the match has a flag; of several flags together, whether it has any of them.
+    /// Whether the match has a flag; of several flags together, whether it has any of them.
     pub fn constrains(self, flag: u32) -> bool
         ensures { result ≡ constrains flag self }
     {
         (self.flags & flag) != 0
     }
 
-    // Whether the words of the match are right.
+    /// Whether the words of the match are right.
     pub fn is_right(self) -> bool
         ensures { result ≡ right_match self }
     {
         self.is_plain() || self.is_none()
     }
 
-    // Whether the match is right and has not flag 16. The limit of in-port and ports is a power of two: they are below
-    // it exactly if all their bits together are.
+    /// Whether the match is right and has not flag 16.
     pub fn is_plain(self) -> bool
         ensures { result ≡ is_plain self }
     {
         ((self.flags & KNOWN_FLAGS) == self.flags)
-            & ((self.in_port | self.source_port | self.destination_port) < PORT_LIMIT)
-            & (self.constrains(IN_PORT) | (self.in_port == 0))
+            & right_value(self.constrains(IN_PORT), PORT_LIMIT, self.in_port)
             & right_value(self.constrains(PROTOCOL), PROTOCOL_LIMIT, self.protocol)
-            & (self.constrains(SOURCE_PORT) | (self.source_port == 0))
-            & (self.constrains(DESTINATION_PORT) | (self.destination_port == 0))
+            & right_value(self.constrains(SOURCE_PORT), PORT_LIMIT, self.source_port)
+            & right_value(
+                self.constrains(DESTINATION_PORT),
+                PORT_LIMIT,
+                self.destination_port,
+            )
             & self.source.is_right()
             & self.destination.is_right()
     }
 
-    // The match that the first nine words are; words that are missing count as 0.
-    pub fn read(words: &[u32]) -> Match
-        ensures { result ≡ match_of words.now }
-    {
-        Match {
-            in_port: word(words, 0),
-            source: Prefix {
-                address: word(words, 1),
-                length: word(words, 6),
-            },
-            destination: Prefix {
-                address: word(words, 2),
-                length: word(words, 7),
-            },
-            protocol: word(words, 3),
-            source_port: word(words, 4),
-            destination_port: word(words, 5),
-            flags: word(words, 8),
-        }
-    }
-
-    // The match's nine words.
-    pub fn write(self) -> MatchWords
-        ensures { result ≡ match_words self }
-    {
-        [
-            self.in_port,
-            self.source.address,
-            self.destination.address,
-            self.protocol,
-            self.source_port,
-            self.destination_port,
-            self.source.length,
-            self.destination.length,
-            self.flags,
-        ]
-    }
-
-    // Stores the match's nine words at the start of a buffer that has room for them.
-    pub fn store(self, words: &mut [u32])
-        ensures { words.new ≡ copied 0 (match_words self) words.old }
-    {
-        copy(words, 0, &self.write());
-    }
-
-    // This and the next are one line each, over another test: with the test as a parameter they are no shorter.
-    // Whether two matches agree in the value that a flag is for: v in the one, w in the other.
+    // Whether two matches agree in the value that a flag is for: v in the one, w in the other. It and `inside_in` stay
+    // two: one, with the test as a parameter, is no shorter.
     fn agrees_in(self, other: Match, flag: u32, v: u32, w: u32) -> bool
         ensures { result ≡ values_meet (constrains flag self) v (constrains flag other) w }
     {
@@ -239,12 +196,74 @@ impl Match {
     }
 }
 
-// Whether a packet of a protocol passes the ports of a match, whatever their values: `on` says whether one is
-// constrained.
-fn meets_ports(on: bool, protocol: u32) -> bool
-    ensures { result ≡ meets_ports on protocol }
-{
-    !on | has_ports(protocol)
+impl Spelling for Match {
+    type Item = Match;
+
+    ghost use Rattle.flow.specs.Match.{match_length, match_of};
+    ghost use Rattle.flow.specs.Spelled.{match-some};
+
+    ghost WORDS = { match_length };
+
+    const WORDS: usize = MATCH_WORDS;
+
+    ghost of_words = { match_of };
+
+    ghost some = { match-some };
+
+    fn read(words: &[u32]) -> Match {
+        Match {
+            in_port: word(words, 0),
+            source: Prefix {
+                address: word(words, 1),
+                length: word(words, 6),
+            },
+            destination: Prefix {
+                address: word(words, 2),
+                length: word(words, 7),
+            },
+            protocol: word(words, 3),
+            source_port: word(words, 4),
+            destination_port: word(words, 5),
+            flags: word(words, 8),
+        }
+    }
+}
+
+impl Written for Match {
+    ghost use Rattle.flow.specs.Match.{match_words};
+    ghost use Rattle.flow.specs.Spelled.{match-long, match_back};
+
+    ghost to_words = { match_words };
+
+    ghost long = { match-long };
+
+    ghost back = { match_back };
+
+    fn write(words: &mut [u32], at: usize, item: Match) {
+        copy(words, at, &MatchWords::from(item));
+    }
+}
+
+// The match's nine words.
+impl From<Match> for MatchWords {
+    ghost use Rattle.std.specs.Prelude.{◌≡◌};
+    ghost use Rattle.flow.specs.Match.{match_words};
+
+    ghost from_gives = { λ m r. r ≡ match_words m };
+
+    fn from(m: Match) -> MatchWords {
+        [
+            m.in_port,
+            m.source.address,
+            m.destination.address,
+            m.protocol,
+            m.source_port,
+            m.destination_port,
+            m.source.length,
+            m.destination.length,
+            m.flags,
+        ]
+    }
 }
 
 // Whether no packet meets a match with these flags and this protocol. Most have no port and not flag 16, and need no
@@ -263,7 +282,11 @@ fn unmet(flags: u32, protocol: u32) -> bool
 fn clash(flags: u32, protocol: u32) -> bool
     ensures { result ≡ clash flags protocol }
 {
-    let barred = common_value(((flags & PROTOCOL) == 0) | has_ports(protocol), 0, PORTS);
+    let barred = if ((flags & PROTOCOL) == 0) | has_ports(protocol) {
+        0
+    } else {
+        PORTS
+    };
     (flags & barred) != 0
 }
 

@@ -2,13 +2,15 @@
 use Prim.Native.Nat.{ℕ, ◌+◌, ◌*◌, ◌-◌, ◌/◌, ◌≤◌, ◌<◌}
 use native.Mathlib.Numerals.{add-one}
 use native.Mathlib.Omega.{arith}
-use mathlib.Core.Path.{◌≡◌, refl, sym, ap, ap₂, ◌∙◌}
+use mathlib.Core.Path.{◌≡◌, refl, sym, ap, ◌∙◌}
 use mathlib.Core.Bool.{Bool, true, false, cond}
-use mathlib.Core.List.{List, [], ◌∷◌, ◌++◌, append-nil}
-use lib.ListN.{length, get_or, take, drop, length-append}
-use lib.Seq.{drop-drop, take_all}
-use Rattle.words.specs.Words.{laid, copied}
-use Rattle.words.proofs.Laid.{laid_none, length-laid, laid_then, take-laid, drop-laid, copied-fits}
+use mathlib.Core.List.{List, [], ◌∷◌, ◌++◌, append-nil, append_assoc}
+use lib.ListN.{length, get_or, take, drop, length-append, length-drop}
+use lib.Seq.{drop-drop, take_all, length-take-le}
+use Rattle.std.specs.List.{copy_within}
+use Rattle.row.proofs.RowLaws.{words_back}
+use Rattle.words.specs.Words.{laid}
+use Rattle.words.proofs.Laid.{laid_none, length-laid, laid_then, laid-is, take-laid, drop-laid}
 use Rattle.words.proofs.RecordLaws.{flat_append}
 use Rattle.theory.specs.declared.Row.{Row}
 use Rattle.theory.specs.Hidden.{inside_one, staying}
@@ -17,10 +19,10 @@ use Rattle.flow.specs.Match.{match_of, inside}
 use Rattle.flow.specs.declared.Match.{Match}
 use Rattle.flow.proofs.Inside.{inside-trans}
 use Rattle.action.specs.declared.Action.{Action}
-use Rattle.row.specs.Row.{row_length, row_of, row_action, row_words, rows_in, words_of}
+use Rattle.row.specs.Row.{row_length, row_of, row_words, rows_in, words_of}
 use Rattle.row.specs.Spelled.{row-long}
-use Rattle.table.specs.Table.{row_count, past}
-use Rattle.table.proofs.Tables.{length-rows, row-at, rows-read}
+use Rattle.table.specs.Table.{row_count, past, row_at, RightTable}
+use Rattle.table.proofs.Tables.{length-rows, row-at, rows-read, right-action}
 use Rattle.hidden.specs.Hidden.{kept_words}
 
 -- the words of row i, as a loop reads them
@@ -29,6 +31,17 @@ nth ws i = take (i * row_length + row_length - i * row_length) (drop (i * row_le
 
 nth-row : (ws : List ℕ) (i : ℕ) → nth ws i ≡ take row_length (drop (i * row_length) ws)
 nth-row ws i = let e : i * row_length + row_length - i * row_length ≡ row_length = omega arith in rw e
+
+-- a row that is moved is laid where it goes
+moved : (to from : ℕ) (l : List ℕ) → to + row_length ≤ length l → from + row_length ≤ length l
+    → copy_within l from (from + row_length) to ≡ laid to (take (from + row_length - from) (drop from l)) l
+moved to from l h g =
+    let n : from + row_length - from ≡ row_length = omega arith in
+    let row : List ℕ = take row_length (drop from l) in
+    let long : length row ≡ row_length = length-take-le row_length (drop from l) (omega (arith, length-drop from l)) in
+    let is : laid to row l ≡ take to l ++ (row ++ drop (to + row_length) l) =
+    laid-is to row l (omega arith) ∙ ap (λ k. take to l ++ (row ++ drop (to + k) l)) long in
+    rw n (append_assoc (take to l) row (drop (to + row_length) l) ∙ sym is)
 
 -- of the first i rows, those that stay
 abbrev stayed : List ℕ → ℕ → List (Row Match Action)
@@ -100,13 +113,19 @@ module _ {ws table : List ℕ} {i to : ℕ} (k : Keeping ws table i to) where
             is = k.is ∙ ap (λ N. laid 0 (words_of N) ws) (sym same);
           }
 
-      -- it stays, and is stored behind those that do
-      module _ (a : Action) (p : a ≡ row_action (nth table i)) (table' : List ℕ) (s : table' ≡ copied to (row_words (record { matching = m; action = a })) table) where
+      -- it stays, and its words are moved behind those that do
+      module _ (right : RightTable ws) (table' : List ℕ) (s : table' ≡ copy_within table (i * row_length) (i * row_length + row_length) to) where
         abbrev row : List ℕ
-        row = row_words (record { matching = m; action = a })
+        row = nth table i
 
         row_next : row ≡ row_words next
-        row_next = ap₂ (λ x y. row_words (record { matching = x; action = y })) q p ∙ ap row_words next-words
+        row_next =
+            let long : length (row_at ws i) ≡ row_length =
+            length-take-le row_length (drop (i * row_length) ws) (omega (arith, length-drop (i * row_length) ws, one_more)) in
+            nth-row table i
+            ∙ ap (take row_length) keeping-rest
+            ∙ sym (words_back (row_at ws i) long (right-action (row_at ws i) (right.rows i one_more)))
+            ∙ ap row_words (sym (row-at ws i one_more))
 
         pub keeping-stays : b ≡ false → Keeping ws table' (i + 1) (to + row_length)
         keeping-stays t =
@@ -122,7 +141,7 @@ module _ {ws table : List ℕ} {i to : ℕ} (k : Keeping ws table i to) where
               end = ap length words ∙ length-append (words_of (stayed ws i)) row ∙ omega (arith, k.end, long);
               is =
                   s
-                  ∙ copied-fits to row table (omega (arith, long, k.before))
+                  ∙ moved to (i * row_length) table (omega (arith, k.before)) (omega arith)
                   ∙ ap (laid to row) k.is
                   ∙ ap (λ n. laid n row (laid 0 (words_of (stayed ws i)) ws)) start
                   ∙ laid_then 0 (words_of (stayed ws i)) row ws

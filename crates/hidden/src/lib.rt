@@ -1,5 +1,5 @@
-// The pass over a table that takes out each row whose match lies inside one earlier row's match:
-// no packet reaches it.
+//! The pass over a table that takes out each row whose match lies inside one earlier row's match:
+//! no packet reaches it.
 #![tactic(auto)]
 
 ghost use Rattle.std.specs.Prelude.{◌≡◌, length};
@@ -7,21 +7,22 @@ ghost use Rattle.words.specs.Words.{laid};
 ghost use Rattle.theory.specs.Hidden.{inside_one};
 ghost use Rattle.flow.specs.Match.{inside};
 ghost use Rattle.row.specs.Row.{rows_in};
+ghost use Rattle.table.specs.Table.{RightTable};
 ghost use Rattle.hidden.specs.Hidden.{kept_words, kept_of, table_kept};
 
 use flow::Match;
 use refusal::Refusal;
-use row::{ROW_WORDS, Row, RowSpelling, Rows, row_action};
-use table::check;
-use words::{Written, clear_from};
+use row::{ROW_WORDS, Rows};
+use table::Table;
+use words::{Spelling, clear_from};
 
-// Takes the hidden rows out of a table: the others move to its front, in order, and the words
-// behind them become 0. Answers how many rows stay.
+/// Takes the hidden rows out of a table: the others move to its front, in order, and the words
+/// behind them become 0. Answers how many rows stay.
 pub fn drop_hidden(table: &mut [u32]) -> Result<usize, Refusal>
     ensures value { result ≡ kept_of table.old }
     ensures table_after { table.new ≡ table_kept table.old }
 {
-    check(table)?;
+    Table::try_from(&*table)?;
     let end = keep_rows(table);
     clear_from(table, end);
     Ok(end / ROW_WORDS)
@@ -29,6 +30,7 @@ pub fn drop_hidden(table: &mut [u32]) -> Result<usize, Refusal>
 
 // Moves the rows that stay to the front, and answers where they end.
 fn keep_rows(table: &mut [u32]) -> usize
+    requires { RightTable table.old }
     ensures value { result ≡ length (kept_words table.old) }
     ensures table_after { table.new ≡ laid 0 (kept_words table.old) table.old }
 {
@@ -38,22 +40,16 @@ fn keep_rows(table: &mut [u32]) -> usize
     for i in 0..table.len() / ROW_WORDS {
         let from = i * ROW_WORDS;
         let end = from + ROW_WORDS;
-        // The action is read where the row stays: no row that goes needs it.
         let m = Match::read(&table[from..end]);
         if !inside_one(m, &table[..to]) {
-            let row = Row {
-                matching: m,
-                action: row_action(&table[from..end]),
-            };
-            RowSpelling::write(table, to, row);
+            table.copy_within(from..end, to);
             to += ROW_WORDS;
         }
     }
     to
 }
 
-// Whether a match lies inside that of one of some rows. Inlined into its caller it took up to 1.5 times as long.
-#[inline(never)]
+// Whether a match lies inside that of one of some rows.
 fn inside_one(m: Match, rows: &[u32]) -> bool
     ensures { result ≡ inside_one inside m (rows_in rows.now) }
 {

@@ -1,13 +1,14 @@
 -- Text put into a buffer part after part, and the turns of a loop that does so: what is still to be put, over what is there, is the whole. Assumes nothing.
-use Prim.Native.Nat.{ℕ, ◌+◌, ◌≤◌, ◌<◌, max}
+use Prim.Native.Nat.{ℕ, ◌+◌, ◌-◌, ◌≤◌, min, max}
 use native.Mathlib.Omega.{arith}
-use native.Mathlib.Numerals.{add-one}
-use mathlib.Core.Path.{◌≡◌, refl, sym, ap, ap₂, subst, ◌∙◌}
-use mathlib.Core.List.{List, [], ◌∷◌, ◌++◌}
-use lib.ListN.{length, get_or, set, drop, drop_of_length-le, length-append}
-use lib.Seq.{drop-cons}
+use mathlib.Core.Path.{◌≡◌, refl, sym, ap, ap₂, ◌∙◌}
+use mathlib.Core.List.{List, [], ◌++◌}
+use borrow.Rule.Slice.PartMut.{put_mid}
+use lib.ListN.{length, take, drop, drop_of_length-le, length-append}
+use lib.Seq.{length-take-le}
+use Rattle.std.proofs.lemmas.List.{take-append-drop}
 use Rattle.words.specs.Words.{laid}
-use Rattle.words.proofs.Laid.{laid_none, laid_one, laid_then, laid_out, length-laid}
+use Rattle.words.proofs.Laid.{laid_none, laid_then, laid_out, length-laid, put-laid}
 use Rattle.logic.proofs.Tests.{by_le}
 use Rattle.line.specs.Puts.{stop, Puts, Adds}
 use Rattle.line.specs.declared.page.Page.{Page}
@@ -17,14 +18,30 @@ pub puts_none : (a : ℕ) (l : List ℕ) → Puts [] l a l a
 unfolding stop
 puts_none a l = record { bytes = sym (laid_none a l); end = omega arith }
 
--- one byte, where there is room, and where there is none
-pub puts-byte : (b a : ℕ) (l : List ℕ) → a < length l → Puts (b ∷ []) l a (set l a b) (a + 1)
+-- what fits of a text, where there is room, and where there is none
+pub puts-fitting : (F : List ℕ) (a k n : ℕ) (l part : List ℕ) → a ≤ length l → k ≡ n → n ≡ min (length F) (length l - a) → part ≡ take n F
+    → Puts F l a (put_mid a k l part) (a + n)
 unfolding stop
-puts-byte b a l h = record { bytes = sym (laid_one a b l); end = omega arith }
+puts-fitting F a k n l part h q m e = record { bytes = stored ∙ whole; end = omega arith }
+  where
+    many : length (take n F) ≡ n
+    many = length-take-le n F (omega arith)
 
-pub puts-nothing : (b a : ℕ) (l : List ℕ) → length l ≤ a → Puts (b ∷ []) l a l a
+    stored : put_mid a k l part ≡ laid a (take n F) l
+    stored = put-laid a k (take n F) l part e (q ∙ sym many) (omega (arith, many))
+
+    over : laid (a + length (take n F)) (drop n F) (laid a (take n F) l) ≡ laid a (take n F) l
+    over =
+        by_le (length F) n
+        (λ z. rw (drop_of_length-le F z) (laid_none _ _))
+        (λ z. laid_out (a + length (take n F)) (drop n F) (laid a (take n F) l) (rw length-laid (omega (arith, many))))
+
+    whole : laid a (take n F) l ≡ laid a F l
+    whole = sym over ∙ laid_then a (take n F) (drop n F) l ∙ ap (λ x. laid a x l) (take-append-drop n F)
+
+pub puts-nothing : (F : List ℕ) (a : ℕ) (l : List ℕ) → length l ≤ a → Puts F l a l a
 unfolding stop
-puts-nothing b a l h = record { bytes = sym (laid_out a (b ∷ []) l h); end = omega arith }
+puts-nothing F a l h = record { bytes = sym (laid_out a F l h); end = omega arith }
 
 -- text behind text, where the first may be cut
 laid_stop : (F G : List ℕ) (a : ℕ) (l : List ℕ) → laid (stop a F l) G (laid a F l) ≡ laid a (F ++ G) l
@@ -92,12 +109,3 @@ ahead-end {q = q} g = record {
   puts = record { bytes = sym (laid_none q.end q.bytes.now) ∙ g.bytes; end = (puts_none q.end q.bytes.now).end ∙ g.end };
   same = g.same;
 }
-
--- the bytes of a text from its byte i on
-pub text-turn : (text : List ℕ) (i : ℕ) {q r p : Page} → Ahead (drop i text) q text p → Adds (get_or text i 0 ∷ []) q r → i < length text
-    → Ahead (drop (i + 1) text) r text p
-text-turn text i {q} {r} {p} g a h =
-    rw (add-one i) (ahead_step a (subst (λ x. Ahead x q text p) (drop-cons text i 0 h) g))
-
-pub text-end : (text : List ℕ) (i : ℕ) {q p : Page} → Ahead (drop i text) q text p → length text ≤ i → Adds text p q
-text-end text i {q} {p} g h = ahead-end (subst (λ x. Ahead x q text p) (drop_of_length-le text h) g)

@@ -1,11 +1,13 @@
-// A page of text, to which more is added.
-ghost use Rattle.std.specs.Prelude.{◌≡◌, [], ◌∷◌};
+//! A page of text, to which more is added.
+
+ghost use Rattle.std.specs.Prelude.{◌≡◌};
 ghost use Rattle.line.specs.Text.{number};
 ghost use Rattle.line.specs.Puts.{Adds};
 
 use itoa::Buffer;
 
-// A lent buffer, and where the text in it ends. What lies past the buffer's end is not stored.
+/// A lent buffer, and where the text in it ends; no String, since no function over words takes memory from a heap. What
+/// lies past the buffer's end is not stored.
 #[derive(Drop)]
 pub struct Page<'a> {
     bytes: &'a mut [u8],
@@ -29,13 +31,14 @@ impl<'a> Page<'a> {
         self.end
     }
 
-    // Some text.
+    // Some text: what fits of it.
     pub(crate) fn put(&mut self, text: &[u8])
         ensures { Adds text.now self.old self.new }
     {
-        // The bytes before this one are added.
-        for &byte in text {
-            self.put_byte(byte);
+        if self.end < self.bytes.len() {
+            let count = text.len().min(self.bytes.len() - self.end);
+            self.bytes[self.end..self.end + count].copy_from_slice(&text[..count]);
+            self.end += count;
         }
     }
 
@@ -45,16 +48,6 @@ impl<'a> Page<'a> {
     {
         let mut buffer = Buffer::new();
         self.put(buffer.format(n).as_bytes());
-        self.put_byte(mark);
-    }
-
-    // One byte, where there is room.
-    fn put_byte(&mut self, byte: u8)
-        ensures { Adds (byte ∷ []) self.old self.new }
-    {
-        if self.end < self.bytes.len() {
-            self.bytes[self.end] = byte;
-            self.end += 1;
-        }
+        self.put(&[mark]);
     }
 }

@@ -1,4 +1,5 @@
-// What has a text: the parts of a listing's lines, and the lines.
+//! What has a text: the parts of a listing's lines, and the lines.
+
 use crate::{Page, Text};
 use action::Action;
 use field::Prefix;
@@ -6,14 +7,14 @@ use flow::{DESTINATION_PORT, IN_PORT, Match, PROTOCOL, SOURCE_PORT};
 use refusal::Refusal;
 use row::Row;
 
-// The first line: how many rows and how many priorities there are.
+/// The first line: how many rows and how many priorities there are.
 #[derive(Clone, Copy)]
 pub struct Head {
     pub rows: usize,
     pub priorities: u32,
 }
 
-// The line of a row of a priority.
+/// The line of a row of a priority.
 #[derive(Clone, Copy)]
 pub struct Line {
     pub priority: u32,
@@ -45,7 +46,7 @@ impl Text for Line {
     }
 }
 
-// The only line of a refusal.
+/// The only line of a refusal.
 impl Text for Refusal {
     ghost use Rattle.refusal.specs.Refusals.{refusal_number};
     ghost use Rattle.line.specs.Text.{refusal};
@@ -59,7 +60,7 @@ impl Text for Refusal {
     }
 }
 
-// The values of a match and its prefixes, each with a space behind it.
+/// The values of a match and its prefixes, each with a space behind it.
 impl Text for Match {
     ghost use Rattle.line.specs.Text.{match_text};
 
@@ -79,7 +80,7 @@ impl Text for Match {
     }
 }
 
-// An action, and the line end.
+/// An action, and the line end.
 impl Text for Action {
     ghost use Rattle.line.specs.Text.{action_text};
 
@@ -98,7 +99,7 @@ impl Text for Action {
     }
 }
 
-// A value and a space; a star where it is not constrained.
+/// A value and a space; a star where it is not constrained.
 impl Text for Option<u32> {
     ghost use Rattle.line.specs.Text.{value_text};
 
@@ -112,7 +113,7 @@ impl Text for Option<u32> {
     }
 }
 
-// The four bytes of its address, its length, and a space.
+/// The four bytes of its address, its length, and a space.
 impl Text for Prefix {
     ghost use Rattle.line.specs.Text.{address};
 
@@ -120,10 +121,10 @@ impl Text for Prefix {
 
     fn put(&self, page: &mut Page<'_>) {
         let [a, b, c, d] = self.address.to_be_bytes();
-        page.put_number(a as usize, b'.');
-        page.put_number(b as usize, b'.');
-        page.put_number(c as usize, b'.');
-        page.put_number(d as usize, b'/');
+        page.put_number(usize::from(a), b'.');
+        page.put_number(usize::from(b), b'.');
+        page.put_number(usize::from(c), b'.');
+        page.put_number(usize::from(d), b'/');
         page.put_number(self.length as usize, b' ');
     }
 }

@@ -1,9 +1,16 @@
 -- What stands at a place of an accepted file is what the file's list of nodes has there: records by their words, atoms by what the nodes
 -- before have left. Assumes nothing.
-use Prim.Native.Nat.{ℕ, zero, suc, ◌+◌, ◌*◌, ◌-◌, ◌/◌, ◌%◌, ◌≤◌, ◌<◌}
+use denote.Ref.{Bor}
+use Rattle.std.specs.Option.{unwrap_or}
+use Rattle.std.specs.declared.option.Option.{Option}
+use Rattle.std.specs.declared.option.Option.TheVariants.{None, Some}
+use Rattle.std.specs.Slice.{IsGetRangeResult}
+use Prim.Native.Nat.{ℕ, zero, suc, ◌+◌, ◌*◌, ◌-◌, ◌/◌, ◌≤◌, ◌<◌}
 use native.Mathlib.Omega.{arith}
 use mathlib.Core.Path.{◌≡◌, refl, sym, ap, ap₂, ◌∙◌}
 use mathlib.Core.List.{List, [], ◌∷◌, map}
+use mathlib.Core.Bool.{cond}
+use lib.Dec.{leb}
 use lib.ListN.{get_or, length, take, drop, length-drop, drop_of_length-le}
 use lib.Seq.{get_or-take, get_or-drop, drop-drop, drop-cons, take_all, take-add, take_at, drop_at, length-take-le}
 use borrow.Author.Tests.{le-leb, lt-leb, le-ltb}
@@ -28,40 +35,48 @@ use Rattle.policy.proofs.Accepted.{accepted-exactly}
 use Rattle.logic.proofs.Tests.{by_le}
 use Rattle.nodes.specs.Nodes.{node_place, node_at, from_operator, cells_at, atom_words_at}
 use Rattle.nodes.specs.Walk.{layout_of, list_of, records_of, node_index, Reached, next_spot}
-use Rattle.nodes.specs.declared.NodeWords.{NodeWords}
+use Rattle.section.specs.Node.{node_of as spelled}
+use Rattle.section.specs.declared.Node.{Node}
 use Rattle.nodes.specs.declared.Spot.{Spot}
 
--- an operator's place in the file, and one behind it
-pub operator-there : (f : List ℕ) (i : ℕ) → let at : ℕ = first_operator + operator_length * i in
-    at ≤ length f → take (length f - at) (drop at f) ≡ from_operator f i
-unfolding from_operator
-operator-there f i h =
-    let at : ℕ = first_operator + operator_length * i in
-    take_all (length f - at) (drop at f) (rw length-drop (omega arith))
+-- what a part of some words is, or no words where it is no part of them: all from a place on, and the first n
+pub rest-or-none : (ws : List ℕ) (at : ℕ) (o : Option (Bor (List ℕ))) (none : Bor (List ℕ)) → IsGetRangeResult ws at (length ws) o
+    → none.now ≡ [] → (unwrap_or o none).now ≡ drop at ws
+rest-or-none ws at None none g e = e ∙ sym (drop_of_length-le ws {i = at} (omega arith))
+rest-or-none ws at (Some x) none g e = g.0.2 ∙ take_all (length ws - at) (drop at ws) (rw length-drop (omega arith))
 
-pub operator-missing : (f : List ℕ) (i : ℕ) → length f < first_operator + operator_length * i → [] ≡ from_operator f i
-unfolding from_operator
-operator-missing f i h = sym (drop_of_length-le f {i = first_operator + operator_length * i} (omega arith))
+pub front-or-none : (ws : List ℕ) (n : ℕ) (o : Option (Bor (List ℕ))) (none : Bor (List ℕ)) → IsGetRangeResult ws 0 n o
+    → none.now ≡ [] → (unwrap_or o none).now ≡ cond (leb n (length ws)) (take n ws) []
+front-or-none ws n None none g e = e ∙ rw (lt-leb n (length ws) (omega arith)) refl
+front-or-none ws n (Some x) none g e =
+    let same : n - 0 ≡ n = omega arith in
+    g.0.2 ∙ rw (le-leb n (length ws) g.0.1) (ap (λ (k : ℕ). take k ws) same)
 
--- atoms that are all there, and others
-pub atoms-there : (f : List ℕ) (from n : ℕ) → from + atom_length * n ≤ length f → take (from + atom_length * n - from) (drop from f) ≡ atom_words_at f from n
+-- the node whose words stand from a place on
+pub node-read : (f : List ℕ) (left at : ℕ) {n : Node} → at ≡ node_place (length f) left → at ≤ length f
+    → n ≡ spelled (take (length f - at) (drop at f)) → n ≡ node_at f left
+unfolding node_at
+node-read f left at p h e =
+    e
+    ∙ ap spelled (take_all (length f - at) (drop at f) (rw length-drop (omega arith)))
+    ∙ rw (get_or-drop at f 0 0, get_or-drop at f 1 0, get_or-drop at f 2 0, get_or-drop at f 3 0, get_or-drop at f 4 0, p)
+
+-- atoms are all there exactly if their words are among those from the first atom on
+pub atoms-from : (f : List ℕ) (from n : ℕ) {rest : List ℕ} → rest ≡ drop from f
+    → cond (leb (atom_length * n) (length rest)) (take (atom_length * n) rest) [] ≡ atom_words_at f from n
 unfolding atom_words_at
-atoms-there f from n h = let e : from + atom_length * n - from ≡ atom_length * n = omega arith in rw (e, le-leb (from + atom_length * n) (length f) h)
-
-pub atoms-missing : (f : List ℕ) (from n : ℕ) → length f < from + atom_length * n → [] ≡ atom_words_at f from n
-unfolding atom_words_at
-atoms-missing f from n h = rw (lt-leb (from + atom_length * n) (length f) h)
-
--- atoms are whole rows
-pub atoms-rows : (f : List ℕ) (from n : ℕ) → length (atom_words_at f from n) % row_length ≡ 0
-atoms-rows f from n =
-    by_le (from + atom_length * n) (length f)
-    (λ h.
-    let l : length (take (from + atom_length * n - from) (drop from f)) ≡ from + atom_length * n - from = length-take-le _ (drop from f)
-    (rw length-drop (omega arith)) in
-    let e : length (atom_words_at f from n) ≡ from + atom_length * n - from = ap length (sym (atoms-there f from n h)) ∙ l in
-    omega arith)
-    (λ h. rw (← atoms-missing f from n h) (omega arith))
+atoms-from f from n e =
+    rw e
+    (rw length-drop
+    (by_le (from + atom_length * n) (length f)
+    (λ h. rw (le-leb (from + atom_length * n) (length f) h, le-leb (atom_length * n) (length f - from) (omega arith)) refl)
+    (λ h. rw (lt-leb (from + atom_length * n) (length f) h) (by_le (atom_length * n) (length f - from)
+    (λ l. rw (le-leb (atom_length * n) (length f - from) l, drop_of_length-le f {i = from} (omega arith)) (none (atom_length * n)))
+    (λ l. rw (lt-leb (atom_length * n) (length f - from) l) refl)))))
+  where
+    none : (k : ℕ) → take {A = ℕ} k [] ≡ []
+    none zero = refl
+    none (suc k) = refl
 
 -- a word of a record is a word of the list
 record-at : (n k : ℕ) (ws : List ℕ) (i j : ℕ) → i < n → j < k → get_or (get_or (records n k ws) i []) j 0 ≡ get_or ws (k * i + j) 0
@@ -135,12 +150,12 @@ own-within (r ∷ rs) (suc i) = omega (arith, own-within rs i)
 -- what a node holds, as the functions by place read it
 abbrev pub node_here : List ℕ → Spot → PolicyNode
 node_here f s =
-    let n : NodeWords = node_at f s.left in
+    let n : Node = node_at f s.nodes_left in
     record {
       inner = cells_at f n.inner;
       parent = cells_at f n.parent;
       sibling = cells_at f n.sibling;
-      atoms = rows_of row_length row_of (atom_words_at f s.atom n.own);
+      atoms = rows_of row_length row_of (atom_words_at f s.next_atom n.own);
     }
 
 -- stands for a node past the last: it holds nothing
@@ -150,8 +165,8 @@ nothing = record { what = record { inner = []; parent = []; sibling = []; atoms 
 -- WHAT STANDS AT A PLACE that a walk reaches, with nodes left
 pub record Here (f : List ℕ) (s : Spot) : Type 0 where
   pub stands : drop (node_index f s) (list_of f)
-      ≡ record { what = node_here f s; child_count = (node_at f s.left).children } ∷ drop (node_index f (next_spot f s)) (list_of f)
-  pub atoms-fit : s.atom + atom_length * (node_at f s.left).own ≤ length f
+      ≡ record { what = node_here f s; child_count = (node_at f s.nodes_left).children } ∷ drop (node_index f (next_spot f s)) (list_of f)
+  pub atoms-fit : s.next_atom + atom_length * (node_at f s.nodes_left).own ≤ length f
   pub next : Reached f (next_spot f s)
 
 module _ (f : List ℕ) (w : Otherwise f (layout_of f).operators (layout_of f).atoms (layout_of f).nodes) where
@@ -195,7 +210,7 @@ module _ (f : List ℕ) (w : Otherwise f (layout_of f).operators (layout_of f).a
       (rows-part row_length row_of (omega arith) n (drop (atom_length * s) (drop base f)) (rw (length-drop, length-drop) (omega arith))
       ∙ part-records row_length row_of (omega arith) s n b (drop base f) h)
 
-pub here : (f : List ℕ) (s : Spot) → Reached f s → 0 < s.left → Here f s
+pub here : (f : List ℕ) (s : Spot) → Reached f s → 0 < s.nodes_left → Here f s
 unfolding node_at
 here f s reached h =
     let w : Otherwise f (layout_of f).operators (layout_of f).atoms (layout_of f).nodes = ((accepted-exactly f (layout_of f)).0 reached.accepted).otherwise in
@@ -207,21 +222,21 @@ here f s reached h =
     let rs : List (List ℕ) = records_of f in
     let i : ℕ = node_index f s in
     let r : List ℕ = get_or rs i [] in
-    let k : s.left ≤ c = reached.left in
+    let k : s.nodes_left ≤ c = reached.left in
     let many : length rs ≡ c = length-records c node_length (drop (nodes_at a b + 1) f) in
     let ends : length f ≡ end_of a b c = w.ends in
     let right : RightNode a r = w.right-nodes i (omega arith) in
     let taken : ℕ = own_atoms (take i rs) in
-    let n : NodeWords = node_at f s.left in
-    let inner : n.inner ≡ inner_of r = word-here f w s.left 0 h k (omega arith) in
-    let parent : n.parent ≡ parent_of r = word-here f w s.left 1 h k (omega arith) in
-    let sibling : n.sibling ≡ sibling_of r = word-here f w s.left 2 h k (omega arith) in
-    let own : n.own ≡ own_of r = word-here f w s.left 3 h k (omega arith) in
-    let children : n.children ≡ children_of r = word-here f w s.left 4 h k (omega arith) in
+    let n : Node = node_at f s.nodes_left in
+    let inner : n.inner ≡ inner_of r = word-here f w s.nodes_left 0 h k (omega arith) in
+    let parent : n.parent ≡ parent_of r = word-here f w s.nodes_left 1 h k (omega arith) in
+    let sibling : n.sibling ≡ sibling_of r = word-here f w s.nodes_left 2 h k (omega arith) in
+    let own : n.own ≡ own_of r = word-here f w s.nodes_left 3 h k (omega arith) in
+    let children : n.children ≡ children_of r = word-here f w s.nodes_left 4 h k (omega arith) in
     let more : own_atoms (take (suc i) rs) ≡ taken + own_of r = own-more rs i (omega arith) in
     let all : own_atoms (take (suc i) rs) ≤ b = omega (arith, own-within rs (suc i), w.all-taken) in
-    let start : s.atom ≡ read.atoms_at a + 1 + atom_length * taken = reached.atom in
-    let next : c - (s.left - 1) ≡ suc i = omega arith in
+    let start : s.next_atom ≡ read.atoms_at a + 1 + atom_length * taken = reached.atom in
+    let next : c - (s.nodes_left - 1) ≡ suc i = omega arith in
     let same = same-node
     (ap (cells_at f) inner ∙ cells-here f w (inner_of r) right.inner)
     (ap (cells_at f) parent ∙ cells-here f w (parent_of r) right.parent)
@@ -244,12 +259,12 @@ here f s reached h =
     same-node a b c d e = rw (a, b, c, d, e)
 
 -- the same with a node's words as the code has them
-module _ (f : List ℕ) (s : Spot) (reached : Reached f s) (h : 0 < s.left) (n : NodeWords) (e : n ≡ node_at f s.left) where
-  pub atoms-within : s.atom + atom_length * n.own ≤ length f
+module _ (f : List ℕ) (s : Spot) (reached : Reached f s) (h : 0 < s.nodes_left) (n : Node) (e : n ≡ node_at f s.nodes_left) where
+  pub atoms-within : s.next_atom + atom_length * n.own ≤ length f
   atoms-within = rw e (here f s reached h).atoms-fit
 
-  pub next-spot : record { left = s.left - 1; atom = s.atom + atom_length * n.own } ≡ next_spot f s
+  pub next-spot : record { nodes_left = s.nodes_left - 1; next_atom = s.next_atom + atom_length * n.own } ≡ next_spot f s
   next-spot = rw e
 
-  pub next-reached : Reached f (record { left = s.left - 1; atom = s.atom + atom_length * n.own })
+  pub next-reached : Reached f (record { nodes_left = s.nodes_left - 1; next_atom = s.next_atom + atom_length * n.own })
   next-reached = rw e (here f s reached h).next

@@ -39,13 +39,13 @@ module _ (f : List ℕ) (l : Layout) (e : read_of f ≡ Ok l) (s : Spot) (start 
   unfolding root_spot
   first = rw start (omega (arith, ap (λ (x : Layout). x.nodes) same))
 
-  pub start-reached : Reached f s × (0 < s.left)
+  pub start-reached : Reached f s × (0 < s.nodes_left)
   unfolding root_spot first_atom
   start-reached =
-      let all : s.left ≡ l.nodes = ap (λ (x : Spot). x.left) start in
+      let all : s.nodes_left ≡ l.nodes = ap (λ (x : Spot). x.nodes_left) start in
       let many : (layout_of f).nodes ≡ l.nodes = ap (λ (x : Layout). x.nodes) same in
-      let atom : s.atom ≡ read.atoms_at l.operators + 1 =
-      ap (λ (x : Spot). x.atom) start ∙ rw (le-ltb most_operators l.operators o.operators.most) in (
+      let atom : s.next_atom ≡ read.atoms_at l.operators + 1 =
+      ap (λ (x : Spot). x.next_atom) start ∙ rw (le-ltb most_operators l.operators o.operators.most) in (
         record {
           accepted = rw same e;
           left = omega arith;
@@ -68,16 +68,16 @@ module _ {X : Type 0} (t : Tree X) (ts : Forest X) where
   drop-first (suc k) h = let e : suc k - 1 ≡ k = omega arith in rw e
 
 -- A NODE: the trees from its place on are its own, with its children, and those behind them
-module _ (f : List ℕ) (s : Spot) (r : Reached f s) (more : 0 < s.left) where
-  grown-node : grown f s ≡ node (node_here f s) (children_at f (next_spot f s) (node_at f s.left).children)
-      ▸ drop_trees (node_at f s.left).children (grown f (next_spot f s))
+module _ (f : List ℕ) (s : Spot) (r : Reached f s) (more : 0 < s.nodes_left) where
+  grown-node : grown f s ≡ node (node_here f s) (children_at f (next_spot f s) (node_at f s.nodes_left).children)
+      ▸ drop_trees (node_at f s.nodes_left).children (grown f (next_spot f s))
   unfolding grown
   grown-node = ap plant (here f s r more).stands
 
-  pub tree-here : tree_at f s ≡ node (node_here f s) (children_at f (next_spot f s) (node_at f s.left).children)
+  pub tree-here : tree_at f s ≡ node (node_here f s) (children_at f (next_spot f s) (node_at f s.nodes_left).children)
   tree-here = ap first_tree grown-node
 
-  pub after-tree : {x : Spot} → AfterChildren f (next_spot f s) (node_at f s.left).children x → AfterTree f s x
+  pub after-tree : {x : Spot} → AfterChildren f (next_spot f s) (node_at f s.nodes_left).children x → AfterTree f s x
   after-tree a = record { rest = a.rest ∙ sym (ap (drop_trees 1) grown-node); less = a.less; reached = a.reached }
 
   -- the first child, and the others behind it
@@ -101,12 +101,12 @@ pub record NoChild (f : List ℕ) (s : Spot) (k : ℕ) : Type 0 where
   pub none : children_at f s k ≡ bare
   pub after : AfterChildren f s k s
 
-pub none-taken : {f : List ℕ} {s : Spot} (k : ℕ) → Reached f s → (eqb k 0 || eqb s.left 0) ≡ true → NoChild f s k
+pub none-taken : {f : List ℕ} {s : Spot} (k : ℕ) → Reached f s → (eqb k 0 || eqb s.nodes_left 0) ≡ true → NoChild f s k
 unfolding grown
 none-taken {f} {s} k r t =
     by-test (eqb k 0) (λ e. let z : k ≡ 0 = eqb-true k 0 e in both (rw z) (rw z))
     (λ e.
-    let z : s.left ≡ 0 = eqb-true s.left 0 (rw e at t) in
+    let z : s.nodes_left ≡ 0 = eqb-true s.nodes_left 0 (rw e at t) in
     let past : grown f s ≡ bare = ap plant (drop_of_length-le (list_of f) {i = node_index f s} (omega (arith, listed-many f))) in
     both (rw past (take_bare k)) (rw past (drop-bare k)))
   where

@@ -10,7 +10,7 @@ use Rattle.action.specs.Operator.{cells_of}
 use Rattle.section.specs.Numbers.{first_operator, operator_length, atom_length, node_length, most_operators}
 use Rattle.policy.specs.Read as read
 use Rattle.policy.specs.declared.Layout.{Layout}
-use Rattle.nodes.specs.declared.NodeWords.{NodeWords}
+use Rattle.section.specs.declared.Node.{Node}
 use Rattle.nodes.specs.declared.Spot.{Spot}
 
 -- the word where the first atom stands, behind a operators and the count of the atoms; 0 if no file has so many
@@ -19,14 +19,14 @@ first_atom a = cond (ltb most_operators a) 0 (read.atoms_at a + 1)
 
 -- the place of the root: all nodes are left, and the first atom is the next
 unfoldable pub root_spot : Layout → Spot
-root_spot l = record { left = l.nodes; atom = first_atom l.operators }
+root_spot l = record { nodes_left = l.nodes; next_atom = first_atom l.operators }
 
 -- the word where the node stands that has so many nodes left from it on; the end of the file if it has not so many
 unfoldable pub node_place : ℕ → ℕ → ℕ
 node_place words left = cond (ltb (words / node_length) left) words (words - node_length * left)
 
 -- that node's five words
-unfoldable pub node_at : List ℕ → ℕ → NodeWords
+unfoldable pub node_at : List ℕ → ℕ → Node
 node_at f left =
     let at : ℕ = node_place (length f) left in
     record {

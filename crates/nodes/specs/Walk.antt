@@ -40,7 +40,7 @@ records_of f = node_records f (layout_of f).operators (layout_of f).atoms (layou
 
 -- the index of the next node
 abbrev pub node_index : List ℕ → Spot → ℕ
-node_index f s = (layout_of f).nodes - s.left
+node_index f s = (layout_of f).nodes - s.nodes_left
 
 -- the word where the atoms start that the nodes before an index leave
 abbrev pub atoms_from : List ℕ → ℕ → ℕ
@@ -49,12 +49,12 @@ atoms_from f i = read.atoms_at (layout_of f).operators + 1 + atom_length * own_a
 -- a place that a walk over an accepted file reaches: its atoms start where those of the nodes before it end
 pub record Reached (f : List ℕ) (s : Spot) : Type 0 where
   pub accepted : read_of f ≡ Ok (layout_of f)
-  pub left : s.left ≤ (layout_of f).nodes
-  pub atom : s.atom ≡ atoms_from f (node_index f s)
+  pub left : s.nodes_left ≤ (layout_of f).nodes
+  pub atom : s.next_atom ≡ atoms_from f (node_index f s)
 
 -- the place behind a node's own atoms: that of its first child
 abbrev pub next_spot : List ℕ → Spot → Spot
-next_spot f s = record { left = s.left - 1; atom = s.atom + atom_length * (node_at f s.left).own }
+next_spot f s = record { nodes_left = s.nodes_left - 1; next_atom = s.next_atom + atom_length * (node_at f s.nodes_left).own }
 
 -- the trees that stand from a place on
 unfoldable pub grown : List ℕ → Spot → Forest PolicyNode
@@ -71,13 +71,13 @@ children_at f s k = take_trees k (grown f s)
 -- a place with these trees to come and at most n nodes left
 pub record After (f : List ℕ) (ts : Forest PolicyNode) (n : ℕ) (next : Spot) : Type 0 where
   pub rest : grown f next ≡ ts
-  pub less : next.left ≤ n
+  pub less : next.nodes_left ≤ n
   pub reached : Reached f next
 
 -- a place behind the tree at a place
 abbrev pub AfterTree : List ℕ → Spot → Spot → Type 0
-AfterTree f s = After f (drop_trees 1 (grown f s)) (s.left - 1)
+AfterTree f s = After f (drop_trees 1 (grown f s)) (s.nodes_left - 1)
 
 -- a place behind k children from a place on
 abbrev pub AfterChildren : List ℕ → Spot → ℕ → Spot → Type 0
-AfterChildren f s k = After f (drop_trees k (grown f s)) s.left
+AfterChildren f s k = After f (drop_trees k (grown f s)) s.nodes_left

@@ -1,95 +1,108 @@
-// Where a node, its operators and its atoms stand in a policy file. Each function is total: outside
-// the file all is 0, and there are no atoms.
+//! Where a node, its operators and its atoms stand in a policy file. Each function but the place behind
+//! a node's own atoms is total, so that only the walks know that a place was reached: outside the file
+//! all is 0, and there are no atoms.
 #![tactic(auto)]
 
-ghost use Rattle.std.specs.Prelude.{◌≡◌, ◌≤◌};
+ghost use Rattle.std.specs.Prelude.{◌≡◌, ◌≤◌, ◌<◌, ◌+◌, ◌-◌, ◌*◌, ◌^◌};
 ghost use Rattle.action.specs.Operator.{join};
+ghost use Rattle.section.specs.Numbers.{atom_length};
 ghost use Rattle.nodes.specs.Nodes.{node_place, node_at, from_operator, cells_at};
 ghost use Rattle.nodes.specs.Nodes.{atom_words_at, first_atom, root_spot};
 
 use action::{Action, Operator};
 use policy::Layout;
 use section::{
-    ATOM_WORDS, CHILDREN, FIRST_OPERATOR, HEADER_WORDS, INNER, LATEST, MOST_OPERATORS, NODE_WORDS,
-    OPERATOR_WORDS, OWN, PARENT, SIBLING, Section,
+    ATOM_WORDS, FIRST_OPERATOR, HEADER_WORDS, LATEST, MOST_OPERATORS, NODE_WORDS, Node,
+    OPERATOR_WORDS, Section,
 };
-use words::word;
+use words::Spelling;
 
-// A place in the list of nodes: how many nodes are left from it on, and the word where the next
-// node's atoms start.
+/// A policy file, by its words.
+#[derive(Clone, Copy)]
+pub struct File<'a> {
+    pub words: &'a [u32],
+}
+
+/// A place in the list of nodes: how many nodes are left from it on, and the word where the next
+/// node's atoms start. By place, and no borrowed tree: the file's words are lent, and there is no heap.
 #[derive(Clone, Copy)]
 pub struct Spot {
-    pub left: usize,
-    pub atom: usize,
+    pub nodes_left: usize,
+    pub next_atom: usize,
 }
 
-// A node's five words.
-#[derive(Clone, Copy)]
-pub struct NodeWords {
-    pub inner: u32,
-    pub parent: u32,
-    pub sibling: u32,
-    pub own: u32,
-    pub children: u32,
-}
-
-// The place of the root, where a walk starts: all nodes are left, and the first atom is the next.
+/// The place of the root, where a walk starts: all nodes are left, and the first atom is the next.
 pub fn root(layout: Layout) -> Spot
     ensures { result ≡ root_spot layout }
 {
     Spot {
-        left: layout.nodes,
-        atom: first_atom(layout.operators),
+        nodes_left: layout.nodes,
+        next_atom: first_atom(layout.operators),
     }
 }
 
-// The node that has so many nodes left from it on.
-pub fn node_at(file: &[u32], left: usize) -> NodeWords
-    ensures { result ≡ node_at file.now left }
-{
-    let at = node_place(file.len(), left);
-    NodeWords {
-        inner: word(file, at + INNER),
-        parent: word(file, at + PARENT),
-        sibling: word(file, at + SIBLING),
-        own: word(file, at + OWN),
-        children: word(file, at + CHILDREN),
+impl Spot {
+    /// The place behind a node's own atoms: that of its first child.
+    pub fn behind_own(self, node: Node) -> Spot
+        requires there { 0 < self.nodes_left }
+        requires within { self.next_atom + atom_length * node.own < 2 ^ 64 }
+        ensures { result ≡ record {
+          nodes_left = self.nodes_left - 1;
+          next_atom = self.next_atom + atom_length * node.own;
+        } }
+    {
+        Spot {
+            nodes_left: self.nodes_left - 1,
+            next_atom: self.next_atom + ATOM_WORDS * (node.own as usize),
+        }
     }
 }
 
-// The operator of an index.
-pub fn operator_at(file: &[u32], index: u32) -> Operator
-    ensures { result.cells ≡ cells_at file.now index }
-{
-    Operator::from_words(from_operator(file, index))
-}
+impl<'a> File<'a> {
+    /// The node that has so many nodes left from it on.
+    pub fn node_at(self, nodes_left: usize) -> Node
+        ensures { result ≡ node_at self.entry.words.now nodes_left }
+    {
+        let at = node_place(self.words.len(), nodes_left);
+        Node::read(&self.words[at..])
+    }
 
-// Two actions joined by the operator of an index. It is not read where one of them is don't care.
-pub fn join_at(file: &[u32], index: u32, left: Action, right: Action) -> Action
-    ensures { result ≡ join (cells_at file.now index) left right }
-{
-    if let Action::DontCare = left {
-        return right;
+    /// The operator of an index.
+    pub fn operator_at(self, index: u32) -> Operator
+        ensures { result.cells ≡ cells_at self.entry.words.now index }
+    {
+        Operator::from_words(self.from_operator(index))
     }
-    if let Action::DontCare = right {
-        return left;
-    }
-    operator_at(file, index).join(left, right)
-}
 
-// The words of so many atoms, from a word of the file on.
-pub fn atoms_at(file: &[u32], from: usize, count: u32) -> &[u32]
-    ensures { result.now ≡ atom_words_at file.now from count }
-{
-    let words = ATOM_WORDS * (count as usize);
-    if file.len() < words {
-        return &file[..0];
+    /// Two actions joined by the operator of an index. It is not read where one of them is don't care.
+    pub fn join_at(self, index: u32, left: Action, right: Action) -> Action
+        ensures { result ≡ join (cells_at self.entry.words.now index) left right }
+    {
+        if left == Action::DontCare {
+            return right;
+        }
+        if right == Action::DontCare {
+            return left;
+        }
+        self.operator_at(index).join(left, right)
     }
-    if file.len() - words < from {
-        return &file[..0];
+
+    /// The words of so many atoms, from a word of the file on.
+    pub fn atoms_at(self, from: usize, count: u32) -> &'a [u32]
+        ensures { result.now ≡ atom_words_at self.entry.words.now from count }
+    {
+        let words = ATOM_WORDS * (count as usize);
+        let rest = self.words.get(from..).unwrap_or(&[]);
+        rest.get(..words).unwrap_or(&[])
     }
-    let end = from + words;
-    &file[from..end]
+
+    // The words from the operator of an index on, none if it stands outside the file.
+    fn from_operator(self, index: u32) -> &'a [u32]
+        ensures { result.now ≡ from_operator self.entry.words.now index }
+    {
+        let at = FIRST_OPERATOR + OPERATOR_WORDS * (index as usize);
+        self.words.get(at..).unwrap_or(&[])
+    }
 }
 
 // The word where the first atom stands, behind so many operators and the count of the atoms; 0 if
@@ -104,23 +117,12 @@ fn first_atom(operators: usize) -> usize
 }
 
 // The word where the node stands, or the end of the file.
-fn node_place(length: usize, left: usize) -> usize
-    ensures place { result ≡ node_place length left }
+fn node_place(length: usize, nodes_left: usize) -> usize
+    ensures place { result ≡ node_place length nodes_left }
     ensures low { result ≤ length }
 {
-    if length / NODE_WORDS < left {
+    if length / NODE_WORDS < nodes_left {
         return length;
     }
-    length - NODE_WORDS * left
-}
-
-// The words from the operator of an index on, none if it stands outside the file.
-fn from_operator(file: &[u32], index: u32) -> &[u32]
-    ensures { result.now ≡ from_operator file.now index }
-{
-    let at = FIRST_OPERATOR + OPERATOR_WORDS * (index as usize);
-    if file.len() < at {
-        return &file[..0];
-    }
-    &file[at..]
+    length - NODE_WORDS * nodes_left
 }

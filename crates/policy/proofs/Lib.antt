@@ -1,4 +1,5 @@
 pub mod Extra
+pub mod Reading
 pub mod Accepted
 pub mod Refused
 pub mod Parts

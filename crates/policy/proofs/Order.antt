@@ -20,8 +20,7 @@ use Rattle.section.specs.Numbers.{header_length_in, operator_length_in, node_len
 use Rattle.section.specs.Cells.{operator_rows}
 use Rattle.section.specs.Sections.{children_of}
 use Rattle.whole.specs.Whole.{shape, shape_fault, own_atoms, sum_fault, laws_fault}
-use Rattle.policy.specs.Read.{atoms_at_in, nodes_at_in, end_in, operators_in, nodes_in, whole_stages, stages, layout, read_as}
-use Rattle.policy.specs.Steps.{with_whole}
+use Rattle.policy.specs.Read.{atoms_at_in, nodes_at_in, end_in, operators_in, nodes_in, whole_stages, stages, layout, answer, read_as}
 use Rattle.whole.specs.Meaning.{operator_at, OneTree, ended, HasPlace}
 use Rattle.policy.specs.File.{file_nodes_in}
 use Rattle.section.specs.Due.{RightNode}
@@ -33,10 +32,14 @@ use Rattle.section.proofs.Passed.{passed-header, good-passed}
 use Rattle.whole.proofs.Named.{operators-many, right-operators, laws-kept, kept_laws}
 use Rattle.whole.proofs.Trees.{shape-one-tree, one-tree-shape}
 use Rattle.policy.proofs.Accepted.{children-shape, good-otherwise, accepted-as}
-use Rattle.policy.proofs.Refused.{refused-law-as, broken-refused-as}
+use Rattle.policy.proofs.Refused.{broken-refused-as}
 use Rattle.whole.proofs.Depths.{shape-first, shape-places, has-place}
 use Rattle.logic.proofs.Tests.{by-test, by_le}
 use Rattle.section.proofs.Due.{first-wrong, passed-or-not, section-due, section-cases, header-due, header-cases}
+
+-- what the tests of the whole come to, once all three sections are good
+abbrev with_whole : Edition → List ℕ → ℕ → ℕ → ℕ → ℕ → ℕ → Reading
+with_whole e f h a b c q = answer (whole_stages e f h a b c q) (layout a b c)
 
 -- THE FILE. Once the header and all three sections are good the other stages answer.
 module _ (e : Edition) (f : List ℕ) (a b c : ℕ) where

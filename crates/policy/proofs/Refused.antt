@@ -164,7 +164,7 @@ record Found (ns : List (List ℕ)) (i : ℕ) (o : List ℕ) (r : Refusal) : Typ
   failure : LawFailure
   reason : r.reason ≡ LawBroken failure
   place : r.place ≡ i
-  shows : Shows (cells_of o) failure.law failure.first failure.second failure.third
+  shows : Shows (cells_of o) failure
 
 found : (ns : List (List ℕ)) (i : ℕ) (o : List ℕ) (r : Refusal) → operator_fault ns i o ≡ Err r → Found ns i o r
 unfolding operator_fault
@@ -230,7 +230,7 @@ refused-law-as e f r g n =
       used = rw z w.2.used;
       failure = w.2.failure;
       reason = w.2.reason;
-      shows = subst (λ k. Shows (operator_at os k) w.2.failure.law w.2.failure.first w.2.failure.second w.2.failure.third) (sym z) w.2.shows;
+      shows = subst (λ k. Shows (operator_at os k) w.2.failure) (sym z) w.2.shows;
       first-such = λ i l t.
           (search-exact (operator_at os i) (right-operators e raw a counted o.cells i (omega (arith, w.1.within)))).0
           (passed-search ns i (get_or os i []) (w.1.before i (omega arith) i (omega arith)) t);

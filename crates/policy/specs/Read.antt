@@ -10,7 +10,6 @@
 use Rattle.std.specs.Prelude.{ℕ, ◌+◌, List, [], ◌∷◌, Result, Ok, Err, leb, get_or, length, drop}
 use Rattle.words.specs.Records.{records}
 use Rattle.section.specs.Numbers.{latest, header_length_in, operator_length_in, atom_length_in, node_length}
-use Rattle.refusal.specs.Refusals.{refusal_at}
 use Rattle.refusal.specs.declared.Reason.TheVariants.{ExtraWords}
 use Rattle.refusal.specs.declared.Refusal.{Refusal}
 use Rattle.section.specs.Cells.{operator_rows}

@@ -60,8 +60,7 @@ pub record BrokenLawIn (e : Edition) (f : List ℕ) (r : Refusal) : Type 0 where
   pub used : named r.place (nodes_in e f operators atoms nodes) ≡ true
   pub failure : LawFailure
   pub reason : r.reason ≡ LawBroken failure
-  pub shows : Shows (operator_at (operator_rows e (operators_in e f operators)) r.place) failure.law failure.first
-      failure.second failure.third
+  pub shows : Shows (operator_at (operator_rows e (operators_in e f operators)) r.place) failure
   pub first-such : (i : ℕ) → i < r.place → named i (nodes_in e f operators atoms nodes) ≡ true
       → KeepsLaws (operator_at (operator_rows e (operators_in e f operators)) i)
 

@@ -2,7 +2,7 @@
 use Prim.Native.Nat.{ℕ, zero, suc, ◌+◌, ◌-◌, ◌≤◌, ◌<◌, max}
 use native.Mathlib.Omega.{arith}
 use mathlib.Core.Path.{◌≡◌}
-use mathlib.Core.Bool.{Bool, true, false, cond}
+use mathlib.Core.Bool.{Bool, cond}
 use mathlib.Core.List.{List, [], ◌∷◌, ◌++◌}
 use lib.ListN.{get_or}
 use Rattle.logic.proofs.Tests.{by-test}
@@ -13,17 +13,6 @@ use Rattle.flow.specs.declared.Match.{Match}
 use Rattle.table.specs.Table.{past}
 use Rattle.priority.specs.Numbering.{over}
 use Rattle.row.specs.Row.{rows_in}
-
--- what a row of a level makes of the best so far, by whether it overlaps
-pub raised-low : (best level : ℕ) (b : Bool) → level < best → best ≡ max best (cond b (suc level) 0)
-raised-low best level true h = omega arith
-raised-low best level false h = omega arith
-
-pub raised-over : (best level : ℕ) (b : Bool) → best ≤ level → b ≡ true → level + 1 ≡ max best (cond b (suc level) 0)
-raised-over best level b h t = rw t (omega arith)
-
-pub raised-not : (best level : ℕ) (b : Bool) → b ≡ false → best ≡ max best (cond b (suc level) 0)
-raised-not best level b t = rw t (omega arith)
 
 -- levels below a number give no more than that number
 pub above_most : (test : ℕ → ℕ → Bool) (ls : List ℕ) (i k count : ℕ) → ((j : ℕ) → j < k → get_or ls j 0 < count) → above test ls i k ≤ count

@@ -1,24 +1,26 @@
--- The search for the first place that passes a test, as `position` and `find` make it. Assumes nothing.
-use Prim.Native.Nat.{ℕ, zero, suc, ◌+◌, ◌≤◌}
+-- The search for the first place that passes a test, as `position` makes it. Assumes nothing.
+use Prim.Native.Nat.{ℕ, zero, suc, ◌+◌, ◌≤◌, ◌<◌}
 use native.Mathlib.Omega.{arith}
-use native.Mathlib.Numerals.{add-one}
-use mathlib.Core.Path.{◌≡◌, refl, sym, ap, ◌∙◌}
+use mathlib.Core.Path.{◌≡◌, refl, sym, ap, ap₂, ◌∙◌}
 use mathlib.Core.Bool.{Bool, cond, ◌&&◌}
-use mathlib.Core.List.{List, ◌∷◌}
+use mathlib.Core.List.{List, [], ◌∷◌}
 use lib.Dec.{eqb, ltb}
-use lib.ListN.{length, get_or}
+use lib.ListN.{length, get_or, take}
+use lib.Seq.{length-take-le, get_or-take}
 use borrow.Author.Tests.{ltb-false}
-use Rattle.std.specs.List.{find, position, position_or_len, range_with_len}
-use Rattle.std.specs.Prelude.{Option, Some, None}
-use Rattle.std.specs.Option.{unwrap_or, option_map}
+use Rattle.std.specs.List.{position, position_or_len, zip}
+use Rattle.std.specs.Option.{unwrap_or}
 use Rattle.std.proofs.lemmas.List.Recursion.{is_position_or_len}
+use Rattle.std.proofs.lemmas.Slice.Zip.{length-zip, get_or-zip}
 use Rattle.logic.proofs.Tests.{by-test}
-use Rattle.theory.specs.Number.{seek, at_level, first_of_level, overlaps_at}
-use Rattle.flow.specs.Match.{overlap}
+use Rattle.words.specs.Records.{records}
+use Rattle.theory.specs.Number.{seek, overlaps_at, step_back}
+use Rattle.flow.specs.Match.{match_of, overlap}
 use Rattle.flow.specs.declared.Match.{Match}
-use Rattle.table.specs.Table.{past}
+use Rattle.table.specs.Table.{row_count, past}
+use Rattle.table.proofs.Tables.{match-read}
 use Rattle.priority.specs.Numbering.{over}
-use Rattle.row.specs.Row.{rows_in}
+use Rattle.row.specs.Row.{row_length, rows_in}
 
 -- the search goes no further than the places it has
 pub seek-within : (test : ℕ → Bool) (n at : ℕ) → seek test n at ≤ at + n
@@ -26,44 +28,54 @@ seek-within test zero at = omega arith
 seek-within test (suc n) at =
     by-test (test at) (λ t. rw t (omega arith)) (λ t. rw t (omega (arith, seek-within test n (suc at))))
 
--- the test of a step back, as the loop makes it
-pub step-test : (ws ls : List ℕ) (i l j : ℕ) (m : Match) → m ≡ (get_or (rows_in ws) i past).matching → (b : Bool)
-    → b ≡ (overlap (get_or (rows_in ws) j past).matching m && eqb (get_or ls j 0) l) → overlaps_at (over ws) ls i l j ≡ b
-unfolding over
-step-test ws ls i l j m e b d = sym (rw e at d)
-
 -- the search among the places of a list, as `position` makes it
 seek-suc : (test : ℕ → Bool) (n at : ℕ) → seek test n (suc at) ≡ suc (seek (λ j. test (suc j)) n at)
 seek-suc test zero at = refl
 seek-suc test (suc n) at = by-test (test (suc at)) (λ t. rw t) (λ t. rw t (seek-suc test n (suc at)))
 
-seek-list : (test : ℕ → Bool) (ls : List ℕ) → seek (λ j. test (get_or ls j 0)) (length ls) 0 ≡ position_or_len test ls
-seek-list test ls = is_position_or_len (λ l. seek (λ j. test (get_or l j 0)) (length l) 0) test refl step ls
-  where
-    step : (x : ℕ) (l : List ℕ)
-        → cond (test x) 0 (seek (λ j. test (get_or (x ∷ l) j 0)) (length l) 1) ≡ cond (test x) 0 (1 + seek (λ j. test (get_or l j 0)) (length l) 0)
-    step x l =
-        let e : seek (λ j. test (get_or (x ∷ l) j 0)) (length l) 1 ≡ 1 + seek (λ j. test (get_or l j 0)) (length l) 0 =
-        omega (arith, seek-suc (λ j. test (get_or (x ∷ l) j 0)) (length l) 0) in
-        ap (cond (test x) 0) e
+module _ {A : Type 0} (d : A) (test : A → Bool) where
+  seek-list : (xs : List A) → seek (λ j. test (get_or xs j d)) (length xs) 0 ≡ position_or_len test xs
+  seek-list = is_position_or_len (λ l. seek (λ j. test (get_or l j d)) (length l) 0) test refl step
+    where
+      step : (x : A) (l : List A)
+          → cond (test x) 0 (seek (λ j. test (get_or (x ∷ l) j d)) (length l) 1) ≡ cond (test x) 0 (1 + seek (λ j. test (get_or l j d)) (length l) 0)
+      step x l =
+          let e : seek (λ j. test (get_or (x ∷ l) j d)) (length l) 1 ≡ 1 + seek (λ j. test (get_or l j d)) (length l) 0 =
+          omega (arith, seek-suc (λ j. test (get_or (x ∷ l) j d)) (length l) 0) in
+          ap (cond (test x) 0) e
 
-pub first-position : (ls : List ℕ) (l : ℕ) → unwrap_or (position (λ x. eqb x l) ls) (length ls) ≡ first_of_level ls l
-first-position ls l =
-    let n : ℕ = position_or_len (λ x. eqb x l) ls in
-    let found : first_of_level ls l ≡ n = seek-list (λ x. eqb x l) ls in
-    let most : first_of_level ls l ≤ 0 + length ls = seek-within (at_level ls l) (length ls) 0 in
-    by-test (ltb n (length ls))
-    (λ t. rw t (sym found))
-    (λ t. let h : length ls ≤ n = ltb-false n (length ls) t in rw t (omega arith))
+  pub first-position : (xs : List A) → unwrap_or (position test xs) (length xs) ≡ seek (λ j. test (get_or xs j d)) (length xs) 0
+  first-position xs =
+      let n : ℕ = position_or_len test xs in
+      let found : seek (λ j. test (get_or xs j d)) (length xs) 0 ≡ n = seek-list xs in
+      let most : seek (λ j. test (get_or xs j d)) (length xs) 0 ≤ 0 + length xs = seek-within (λ j. test (get_or xs j d)) (length xs) 0 in
+      by-test (ltb n (length xs))
+      (λ t. rw t (sym found))
+      (λ t. let h : length xs ≤ n = ltb-false n (length xs) t in rw t (omega arith))
 
--- the same search, as `find` makes it among numbers
-pub seek-find : (test : ℕ → Bool) (n at : ℕ) → unwrap_or (find test (range_with_len at n)) (at + n) ≡ seek test n at
-seek-find test zero at = omega arith
-seek-find test (suc n) at =
-    let e : at + suc n ≡ suc at + n = omega arith in
-    by-test (test at) (λ t. rw t) (λ t. rw (t, e, add-one at) (seek-find test n (suc at)))
+-- two tests that agree find the same
+seek-same : (test test' : ℕ → Bool) (n at : ℕ) → ((j : ℕ) → j < at + n → test j ≡ test' j) → seek test n at ≡ seek test' n at
+seek-same test test' zero at f = refl
+seek-same test test' (suc n) at f =
+    ap₂ (λ b k. cond b at k) (f at (omega arith)) (seek-same test test' n (suc at) (λ j h. f j (omega arith)))
 
--- what was found, or else the place after the last
-pub found-or : (o p : Option ℕ) (d : ℕ) → option_map (λ x. x) o ≡ p → unwrap_or o d ≡ unwrap_or p (0 + d)
-found-or None p d e = let z : d ≡ 0 + d = omega arith in ap (λ q. unwrap_or q d) e ∙ ap (unwrap_or p) z
-found-or (Some x) p d e = let z : d ≡ 0 + d = omega arith in ap (λ q. unwrap_or q d) e ∙ ap (unwrap_or p) z
+-- the test of a level and a row, as a step back makes it
+abbrev pub pair-test : Match → ℕ → ℕ × List ℕ → Bool
+pair-test m l p = overlap (match_of p.1) m && eqb p.0 l
+
+-- what it finds first among the levels and rows before a row
+pub step-position : (ws ls : List ℕ) (rows : List (List ℕ)) (i l : ℕ) (m : Match) → m ≡ (get_or (rows_in ws) i past).matching
+    → rows ≡ records (row_count ws) row_length ws → i ≤ length ls → i ≤ length rows
+    → unwrap_or (position (pair-test m l) (zip (take i ls) rows)) i ≡ step_back (over ws) ls i l
+unfolding over
+step-position ws ls rows i l m e d h k =
+    let pairs : List (ℕ × List ℕ) = zip (take i ls) rows in
+    let n : length (take i ls) ≡ i = length-take-le i ls h in
+    let q : length pairs ≡ i = length-zip (take i ls) rows ∙ omega arith in
+    let same : (j : ℕ) → j < 0 + i → pair-test m l (get_or pairs j (0, [])) ≡ overlaps_at (over ws) ls i l j = λ j g.
+    ap (pair-test m l) (get_or-zip (take i ls) rows j (0, []) (omega arith) (omega arith))
+    ∙ rw (get_or-take i ls j 0 (omega arith), match-read ws rows j (get_or rows j []) d refl, e) in
+    ap (unwrap_or (position (pair-test m l) pairs)) (sym q)
+    ∙ first-position (0, []) (pair-test m l) pairs
+    ∙ ap (λ x. seek (λ j. pair-test m l (get_or pairs j (0, []))) x 0) q
+    ∙ seek-same (λ j. pair-test m l (get_or pairs j (0, []))) (overlaps_at (over ws) ls i l) i 0 same

@@ -71,19 +71,17 @@ abbrev pub Answered : List ℕ → List ℕ → List ℕ → Result ℕ Refusal 
 Answered ws ps cs r ps' cs' =
     (r ≡ number_of ws (length ps) (length cs)) × (ps' ≡ priorities_after ws ps cs) × (cs' ≡ chain_after ws ps cs)
 
--- a table of few enough rows, a word for each row's priority, and room for a chain of all rows
+-- a word for each row's priority, and room for a chain of all rows
 abbrev pub NumbersFit : List ℕ → List ℕ → List ℕ → Type 0
-NumbersFit ws ps cs = (length ps ≡ row_count ws) × (row_count ws ≤ most_rows) × (row_count ws ≤ length cs)
+NumbersFit ws ps cs = (length ps ≡ row_count ws) × (row_count ws ≤ length cs)
 
 -- i is a row, and the rows before it have levels below a count of levels, which is not too large
 abbrev pub LevelsBefore : List ℕ → List ℕ → ℕ → ℕ → Type 0
-LevelsBefore ws ls i count = (i < row_count ws) × (i ≤ length ls) × (count ≤ most_rows)
-    × ((j : ℕ) → j < i → get_or ls j 0 < count)
+LevelsBefore ws ls i count = (i < row_count ws) × (i ≤ length ls) × (count ≤ most_rows) × ((j : ℕ) → j < i → get_or ls j 0 < count)
 
--- each row of a table of few enough rows has its level, and there is room for as many places as there are levels
+-- each row has its level, and there is room for as many places as there are levels
 abbrev pub ChainFits : List ℕ → List ℕ → ℕ → List ℕ → Type 0
-ChainFits ws ls count cs = (length ls ≡ row_count ws) × (count ≡ level_count ls) × (row_count ws ≤ most_rows)
-    × (count ≤ length cs)
+ChainFits ws ls count cs = (length ls ≡ row_count ws) × (count ≡ level_count ls) × (count ≤ length cs)
 
 -- how many priorities an answer counts, 0 where it is a refusal
 abbrev pub answer_count : Result ℕ Refusal → ℕ

@@ -1,8 +1,8 @@
--- For each public function but those of the inner crates `common`, `rows` and `build`: its contract, as the checker reads it, asks nothing, and no second
--- answer fits it. Where buffers are lent, their words are part of what is seen.
+-- For each public function but those of the inner crates `common`, `rows` and `build`, and for those of the traits by which values are read, written and
+-- converted: its contract, as the checker reads it, asks nothing, and no second answer fits it. Where buffers are lent, their words are part of what is seen.
 use Prim.Native.Nat.{ℕ}
-use mathlib.Core.Path.{sym, ap, ◌∙◌}
-use mathlib.Core.List.{Mem}
+use mathlib.Core.Path.{◌≡◌, sym, ap, ◌∙◌}
+use mathlib.Core.List.{List, Mem, not-mem-nil}
 use denote.RattleType.{RattleType}
 use Rattle.logic.specs.Answers.{OneAnswer, answer_with, answer_and}
 use Rattle.logic.proofs.Answers.{fixed, both, all}
@@ -31,13 +31,14 @@ use Rattle.flow.proofs.Match.constrains.Reads as constrains
 use Rattle.flow.proofs.Match.is_right.Reads as right_match
 use Rattle.flow.proofs.Match.is_plain.Reads as is_plain
 use Rattle.flow.proofs.Packet.is_right.Reads as right_packet
-use Rattle.flow.proofs.right_packet_words.Reads as right_packet_words
-use Rattle.flow.proofs.Packet.read.Reads as read_packet
-use Rattle.flow.proofs.Match.read.Reads as read_match
-use Rattle.flow.proofs.Packet.store.Reads as write_packet
-use Rattle.flow.proofs.Match.store.Reads as write_match
-use Rattle.flow.proofs.Packet.write.Reads as words_of_packet
-use Rattle.flow.proofs.Match.write.Reads as words_of_match
+use Rattle.flow.proofs.packets.PacketTryFromRefSliceU32.try_from.Reads as packet_try_from
+use Rattle.flow.proofs.packets.PacketSpelling.read.Reads as read_packet
+use Rattle.flow.proofs.matches.MatchSpelling.read.Reads as read_match
+use Rattle.flow.proofs.packets.PacketWritten.write.Reads as write_packet
+use Rattle.flow.proofs.matches.MatchWritten.write.Reads as write_match
+use Rattle.flow.proofs.packets.PacketWordsFromPacket.from.Reads as words_of_packet
+use Rattle.flow.proofs.matches.MatchWordsFromMatch.from.Reads as words_of_match
+use Rattle.action.specs.declared.Operator.{Operator}
 use Rattle.action.proofs.Operator.sibling.Reads as operator_sibling
 use Rattle.action.proofs.Operator.parent.Reads as operator_parent
 use Rattle.action.proofs.Operator.join.Reads as operator_join
@@ -46,8 +47,11 @@ use Rattle.action.proofs.Action.kind.Reads as kind
 use Rattle.action.proofs.Action.rate.Reads as rate
 use Rattle.action.proofs.Action.from_words.Reads as action_from_words
 use Rattle.action.proofs.Action.right_words.Reads as right_words
+use Rattle.action.proofs.ActionWordsFromAction.from.Reads as words_of_action
 use Rattle.action.proofs.right_cell.Reads as right_cell
 use Rattle.action.proofs.Operator.from_words.Reads as operator_from_words
+use Rattle.row.proofs.RowSpellingSpelling.read.Reads as read_row
+use Rattle.row.proofs.RowSpellingWritten.write.Reads as write_row
 use Rattle.row.proofs.row_action.Reads as row_action
 use Rattle.row.proofs.words_of_row.Reads as words_of_row
 use Rattle.row.proofs.right_row.Reads as right_row
@@ -56,27 +60,35 @@ use Rattle.row.proofs.right_row_action.Reads as right_row_action
 use Rattle.refusal.proofs.Reason.number.Reads as reason_number
 use Rattle.refusal.proofs.Reason.failure.Reads as reason_failure
 use Rattle.refusal.proofs.Reason.at.Reads as reason_at
+use Rattle.refusal.proofs.RefusalFromInvalidPacket.from.Reads as refusal_from
 use Rattle.section.proofs.Edition.words.Reads as edition_words
 use Rattle.section.proofs.Edition.header_fault.Reads as edition_header_fault
 use Rattle.section.proofs.Edition.operator.Reads as edition_operator
+use Rattle.section.proofs.nodes.NodeSpelling.read.Reads as read_node
+use Rattle.section.proofs.Node.names.Reads as node_names
 use Rattle.section.proofs.unless.Reads as unless
 use Rattle.whole.proofs.shape_fault.Reads as shape_fault
 use Rattle.whole.proofs.laws_fault.Reads as laws_fault
 use Rattle.policy.proofs.read.Reads as read
 use Rattle.policy.proofs.read_as.Reads as read_as
 use Rattle.nodes.proofs.root.Reads as root
-use Rattle.nodes.proofs.node_at.Reads as node_at
-use Rattle.nodes.proofs.operator_at.Reads as operator_at
-use Rattle.nodes.proofs.atoms_at.Reads as atoms_at
-use Rattle.nodes.proofs.join_at.Reads as join_at
+use Rattle.nodes.proofs.File.node_at.Reads as node_at
+use Rattle.nodes.proofs.File.operator_at.Reads as operator_at
+use Rattle.nodes.proofs.File.atoms_at.Reads as atoms_at
+use Rattle.nodes.proofs.File.join_at.Reads as join_at
 use Rattle.tree.proofs.tree_action.Reads as tree_action
 use Rattle.table.proofs.scan.Reads as scan
 use Rattle.table.proofs.check.Reads as check
+use Rattle.table.proofs.Table.row_count.Reads as row_count
 use Rattle.table.proofs.first_match.Reads as first_match
 use Rattle.table.proofs.match_at.Reads as match_at
+use Rattle.table.proofs.rows.Reads as rows
 use Rattle.hidden.proofs.drop_hidden.Reads as drop_hidden
 use Rattle.priority.proofs.number.Reads as number
 use Rattle.compile.proofs.compile.Reads as compile
+use Rattle.line.specs.contracts.parts.Head as Head
+use Rattle.line.specs.contracts.parts.Line as Line
+use Rattle.refusal.specs.contracts.Refusal as Refusal
 use Rattle.line.proofs.put.Reads as put
 use Rattle.sheet.proofs.list_table.Reads as list_table
 use Rattle.text.proofs.list.Reads as list
@@ -161,8 +173,8 @@ is_plain-one = fixed (λ κ a r s p. p)
 right_packet-one : OneAnswer right_packet.Pre right_packet.Post (λ κ r s. r)
 right_packet-one = fixed (λ κ a r s p. p)
 
-right_packet_words-one : OneAnswer right_packet_words.Pre right_packet_words.Post (λ κ r s. r)
-right_packet_words-one = fixed (λ κ a r s p. p)
+packet_try_from-one : OneAnswer packet_try_from.Pre packet_try_from.Post (λ κ r s. r)
+packet_try_from-one = fixed (λ κ a r s p. p)
 
 read_packet-one : OneAnswer read_packet.Pre read_packet.Post (λ κ r s. r)
 read_packet-one = fixed (λ κ a r s p. p)
@@ -170,10 +182,10 @@ read_packet-one = fixed (λ κ a r s p. p)
 read_match-one : OneAnswer read_match.Pre read_match.Post (λ κ r s. r)
 read_match-one = fixed (λ κ a r s p. p)
 
-write_packet-one : OneAnswer write_packet.Pre write_packet.Post (λ κ r s. s.1.0.now)
+write_packet-one : OneAnswer write_packet.Pre write_packet.Post (λ κ r s. s.0.now)
 write_packet-one = fixed (λ κ a r s p. p)
 
-write_match-one : OneAnswer write_match.Pre write_match.Post (λ κ r s. s.1.0.now)
+write_match-one : OneAnswer write_match.Pre write_match.Post (λ κ r s. s.0.now)
 write_match-one = fixed (λ κ a r s p. p)
 
 words_of_packet-one : OneAnswer words_of_packet.Pre words_of_packet.Post (λ κ r s. r)
@@ -182,12 +194,15 @@ words_of_packet-one = fixed (λ κ a r s p. p)
 words_of_match-one : OneAnswer words_of_match.Pre words_of_match.Post (λ κ r s. r)
 words_of_match-one = fixed (λ κ a r s p. p)
 
--- action
+-- action: an operator is its cells
+by-cells : {o : Operator} {cells : List ℕ} → o.cells ≡ cells → o ≡ record { cells = cells }
+by-cells = ap (λ c. record { cells = c })
+
 operator_sibling-one : OneAnswer operator_sibling.Pre operator_sibling.Post (λ κ r s. r)
-operator_sibling-one = fixed (λ κ a r s p. ap (λ c. record { cells = c }) p)
+operator_sibling-one = fixed (λ κ a r s p. by-cells p)
 
 operator_parent-one : OneAnswer operator_parent.Pre operator_parent.Post (λ κ r s. r)
-operator_parent-one = fixed (λ κ a r s p. ap (λ c. record { cells = c }) p)
+operator_parent-one = fixed (λ κ a r s p. by-cells p)
 
 operator_join-one : OneAnswer operator_join.Pre operator_join.Post (λ κ r s. r)
 operator_join-one = fixed (λ κ a r s p. p)
@@ -207,11 +222,14 @@ action_from_words-one = fixed (λ κ a r s p. p)
 right_words-one : OneAnswer right_words.Pre right_words.Post (λ κ r s. r)
 right_words-one = fixed (λ κ a r s p. p)
 
+words_of_action-one : OneAnswer words_of_action.Pre words_of_action.Post (λ κ r s. r)
+words_of_action-one = fixed (λ κ a r s p. p)
+
 right_cell-one : OneAnswer right_cell.Pre right_cell.Post (λ κ r s. r)
 right_cell-one = fixed (λ κ a r s p. p)
 
 operator_from_words-one : OneAnswer operator_from_words.Pre operator_from_words.Post (λ κ r s. r)
-operator_from_words-one = fixed (λ κ a r s p. ap (λ c. record { cells = c }) p)
+operator_from_words-one = fixed (λ κ a r s p. by-cells p)
 
 -- row
 row_action-one : OneAnswer row_action.Pre row_action.Post (λ κ r s. r)
@@ -219,6 +237,12 @@ row_action-one = fixed (λ κ a r s p. p)
 
 words_of_row-one : OneAnswer words_of_row.Pre words_of_row.Post (λ κ r s. r)
 words_of_row-one = fixed (λ κ a r s p. p)
+
+read_row-one : OneAnswer read_row.Pre read_row.Post (λ κ r s. r)
+read_row-one = fixed (λ κ a r s p. p)
+
+write_row-one : OneAnswer write_row.Pre write_row.Post (λ κ r s. s.0.now)
+write_row-one = fixed (λ κ a r s p. p)
 
 right_row-one : OneAnswer right_row.Pre right_row.Post (λ κ r s. r)
 right_row-one = fixed (λ κ a r s p. p)
@@ -239,6 +263,9 @@ reason_failure-one = fixed (λ κ a r s p. p)
 reason_at-one : OneAnswer reason_at.Pre reason_at.Post (λ κ r s. r)
 reason_at-one = fixed (λ κ a r s p. p)
 
+refusal_from-one : OneAnswer refusal_from.Pre refusal_from.Post (λ κ r s. r)
+refusal_from-one = fixed (λ κ a r s p. p)
+
 -- section
 edition_words-one : OneAnswer edition_words.Pre edition_words.Post (λ κ r s. r)
 edition_words-one = fixed (λ κ a r s p. p)
@@ -247,7 +274,13 @@ edition_header_fault-one : OneAnswer edition_header_fault.Pre edition_header_fau
 edition_header_fault-one = fixed (λ κ a r s p. p)
 
 edition_operator-one : OneAnswer edition_operator.Pre edition_operator.Post (λ κ r s. r)
-edition_operator-one = fixed (λ κ a r s p. ap (λ c. record { cells = c }) p)
+edition_operator-one = fixed (λ κ a r s p. by-cells p)
+
+node_names-one : OneAnswer node_names.Pre node_names.Post (λ κ r s. r)
+node_names-one = fixed (λ κ a r s p. p)
+
+read_node-one : OneAnswer read_node.Pre read_node.Post (λ κ r s. r)
+read_node-one = fixed (λ κ a r s p. p)
 
 unless-one : OneAnswer unless.Pre unless.Post (λ κ r s. r)
 unless-one = fixed (λ κ a r s p. p)
@@ -274,7 +307,7 @@ node_at-one : OneAnswer node_at.Pre node_at.Post (λ κ r s. r)
 node_at-one = fixed (λ κ a r s p. p)
 
 operator_at-one : OneAnswer operator_at.Pre operator_at.Post (λ κ r s. r)
-operator_at-one = fixed (λ κ a r s p. ap (λ c. record { cells = c }) p)
+operator_at-one = fixed (λ κ a r s p. by-cells p)
 
 atoms_at-one : OneAnswer atoms_at.Pre atoms_at.Post (λ κ r s. r.now)
 atoms_at-one = fixed (λ κ a r s p. p)
@@ -293,11 +326,17 @@ scan-one = fixed (λ κ a r s p. p)
 check-one : OneAnswer check.Pre check.Post (λ κ r s. r)
 check-one = fixed (λ κ a r s p. p)
 
+row_count-one : OneAnswer row_count.Pre row_count.Post (λ κ r s. r)
+row_count-one = fixed (λ κ a r s p. p)
+
 first_match-one : OneAnswer first_match.Pre first_match.Post (λ κ r s. r)
 first_match-one = fixed (λ κ a r s p. p)
 
 match_at-one : OneAnswer match_at.Pre match_at.Post (λ κ r s. r)
 match_at-one = fixed (λ κ a r s p. p)
+
+rows-one : OneAnswer rows.Pre rows.Post (λ κ r s. r.now)
+rows-one = fixed (λ κ a r s p. p.0)
 
 -- hidden
 drop_hidden-one : OneAnswer drop_hidden.Pre drop_hidden.Post (λ κ r s. answer_with r s.0.now)
@@ -321,6 +360,16 @@ put-one T L G D none = record {
   asks_nothing = λ κ a i m. absurd (none i m);
   no_second = λ κ a r₁ r₂ s₁ s₂ p q. both (p.end ∙ sym q.end) (p.bytes ∙ sym q.bytes);
 }
+
+-- so of those whose text is a line of a listing, whatever the text
+put_head-one : (L : _) (G : _) (D : _) → OneAnswer (put.Pre Head.the_row L G D) (put.Post Head.the_row L G D) (λ κ r s. answer_with r s.0.now)
+put_head-one L G D = put-one Head.the_row L G D (λ i m. not-mem-nil m)
+
+put_line-one : (L : _) (G : _) (D : _) → OneAnswer (put.Pre Line.the_row L G D) (put.Post Line.the_row L G D) (λ κ r s. answer_with r s.0.now)
+put_line-one L G D = put-one Line.the_row L G D (λ i m. not-mem-nil m)
+
+put_refusal-one : (L : _) (G : _) (D : _) → OneAnswer (put.Pre Refusal.the_row L G D) (put.Post Refusal.the_row L G D) (λ κ r s. answer_with r s.0.now)
+put_refusal-one L G D = put-one Refusal.the_row L G D (λ i m. not-mem-nil m)
 
 -- sheet
 list_table-one : OneAnswer list_table.Pre list_table.Post (λ κ r s. answer_with r s.1.0.now)

@@ -13,9 +13,8 @@ use Rattle.logic.proofs.Tests.{by_le, or_split}
 use Rattle.words.proofs.RecordLaws.{length-records}
 use Rattle.action.specs.Laws.{Shows}
 use Rattle.action.specs.declared.Action.{Action}
-use Rattle.action.specs.declared.Law.{Law}
-use Rattle.action.specs.declared.Law.TheVariants.{Commutativity, Associativity}
 use Rattle.action.specs.declared.LawFailure.{LawFailure}
+use Rattle.action.specs.declared.LawFailure.TheVariants.{Commutativity, Associativity}
 use Rattle.action.proofs.Exact.{shown-in-range}
 use Rattle.refusal.specs.Refusals.{law_broken, refusal_number}
 use Rattle.refusal.specs.declared.Refusal.{Refusal}
@@ -37,10 +36,10 @@ use Rattle.promises.proofs.Rates.{accepted-ranged}
 use Rattle.promises.proofs.Scanned.{table-scans}
 
 -- actions of the list that break a law are actions with allowed rates that do
-breaks : (o : List ℕ) (l : Law) (a b c : Action) → Shows o l a b c → BreaksCommutativity o ⊎ BreaksAssociativity o
-breaks o Commutativity a b c s =
-    inl (record { left = a; right = b; left-allowed = shown-in-range a s.0; right-allowed = shown-in-range b s.1; differ = s.3 })
-breaks o Associativity a b c s = inr (record {
+breaks : (o : List ℕ) (f : LawFailure) → Shows o f → BreaksCommutativity o ⊎ BreaksAssociativity o
+breaks o (Commutativity a b) s =
+    inl (record { left = a; right = b; left-allowed = shown-in-range a s.0; right-allowed = shown-in-range b s.1; differ = s.2 })
+breaks o (Associativity a b c) s = inr (record {
   left = a;
   middle = b;
   right = c;
@@ -93,7 +92,7 @@ shown f a b c r o e n =
     let ns : List (List ℕ) = node_records f a b c in
     let many : length ns ≡ c = length-records c node_length (drop (nodes_at a b + 1) f) in
     let x : LawFailure = w.failure in
-    let shows : Shows (operator_at os r.place) x.law x.first x.second x.third = rw s.0 at w.shows in
+    let shows : Shows (operator_at os r.place) x = rw s.0 at w.shows in
     let g : Naming r.place ns = naming r.place ns (rw (s.0, s.1, s.2) at w.used) in
     let kept : (i : ℕ) → i < r.place → named i ns ≡ true → KeepsLaws (operator_at os i) = rw (s.0, s.1, s.2) at w.first-such in
     record {
@@ -103,7 +102,7 @@ shown f a b c r o e n =
         within = omega (arith, g.within);
         operator = r.place;
         named = names-either r.place (get_or ns g.node []) g.names-it;
-        breaks = breaks (operator_at os r.place) x.law x.first x.second x.third shows;
+        breaks = breaks (operator_at os r.place) x shows;
       };
       named = refl;
       first = first-broken f a b c r.place kept;

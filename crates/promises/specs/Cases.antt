@@ -9,9 +9,8 @@
 use Rattle.std.specs.Prelude.{ℕ, ◌+◌, ◌*◌, ◌≡◌, List, [], ◌∷◌, ◌++◌, Ok, Err}
 use Rattle.action.specs.Operator.{join, sibling, parent}
 use Rattle.action.specs.declared.Action.TheVariants.{DontCare, Allow, Deny, Gmb}
-use Rattle.action.specs.declared.Law.TheVariants.{Commutativity, Associativity}
+use Rattle.action.specs.declared.LawFailure.TheVariants.{Commutativity, Associativity}
 use Rattle.row.specs.Row.{row_length, table_rows}
-use Rattle.action.specs.Laws.{failure}
 use Rattle.refusal.specs.Refusals.{refusal_at}
 use Rattle.refusal.specs.declared.Reason.TheVariants.{ShortFile, LawBroken}
 use Rattle.policy.specs.Read.{read_of}
@@ -82,9 +81,9 @@ cases =
     ∷ k 9 (priorities_after (rows_left tenant) (zeros 3) (zeros 3)) (3 ∷ 2 ∷ 1 ∷ [])
     ∷ k 9 (chain_after (rows_left tenant) (zeros 3) (zeros 3)) (0 ∷ 1 ∷ 2 ∷ [])
     ∷ k 10 (read_of (tenant_with 1)) (Err
-    (refusal_at (LawBroken (failure Commutativity Allow Deny DontCare)) 1))
+    (refusal_at (LawBroken (Commutativity Allow Deny)) 1))
     ∷ k 11 (read_of (lone lopsided)) (Err
-    (refusal_at (LawBroken (failure Associativity Allow Deny (Gmb 1))) 0))
+    (refusal_at (LawBroken (Associativity Allow Deny (Gmb 1))) 0))
     ∷ k 12 (read_of []) (Err (refusal_at ShortFile 0))
     ∷ []
 

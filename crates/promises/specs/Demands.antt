@@ -172,7 +172,7 @@ pub record Shown (f : List ℕ) (a b c : ℕ) (r : Refusal) : Type 0 where
   pub first : (other : SomeBroken f a b c) → r.place ≤ other.operator
   pub failure : LawFailure
   pub reason : r.reason ≡ LawBroken failure
-  pub shows : Shows (operator_at (operator_records f a) r.place) failure.law failure.first failure.second failure.third
+  pub shows : Shows (operator_at (operator_records f a) r.place) failure
 
 pub record Demand2 : Type 0 where
   -- the accepted policies are the well-formed files, whatever order they are read in

@@ -1,2 +1,2 @@
-// No code: the demands, the worked cases, and for each public function that no second answer fits.
+//! No code: the demands, the worked cases, and for each public function that no second answer fits.
 #![tactic(auto)]

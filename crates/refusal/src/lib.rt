@@ -1,54 +1,55 @@
-// Refusals: what a function that takes a policy file or a table gives where it has no result.
+//! Refusals: what a function that takes a policy file or a table gives where it has no result.
 #![tactic(auto)]
 
 ghost use Rattle.std.specs.Prelude.{◌≡◌};
 ghost use Rattle.refusal.specs.Refusals.{reason_number, failure_of, refusal_at};
 
 use action::LawFailure;
+use flow::InvalidPacket;
 
-// Why a file, a packet, a table or a buffer is refused.
+/// Why a file, a packet, a table or a buffer is refused.
 #[derive(Clone, Copy, PartialEq, Eq)]
 pub enum Reason {
-    // The file ends before a count or inside a counted section.
+    /// The file ends before a count or inside a counted section.
     ShortFile,
-    // A count is beyond its limits.
+    /// A count is beyond its limits.
     WrongCount,
-    // The code of a cell.
+    /// A cell has a code that is wrong there.
     WrongCell,
-    // The match of an atom.
+    /// An atom has a wrong match.
     WrongMatch,
-    // The action of an atom.
+    /// An atom has a wrong action.
     WrongAction,
-    // An operator index, own-atom count or child count is too large.
+    /// An operator index, own-atom count or child count is too large.
     WrongNode,
-    // Words stand after the last node.
+    /// Words stand after the last node.
     ExtraWords,
-    // The nodes are not one tree, or it is too deep.
+    /// The nodes are not one tree, or it is too deep.
     NoTree,
-    // The own-atom counts do not add up to the atoms.
+    /// The own-atom counts do not add up to the atoms.
     WrongSum,
-    // An operator breaks a law.
+    /// An operator breaks a law.
     LawBroken(LawFailure),
-    // The words of a packet.
+    /// Words are no packet.
     WrongPacket,
-    // There are more rows than room.
+    /// There are more rows than room.
     NoRoom,
-    // Scratch is too short for the room.
+    /// Scratch is too short for the room.
     NoScratch,
-    // A rate made in joining lies outside its range.
+    /// A rate made in joining lies outside its range.
     WrongRate,
-    // A table that is not whole rows, or has too many.
+    /// A table is not whole rows, or has too many.
     WrongTable,
-    // A row, or one whose match no packet can meet.
+    /// A row is wrong, or no packet can meet its match.
     WrongRow,
-    // A priority or chain buffer is shorter than the row count.
+    /// A priority or chain buffer is shorter than the row count.
     ShortBuffer,
-    // The bytes of a file that are not whole words, or too many.
+    /// The bytes of a file are not whole words, or too many.
     WrongInput,
 }
 
 impl Reason {
-    // The number that a caller gets.
+    /// The number that a caller gets.
     pub fn number(self) -> u32
         ensures { result ≡ reason_number self }
     {
@@ -74,7 +75,7 @@ impl Reason {
         }
     }
 
-    // The broken law and the actions that show it, if it is that.
+    /// The broken law and the actions that show it, if it is that.
     pub fn failure(self) -> Option<LawFailure>
         ensures { result ≡ failure_of self }
     {
@@ -84,7 +85,7 @@ impl Reason {
         }
     }
 
-    // The refusal for it at a place.
+    /// The refusal for it at a place.
     pub fn at(self, place: usize) -> Refusal
         ensures { result ≡ refusal_at self place }
     {
@@ -95,9 +96,22 @@ impl Reason {
     }
 }
 
-// Why, and at which place of what was handed in.
+/// Why something is refused, and at which place of what was handed in.
 #[derive(Clone, Copy, PartialEq, Eq)]
 pub struct Refusal {
     pub reason: Reason,
     pub place: usize,
+}
+
+// Words that are no packet are refused at place 0.
+impl From<InvalidPacket> for Refusal {
+    ghost use Rattle.std.specs.Prelude.{◌≡◌};
+    ghost use Rattle.refusal.specs.Refusals.{refusal_at};
+    ghost use Rattle.refusal.specs.declared.Reason.TheVariants.{WrongPacket};
+
+    ghost from_gives = { λ e r. r ≡ refusal_at WrongPacket 0 };
+
+    fn from(_: InvalidPacket) -> Refusal {
+        Reason::WrongPacket.at(0)
+    }
 }

@@ -1,6 +1,9 @@
 -- What each call is answered: words, as bytes, the lowest byte of each first. See tests/README.md, "The calls of `answers`".
 --
+--   action_width, failure_width, table_refusal_width, refusal_width, layout_width, found_width
+--                         how many words each value has
 --   refusal_words r       the nine words of a refusal of a file
+--   law_words n a b c   the seven words of the law n and three actions
 --   failure_words f       the seven words of a broken law and the actions that show it
 --   broken_words          those of a broken law that a refusal may name, zeros where it names none
 --   table_refusal_words r, of_table x
@@ -12,15 +15,15 @@
 --                         the words of each function's answer, before the buffers
 --   read_reply, action_reply, compile_reply, scan_reply, number_reply, hidden_reply, text_reply
 --                         the bytes that each call is answered, with every buffer that was lent for writing
-use Rattle.std.specs.Prelude.{ℕ, ◌%◌, ◌^◌, List, [], ◌∷◌, ◌++◌, Option, Some, None, Result, Ok, Err, length, replicate}
+use Rattle.std.specs.Prelude.{ℕ, ◌+◌, ◌*◌, ◌%◌, ◌^◌, List, [], ◌∷◌, ◌++◌, Option, Some, None, Result, Ok, Err, length, replicate}
 use Rattle.words.specs.Words.{zeros}
 use Rattle.words.specs.Records.{flat}
 use Rattle.words.specs.Bytes.{bytes_of}
 use Rattle.action.specs.Action.{kind_of, rate_of}
 use Rattle.action.specs.declared.Action.{Action}
-use Rattle.action.specs.declared.Law.{Law}
-use Rattle.action.specs.declared.Law.TheVariants.{Commutativity, Associativity}
+use Rattle.action.specs.declared.Action.TheVariants.{DontCare}
 use Rattle.action.specs.declared.LawFailure.{LawFailure}
+use Rattle.action.specs.declared.LawFailure.TheVariants.{Commutativity, Associativity}
 use Rattle.refusal.specs.Refusals.{refusal_number, failure_of}
 use Rattle.refusal.specs.declared.Refusal.{Refusal}
 use Rattle.replies.specs.declared.answers.TableRefusal.{TableRefusal}
@@ -38,23 +41,47 @@ use Rattle.wire.specs.Sent.{padding, counted}
 abbrev pub low : ℕ → ℕ
 low n = n % 2 ^ 32
 
--- a law's number
-abbrev pub law_number : Law → ℕ
-law_number Commutativity = 1
-law_number Associativity = 2
+-- how many words each value has: an action, its kind and rate;
+abbrev pub action_width : ℕ
+action_width = 2
+
+-- a broken law, its number and three actions;
+abbrev pub failure_width : ℕ
+failure_width = 1 + 3 * action_width
+
+-- a refusal of a table, number and place;
+abbrev pub table_refusal_width : ℕ
+table_refusal_width = 2
+
+-- a refusal of a file, the broken law too;
+abbrev pub refusal_width : ℕ
+refusal_width = table_refusal_width + failure_width
+
+-- an accepted file, three counts;
+abbrev pub layout_width : ℕ
+layout_width = 3
+
+-- and what a scan found, the action and a count
+abbrev pub found_width : ℕ
+found_width = action_width + 1
 
 -- the two words of an action
 abbrev pub action_words : Action → List ℕ
 action_words a = kind_of a ∷ rate_of a ∷ []
 
--- the seven words of a broken law and the three actions that show it
+-- the seven words of a law, by its number, and three actions
+abbrev pub law_words : ℕ → Action → Action → Action → List ℕ
+law_words law a b c = ((law ∷ [] ++ action_words a) ++ action_words b) ++ action_words c
+
+-- those of a broken law and the actions that show it: don't care is the third where two show it
 unfoldable pub failure_words : LawFailure → List ℕ
-failure_words f = ((law_number f.law ∷ [] ++ action_words f.first) ++ action_words f.second) ++ action_words f.third
+failure_words (Commutativity a b) = law_words 1 a b DontCare
+failure_words (Associativity a b c) = law_words 2 a b c
 
 -- those of the law that a refusal names, zeros where it names none
 unfoldable pub broken_words : Option LawFailure → List ℕ
 broken_words (Some f) = failure_words f
-broken_words None = zeros 7
+broken_words None = zeros failure_width
 
 -- the nine words of a refusal: number, place, and the broken law, zeros where none is
 unfoldable pub refusal_words : Refusal → List ℕ
@@ -88,27 +115,27 @@ answer_words v value e refusal (Err r) = refusal r ++ zeros v
 
 -- what reading answers
 abbrev pub reading_words : Result Layout Refusal → List ℕ
-reading_words r = answer_words 3 layout_words 9 refusal_words r
+reading_words r = answer_words layout_width layout_words refusal_width refusal_words r
 
 -- the tree's action
 abbrev pub evaluated_words : Result Action Refusal → List ℕ
-evaluated_words r = answer_words 2 action_words 9 refusal_words r
+evaluated_words r = answer_words action_width action_words refusal_width refusal_words r
 
 -- what the compile answers
 abbrev pub compiled_words : Result ℕ Refusal → List ℕ
-compiled_words r = answer_words 1 row_count_words 9 refusal_words r
+compiled_words r = answer_words 1 row_count_words refusal_width refusal_words r
 
 -- what the scan finds
 abbrev pub scanned_words : Result Found Refusal → List ℕ
-scanned_words r = answer_words 3 found_words 2 table_refusal_words (of_table r)
+scanned_words r = answer_words found_width found_words table_refusal_width table_refusal_words (of_table r)
 
 -- what the numbering answers
 abbrev pub numbered_words : Result ℕ Refusal → List ℕ
-numbered_words r = answer_words 1 (λ n. n ∷ []) 2 table_refusal_words (of_table r)
+numbered_words r = answer_words 1 (λ n. n ∷ []) table_refusal_width table_refusal_words (of_table r)
 
 -- what the pass that takes hidden rows out answers
 abbrev pub kept_words : Result ℕ Refusal → List ℕ
-kept_words r = answer_words 1 row_count_words 2 table_refusal_words (of_table r)
+kept_words r = answer_words 1 row_count_words table_refusal_width table_refusal_words (of_table r)
 
 -- the reply to reading a file
 abbrev pub read_reply : List ℕ → List ℕ

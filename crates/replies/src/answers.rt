@@ -1,6 +1,6 @@
-// Answers as words: number and place, for a policy file the law and three actions too, then the values, then every
-// buffer that was lent for writing. A success has zeros for its number, a refusal for its values. An error where not
-// all could be written.
+//! Answers as words: number and place, for a policy file the law and three actions too, then the values, then every
+//! buffer that was lent for writing. A success has zeros for its number, a refusal for its values. An error where not
+//! all could be written.
 
 ghost use Rattle.std.specs.Prelude.{◌≡◌, List, ℕ, OnOk};
 ghost use Rattle.std.specs.Io.KnownBytes.{Appends};
@@ -11,9 +11,13 @@ ghost use Rattle.compile.specs.Compile.{table_after, scratch_after};
 ghost use Rattle.priority.specs.Numbering.{priorities_after, chain_after};
 ghost use Rattle.hidden.specs.Hidden.{table_kept};
 ghost use Rattle.text.specs.Listing.{listing_of};
-ghost use Rattle.replies.specs.Replies.{law_number, action_words, refusal_words, failure_words, broken_words, table_refusal_words, of_table, layout_words, found_words, row_count_words, answer_words, compile_reply, number_reply, hidden_reply, text_reply};
+ghost use Rattle.replies.specs.Replies.{action_width, failure_width, table_refusal_width, refusal_width};
+ghost use Rattle.replies.specs.Replies.{layout_width, found_width, law_words, action_words, refusal_words};
+ghost use Rattle.replies.specs.Replies.{failure_words, broken_words, table_refusal_words, of_table, layout_words};
+ghost use Rattle.replies.specs.Replies.{found_words, row_count_words, answer_words};
+ghost use Rattle.replies.specs.Replies.{compile_reply, number_reply, hidden_reply, text_reply};
 
-use action::{Action, Law, LawFailure};
+use action::{Action, ActionWords, LawFailure};
 use compile::compile;
 use hidden::drop_hidden;
 use policy::Layout;
@@ -24,6 +28,11 @@ use std::io::Write;
 use table::Found;
 use text::LONGEST_LISTING;
 use wire::{give, give_bytes, low};
+
+// The laws' numbers in a reply.
+const COMMUTATIVITY: u32 = 1;
+
+const ASSOCIATIVITY: u32 = 2;
 
 /// What is written as words.
 pub trait Reply {
@@ -47,16 +56,26 @@ pub struct TableRefusal {
     pub refusal: Refusal,
 }
 
+impl From<Refusal> for TableRefusal {
+    ghost use Rattle.std.specs.Prelude.{◌≡◌};
+
+    ghost from_gives = { λ refusal r. r ≡ record { refusal = refusal } };
+
+    fn from(refusal: Refusal) -> TableRefusal {
+        TableRefusal { refusal }
+    }
+}
+
 /// Number and place, and the broken law.
 impl Reply for Refusal {
     ghost words = { refusal_words };
 
-    const WIDTH: usize = 9;
+    const WIDTH: usize = TableRefusal::WIDTH + LawFailure::WIDTH;
 
-    ghost WIDTH = { 9 };
+    ghost WIDTH = { refusal_width };
 
     fn reply<W: Write>(&self, output: &mut W) -> io::Result<()> {
-        give(output, &[self.reason.number(), low(self.place)])?;
+        TableRefusal { refusal: *self }.reply(output)?;
         match self.reason.failure() {
             Some(failure) => failure.reply(output),
             None => give_zeros(output, LawFailure::WIDTH),
@@ -64,19 +83,23 @@ impl Reply for Refusal {
     }
 }
 
-/// The law, and the three actions that show it.
+/// The law's number, and three actions: don't care is the third where two show it.
 impl Reply for LawFailure {
     ghost words = { failure_words };
 
-    const WIDTH: usize = 7;
+    const WIDTH: usize = 1 + 3 * Action::WIDTH;
 
-    ghost WIDTH = { 7 };
+    ghost WIDTH = { failure_width };
 
     fn reply<W: Write>(&self, output: &mut W) -> io::Result<()> {
-        give(output, &[law_number(self.law)])?;
-        self.first.reply(output)?;
-        self.second.reply(output)?;
-        self.third.reply(output)
+        match *self {
+            LawFailure::Commutativity(first, second) => {
+                give_failure(output, COMMUTATIVITY, first, second, Action::DontCare)
+            }
+            LawFailure::Associativity(first, second, third) => {
+                give_failure(output, ASSOCIATIVITY, first, second, third)
+            }
+        }
     }
 }
 
@@ -86,7 +109,7 @@ impl Reply for TableRefusal {
 
     const WIDTH: usize = 2;
 
-    ghost WIDTH = { 2 };
+    ghost WIDTH = { table_refusal_width };
 
     fn reply<W: Write>(&self, output: &mut W) -> io::Result<()> {
         give(
@@ -102,10 +125,10 @@ impl Reply for Action {
 
     const WIDTH: usize = 2;
 
-    ghost WIDTH = { 2 };
+    ghost WIDTH = { action_width };
 
     fn reply<W: Write>(&self, output: &mut W) -> io::Result<()> {
-        give(output, &[self.kind(), self.rate()])
+        give(output, &ActionWords::from(*self))
     }
 }
 
@@ -115,7 +138,7 @@ impl Reply for Layout {
 
     const WIDTH: usize = 3;
 
-    ghost WIDTH = { 3 };
+    ghost WIDTH = { layout_width };
 
     fn reply<W: Write>(&self, output: &mut W) -> io::Result<()> {
         give(
@@ -129,15 +152,13 @@ impl Reply for Layout {
 impl Reply for Found {
     ghost words = { found_words };
 
-    const WIDTH: usize = 3;
+    const WIDTH: usize = Action::WIDTH + 1;
 
-    ghost WIDTH = { 3 };
+    ghost WIDTH = { found_width };
 
     fn reply<W: Write>(&self, output: &mut W) -> io::Result<()> {
-        give(
-            output,
-            &[self.action.kind(), self.action.rate(), low(self.tried)],
-        )
+        self.action.reply(output)?;
+        give(output, &[low(self.tried)])
     }
 }
 
@@ -189,14 +210,11 @@ pub fn give_answer<T: Reply, E: Reply, W: Write>(
     }
 }
 
-/// The answer of a function that takes a table.
+// The answer of a function that takes a table.
 pub(crate) fn of_table<T: Drop>(answer: Result<T, Refusal>) -> Result<T, TableRefusal>
     ensures { result ≡ of_table answer }
 {
-    match answer {
-        Ok(value) => Ok(value),
-        Err(refusal) => Err(TableRefusal { refusal }),
-    }
+    answer.map_err(TableRefusal::from)
 }
 
 /// Compiles a policy file; the table and the scratch are written too. It and the two that follow stay three functions:
@@ -250,7 +268,8 @@ pub fn reply_list<W: Write>(output: &mut W, file: &[u8]) -> io::Result<()>
     ensures { OnOk result (Appends (W.contents output.old) (W.contents output.new)
         (text_reply (listing_of file.now))) }
 {
-    let mut out = blank_text();
+    // An array, since a `Vec` can fail with no memory left, where this can't.
+    let mut out = [0u8; LONGEST_LISTING];
     let end = text::list(file, &mut out);
     give_bytes(output, &out[..end])
 }
@@ -267,17 +286,19 @@ fn give_zeros<W: Write>(output: &mut W, count: usize) -> io::Result<()>
     Ok(())
 }
 
-// The array is made apart, so that no proof looks at its zeros.
-fn blank_text() -> [u8; LONGEST_LISTING] {
-    [0u8; LONGEST_LISTING]
-}
-
-// A match and no cast: the numbers are those of a reply, and `Law` has none.
-fn law_number(law: Law) -> u32
-    ensures { result ≡ law_number law }
+// Writes a law by its number, and three actions.
+fn give_failure<W: Write>(
+    output: &mut W,
+    law: u32,
+    first: Action,
+    second: Action,
+    third: Action,
+) -> io::Result<()>
+    ensures { OnOk result (Appends (W.contents output.old) (W.contents output.new)
+        (flat bytes_of (law_words law first second third))) }
 {
-    match law {
-        Law::Commutativity => 1,
-        Law::Associativity => 2,
-    }
+    give(output, &[law])?;
+    first.reply(output)?;
+    second.reply(output)?;
+    third.reply(output)
 }

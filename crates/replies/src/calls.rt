@@ -1,4 +1,4 @@
-// A call with the slices that stand behind its number on the input.
+//! A call with the slices that stand behind its number on the input.
 
 ghost use Rattle.std.specs.Prelude.{ℕ, List, IfOk, OnOk};
 ghost use Rattle.std.specs.Io.KnownBytes.{Appends, Consumes};
@@ -13,9 +13,10 @@ use std::io;
 use std::io::{ErrorKind, Read, Write};
 use wire::{take_bytes, take_slice, take_word};
 
-// The longest slice taken, in words, and the longest input of a listing, in bytes.
+// The longest slice taken, in words. A table of one row too many has 45067, so every refusal can be asked for.
 const MOST_WORDS: usize = 45100;
 
+// The longest input of a listing, in bytes. One that is refused as too long has 51341, or more.
 const MOST_BYTES: usize = 52000;
 
 /// A call.
@@ -58,6 +59,7 @@ impl Call {
             × Consumes (R.remaining input.old) (R.remaining input.new) sent) }
     {
         let number = take_word(input)?;
+        // The numbers of the calls stand here alone.
         match number {
             1 => Ok(Call::Read {
                 file: slice(alloc, input)?,

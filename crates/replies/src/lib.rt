@@ -1,5 +1,5 @@
-// The calls of the program `answers`: how each is taken from a reader, and how its answer is written as words. What
-// they look like stands in tests/README.md.
+//! The calls of the program `answers`: how each is taken from a reader, and how its answer is written as words. What
+//! they look like stands in tests/README.md.
 #![tactic(auto)]
 
 mod answers;

@@ -1,21 +1,18 @@
 -- A node's own table grows by one atom at a time, from the last: the atom's row is joined with the table that stands there. Assumes nothing.
-use Prim.Native.Nat.{ℕ, zero, suc, ◌+◌, ◌-◌, ◌*◌, ◌/◌, ◌%◌, ◌≤◌, ◌<◌}
+use Prim.Native.Nat.{ℕ, ◌+◌, ◌-◌, ◌≤◌, ◌<◌}
 use native.Mathlib.Omega.{arith}
 use mathlib.Core.Path.{◌≡◌, refl, sym, ap, ap₂, subst, ◌∙◌}
 use mathlib.Core.Bool.{Bool, true, false, cond}
-use mathlib.Core.List.{List, [], ◌∷◌, ◌++◌, append_assoc, append-nil, map}
+use mathlib.Core.List.{List, [], ◌∷◌, ◌++◌, append_assoc, append-nil}
 use lib.Dec.{leb}
-use lib.ListN.{length, take, drop, length-append, length-drop, drop_of_length-le, take-append-drop}
-use lib.Seq.{take_all, length-take-le}
-use Rattle.std.proofs.lemmas.List.{nil_from_length}
-use Rattle.words.specs.Words.{laid, copied}
-use Rattle.words.proofs.Laid.{length-laid, laid_then, copied-fits}
-use Rattle.words.specs.Records.{rows_of}
-use Rattle.words.proofs.RecordLaws.{rows_none, rows-flat}
-use Rattle.words.proofs.Chunks.{whole-next}
+use lib.ListN.{length, take, drop, length-append, length-drop, drop_of_length-le}
+use lib.Seq.{take_all}
+use Rattle.words.specs.Words.{laid}
+use Rattle.words.proofs.Laid.{length-laid, laid_then}
+use Rattle.words.proofs.RecordLaws.{rows-flat}
 use Rattle.theory.specs.declared.Row.{Row}
 use Rattle.theory.specs.Rows.{kept, common_with, common_rows}
-use Rattle.flow.specs.Match.{is_empty, common, match_of}
+use Rattle.flow.specs.Match.{is_empty, common}
 use Rattle.action.specs.Operator as operator
 use Rattle.flow.specs.declared.Match.{Match}
 use Rattle.action.specs.declared.Action.{Action}
@@ -81,15 +78,14 @@ put-up-full a p F old h g k = record {
   words = λ first q. let z : ◌≡◌ {A = ℕ} 0 1 = cc in absurd (omega arith);
 }
 
-pub put-up-words : (a p : ℕ) (F old : List ℕ) {new : List ℕ} → new ≡ copied (p - length F) F old → a ≤ p → p ≤ length old → length F ≤ p - a
+pub put-up-words : (a p : ℕ) (F old : List ℕ) {new : List ℕ} → new ≡ laid (p - length F) F old → a ≤ p → p ≤ length old → length F ≤ p - a
     → PutUpTo a (F ++ drop p old) new (Some (p - length F))
 put-up-words a p F old {new} w h g k =
     let n : ℕ = p - length F in
     let fits : n + length F ≤ length old = omega arith in
-    let u : new ≡ laid n F old = w ∙ copied-fits n F old fits in
-    let same : length new ≡ length old = ap length u ∙ length-laid n F old in
+    let same : length new ≡ length old = ap length w ∙ length-laid n F old in
     let q : n + length F ≡ p = omega arith in
-    let d : drop n new ≡ F ++ drop p old = ap (drop n) u ∙ laid-front n F old fits ∙ ap (λ x. F ++ drop x old) q in
+    let d : drop n new ≡ F ++ drop p old = ap (drop n) w ∙ laid-front n F old fits ∙ ap (λ x. F ++ drop x old) q in
     record {
       full = λ q. let z : ◌≡◌ {A = ℕ} 0 1 = cc in absurd (omega arith);
       words = λ first q.
@@ -106,33 +102,30 @@ one-row o x B =
     ap (λ N. words_of (common_rows common is_empty (operator.join o) N (rows_in B))) e
     ∙ ap words_of (append-nil (common_with common is_empty (operator.join o) x (rows_in B)))
 
--- an atom's row x, and whether its match is empty, as the code finds them
-module _ (o atom : List ℕ) {a p : ℕ} {old : List ℕ} (s : List ℕ) {x : Row Match Action} {t : Bool} (e : x ≡ row_of atom) (q : t ≡ is_empty x.matching) where
+-- an atom x, and whether its match is empty, as the code finds it
+module _ (o : List ℕ) {a p : ℕ} {old : List ℕ} (s : List ℕ) (x : Row Match Action) {t : Bool} (q : t ≡ is_empty x.matching) where
   -- one whose match is empty leaves the table as it is
-  pub atom-none : t ≡ true → a ≤ p → p ≤ length s → Grows a (join_words o (atom_words atom) (drop p s)) old old s (Some p)
+  pub atom-none : t ≡ true → a ≤ p → p ≤ length s → Grows a (join_words o (atom_words x) (drop p s)) old old s (Some p)
   unfolding atom_words
   atom-none h g k =
-      let i : is_empty (match_of atom) ≡ true = ap (λ (y : Row Match Action). is_empty y.matching) (sym e) ∙ sym q ∙ h in
-      let none : atom_words atom ≡ [] = ap (λ b. words_of (cond b [] (row_of atom ∷ []))) i in
-      let j : drop p s ≡ join_words o (atom_words atom) (drop p s) = sym (ap (λ A. join_words o A (drop p s)) none ∙ join-none o (drop p s)) in
-      stands_at a (join_words o (atom_words atom) (drop p s)) old s p g k j
+      let none : atom_words x ≡ [] = ap (λ b. words_of (cond b [] (x ∷ []))) (sym q ∙ h) in
+      let j : drop p s ≡ join_words o (atom_words x) (drop p s) = sym (ap (λ A. join_words o A (drop p s)) none ∙ join-none o (drop p s)) in
+      stands_at a (join_words o (atom_words x) (drop p s)) old s p g k j
 
 -- another is one row
-module _ (o atom : List ℕ) {a : ℕ} (p : ℕ) {old mid : List ℕ} (s : List ℕ) {x : Row Match Action} {t : Bool} {r : Option ℕ}
-    (e : x ≡ row_of atom) (q : t ≡ is_empty x.matching) (h : t ≡ false)
+module _ (o : List ℕ) {a : ℕ} (p : ℕ) {old mid : List ℕ} (s : List ℕ) (x : Row Match Action) {t : Bool} {r : Option ℕ}
+    (q : t ≡ is_empty x.matching) (h : t ≡ false)
     (l : Lays a (common_with_words o x (take (length s - p) (drop p s)) ++ row_words x) old mid r) where
-  is_row : atom_words atom ≡ row_words x
+  is_row : atom_words x ≡ row_words x
   unfolding atom_words
-  is_row =
-      let i : is_empty (match_of atom) ≡ false = ap (λ (y : Row Match Action). is_empty y.matching) (sym e) ∙ sym q ∙ h in
-      ap (λ b. words_of (cond b [] (row_of atom ∷ []))) i ∙ append-nil (row_words (row_of atom)) ∙ ap row_words (sym e)
+  is_row = ap (λ b. words_of (cond b [] (x ∷ []))) (sym q ∙ h) ∙ append-nil (row_words x)
 
   -- the common rows, and then the row
   abbrev added : List ℕ
   added = common_with_words o x (take (length s - p) (drop p s)) ++ row_words x
 
   -- they and the table are the join
-  whole : added ++ drop p s ≡ join_words o (atom_words atom) (drop p s)
+  whole : added ++ drop p s ≡ join_words o (atom_words x) (drop p s)
   whole =
       ap (λ B. (common_with_words o x B ++ row_words x) ++ drop p s) (all_from p s)
       ∙ append_assoc (common_with_words o x (drop p s)) (row_words x) (drop p s)
@@ -140,93 +133,114 @@ module _ (o atom : List ℕ) {a : ℕ} (p : ℕ) {old mid : List ℕ} (s : List 
       ∙ sym (join-parts o (row_words x) (drop p s))
       ∙ ap (λ A. join_words o A (drop p s)) (sym is_row)
 
-  whole_long : length (join_words o (atom_words atom) (drop p s)) ≡ length added + length (drop p s)
+  whole_long : length (join_words o (atom_words x) (drop p s)) ≡ length added + length (drop p s)
   whole_long = ap length (sym whole) ∙ length-append added (drop p s)
 
-  pub atom-full : (new : List ℕ) → length s ≡ length old → r ≡ None → Grows a (join_words o (atom_words atom) (drop p s)) old new s None
+  pub atom-full : (new : List ℕ) → length s ≡ length old → r ≡ None → Grows a (join_words o (atom_words x) (drop p s)) old new s None
   atom-full new same g =
       let f : length old < a + length added = made-full a added (length old) (sym g ∙ l.answer) in
-      let n : length (join_words o (atom_words atom) (drop p s)) ≡ length added + length (drop p s) = whole_long in
-      no_room a (join_words o (atom_words atom) (drop p s)) old new s (omega arith)
+      let n : length (join_words o (atom_words x) (drop p s)) ≡ length added + length (drop p s) = whole_long in
+      no_room a (join_words o (atom_words x) (drop p s)) old new s (omega arith)
 
   pub atom-joined : {n : ℕ} {s' : List ℕ} {z : Option ℕ} → r ≡ Some n → PutUpTo a (part a n mid ++ drop p s) s' z
-      → Grows a (join_words o (atom_words atom) (drop p s)) old mid s' z
+      → Grows a (join_words o (atom_words x) (drop p s)) old mid s' z
   atom-joined {n} {s'} {z} g k =
       let f : Fitted a added (length old) n = made-words a added (length old) n (sym g ∙ l.answer) in
       let v : mid ≡ laid a added old = l.words f.fits in
-      let j : length (join_words o (atom_words atom) (drop p s)) ≡ length added + length (drop p s) = whole_long in
+      let j : length (join_words o (atom_words x) (drop p s)) ≡ length added + length (drop p s) = whole_long in
       record {
         stands = subst (λ F. PutUpTo a F s' z) (ap (λ c. c ++ drop p s) (laid-back l g) ∙ whole) k;
         hidden = λ first i W d c. ap (laid a W) v ∙ laid-over a W added old c (omega arith);
       }
 
--- the table of some atoms: with one more before them, of none, and with whole atoms before them
-own-more : (o x given : List ℕ) → length x ≡ row_length → own_words o (x ++ given) ≡ join_words o (atom_words x) (own_words o given)
-unfolding own_words atom_words rows_of
-own-more o x given h =
-    ap (λ rs. words_of (own_rows o (map row_of rs))) (whole-next row_length x given some_words h)
-    ∙ sym (join-flat o (kept is_empty (row_of x)) (own_rows o (rows_in given)))
+-- the table of some atoms, in words
+abbrev pub gone_words : List ℕ → List (Row Match Action) → List ℕ
+gone_words o gone = words_of (own_rows o gone)
 
-pub own-start : (o : List ℕ) {given : List ℕ} {a : ℕ} {old s : List ℕ} → given ≡ [] → a ≤ length s → Grows a (own_words o given) old old s (Some (length s))
-unfolding own_words
-own-start o {given} {a} {old} {s} e h =
-    let n : own_words o given ≡ [] = ap (own_words o) e ∙ ap (λ N. words_of (own_rows o N)) (rows_none row_length row_of some_words [] some_words) in
-    stands_at a (own_words o given) old s (length s) h (omega arith) (drop_of_length-le s {i = length s} (omega arith) ∙ sym n)
+-- with one more before them, of none, and with others before them
+own-more : (o : List ℕ) (x : Row Match Action) (gone : List (Row Match Action)) → gone_words o (x ∷ gone) ≡ join_words o (atom_words x) (gone_words o gone)
+unfolding atom_words
+own-more o x gone = sym (join-flat o (kept is_empty x) (own_rows o gone))
 
-last-rows : (o : List ℕ) (k : ℕ) (rest given : List ℕ) → length rest ≡ k * row_length → length (own_words o given) ≤ length (own_words o (rest ++ given))
-last-rows o zero rest given h =
-    let e : rest ≡ [] = nil_from_length rest (omega arith) in
-    rw e (omega arith)
-last-rows o (suc k) rest given h =
-    let x : List ℕ = take row_length rest in
-    let r : List ℕ = drop row_length rest in
-    let lx : length x ≡ row_length = length-take-le row_length rest (omega arith) in
-    let lr : length r ≡ k * row_length = rw length-drop (omega arith) in
-    let e : rest ++ given ≡ x ++ (r ++ given) = ap (λ l. l ++ given) (sym (take-append-drop row_length rest)) ∙ append_assoc x r given in
-    let m : length (own_words o (rest ++ given)) ≡ length (join_words o (atom_words x) (own_words o (r ++ given))) =
-    ap (λ l. length (own_words o l)) e ∙ ap length (own-more o x (r ++ given) lx) in
-    omega (arith, m, last-rows o k r given lr, join-length o (atom_words x) (own_words o (r ++ given)))
+pub own-start : (o : List ℕ) {a : ℕ} {old s : List ℕ} → a ≤ length s → Grows a (gone_words o []) old old s (Some (length s))
+own-start o {a} {old} {s} h = stands_at a (gone_words o []) old s (length s) h (omega arith) (drop_of_length-le s {i = length s} (omega arith))
 
 -- where the table of the last atoms does not fit, nor does the whole
-own-hold : (o rest given : List ℕ) → length rest % row_length ≡ 0 → length (own_words o given) ≤ length (own_words o (rest ++ given))
-own-hold o rest given h = last-rows o (length rest / row_length) rest given (omega arith)
+own-hold : (o : List ℕ) (rest gone : List (Row Match Action)) → length (gone_words o gone) ≤ length (gone_words o (rest ++ gone))
+own-hold o [] gone = omega arith
+own-hold o (x ∷ rest) gone =
+    omega
+    (arith, ap length (own-more o x (rest ++ gone)), own-hold o rest gone, join-length o (atom_words x) (gone_words o (rest ++ gone)))
 
 -- equal answers tell the same
 pub grows-case : {a : ℕ} {F old new s : List ℕ} {m n : Option ℕ} → m ≡ n → Grows a F old new s m → Grows a F old new s n
 grows-case {a} {F} {old} {new} {s} q g = subst (Grows a F old new s) q g
 
+-- Of the atoms, `rest` are left, and scratch from a place on is the table of those behind them, made over the place a.
+pub record Behind (o : List ℕ) (atoms rest : List (Row Match Action)) (a e : ℕ) (old here s : List ℕ) : Type 0 where
+  pub gone : List (Row Match Action)
+  pub parts : rest ++ gone ≡ atoms
+  pub start : a ≤ e
+  pub first : e ≤ length s
+  pub table : length here ≡ length old
+  pub scratch : length s ≡ length old
+  pub grown : Grows a (gone_words o gone) old here s (Some e)
+
+pub behind-start : (o : List ℕ) (atoms rest : List (Row Match Action)) {a : ℕ} {old s : List ℕ} → rest ≡ atoms → a ≤ length old → length s ≡ length old
+    → Behind o atoms rest a (length s) old old s
+behind-start o atoms rest {a} {old} {s} e h n = record {
+  gone = [];
+  parts = append-nil rest ∙ e;
+  start = omega arith;
+  first = omega arith;
+  table = refl;
+  scratch = n;
+  grown = own-start o (omega arith);
+}
+
 -- the steps: one more atom, no room for it, and all atoms joined
-module _ (o x given : List ℕ) {more : List ℕ} {a e : ℕ} {old here new s s' : List ℕ} {m : Option ℕ} (long : length x ≡ row_length) (parts : more ≡ x ++ given)
-    (same : length here ≡ length old)
-    (g : Grows a (own_words o given) old here s (Some e))
+module _ (o : List ℕ) (x : Row Match Action) (left : List (Row Match Action)) {atoms rest : List (Row Match Action)} {a e : ℕ} {old here new s s' : List ℕ} {m : Option ℕ}
+    (b : Behind o atoms rest a e old here s) (parts : rest ≡ left ++ (x ∷ []))
     (j : Grows a (join_words o (atom_words x) (drop e s)) here new s' m) where
-  pub own-step : Grows a (own_words o more) old new s' m
-  own-step =
+  with_atom : Grows a (gone_words o (x ∷ b.gone)) old new s' m
+  with_atom =
       let A : List ℕ = atom_words x in
-      let B : List ℕ = own_words o given in
-      let W : List ℕ = own_words o more in
-      let t : W ≡ join_words o A B = ap (own_words o) parts ∙ own-more o x given long in
+      let B : List ℕ = gone_words o b.gone in
+      let W : List ℕ = gone_words o (x ∷ b.gone) in
+      let t : W ≡ join_words o A B = own-more o x b.gone in
       let n : length W ≡ length (join_words o A B) = ap length t in
-      let z : join_words o A (drop e s) ≡ W = ap (join_words o A) (g.stands.words e refl).2 ∙ sym t in
+      let z : join_words o A (drop e s) ≡ W = ap (join_words o A) (b.grown.stands.words e refl).2 ∙ sym t in
       let j' : Grows a W here new s' m = subst (λ F. Grows a F here new s' m) z j in
       record {
         stands = j'.stands;
-        hidden = λ first r F d c. j'.hidden first r F d (omega arith) ∙ g.hidden e refl F (omega (arith, join-length o A B)) c;
+        hidden = λ first r F d c. j'.hidden first r F d (omega (arith, b.table)) ∙ b.grown.hidden e refl F (omega (arith, join-length o A B)) c;
       }
 
-  pub own-full : (rest last : List ℕ) {atoms : List ℕ} → m ≡ None → length rest % row_length ≡ 0 → rest ++ more ≡ atoms → length s' ≡ length old
-      → Lays a (own_words o atoms) old last None
-  own-full rest last {atoms} q r w n =
-      let f : length s' < a + length (own_words o more) = own-step.stands.full q in
-      let l : length (own_words o (rest ++ more)) ≡ length (own_words o atoms) = ap (λ k. length (own_words o k)) w in
-      lays-full a (own_words o atoms) old last (omega (arith, own-hold o rest more r))
+  all_parts : left ++ (x ∷ b.gone) ≡ atoms
+  all_parts = sym (append_assoc left (x ∷ []) b.gone) ∙ ap (λ l. l ++ b.gone) (sym parts) ∙ b.parts
 
-pub own-whole : (o : List ℕ) {atoms given : List ℕ} {a e : ℕ} {old here new s : List ℕ} {m : Option ℕ} → given ≡ atoms → length here ≡ length old
-    → Grows a (own_words o given) old here s (Some e) → Lays a (take (length s - e) (drop e s)) here new m → Lays a (own_words o atoms) old new m
-own-whole o {atoms} {given} {a} {e} {old} {here} {new} {s} {m} q same g l =
-    let t : take (length s - e) (drop e s) ≡ own_words o given = all_from e s ∙ (g.stands.words e refl).2 in
-    let l' : Lays a (own_words o given) here new m = lays-same t l in
-    lays-same (ap (own_words o) q) (record {
-      answer = l'.answer ∙ ap (made_of a (own_words o given)) same;
-      words = λ c. l'.words (omega arith) ∙ g.hidden e refl (own_words o given) (omega arith) c;
+  pub behind-step : (e' : ℕ) → m ≡ Some e' → length new ≡ length here → length s' ≡ length s → Behind o atoms left a e' old new s'
+  behind-step e' q n n' =
+      let g : Grows a (gone_words o (x ∷ b.gone)) old new s' (Some e') = grows-case q with_atom in
+      let w : (a ≤ e') × (e' ≤ length s') × (drop e' s' ≡ gone_words o (x ∷ b.gone)) = g.stands.words e' refl in
+      record { gone = x ∷ b.gone; parts = all_parts; start = w.0; first = w.1; table = n ∙ b.table; scratch = n' ∙ b.scratch; grown = g }
+
+  pub behind-full : (words last : List ℕ) → rows_in words ≡ atoms → m ≡ None → length s' ≡ length s → Lays a (own_words o words) old last None
+  unfolding own_words
+  behind-full words last same q n =
+      let f : length s' < a + length (gone_words o (x ∷ b.gone)) = with_atom.stands.full q in
+      let l : length (gone_words o (left ++ (x ∷ b.gone))) ≡ length (gone_words o (rows_in words)) =
+      ap (λ k. length (gone_words o k)) (all_parts ∙ sym same) in
+      lays-full a (gone_words o (rows_in words)) old last (omega (arith, own-hold o left (x ∷ b.gone), b.scratch))
+
+pub behind-end : (o words : List ℕ) {rest : List (Row Match Action)} {a e : ℕ} {old here new s : List ℕ} {m : Option ℕ} → Behind o (rows_in words) rest a e old here s
+    → rest ≡ [] → Lays a (take (length s - e) (drop e s)) here new m → Lays a (own_words o words) old new m
+unfolding own_words
+behind-end o words {rest} {a} {e} {old} {here} {new} {s} {m} b none l =
+    let all : b.gone ≡ rows_in words = ap (λ r. r ++ b.gone) (sym none) ∙ b.parts in
+    let t : take (length s - e) (drop e s) ≡ gone_words o b.gone = all_from e s ∙ (b.grown.stands.words e refl).2 in
+    let l' : Lays a (gone_words o b.gone) here new m = lays-same t l in
+    lays-same (ap (gone_words o) all) (record {
+      answer = l'.answer ∙ ap (made_of a (gone_words o b.gone)) b.table;
+      words = λ c. l'.words (omega (arith, b.table)) ∙ b.grown.hidden e refl (gone_words o b.gone) (omega arith) c;
     })

@@ -4,9 +4,8 @@
 --   Behind, From, Before, Ending   what the functions ask of places
 --   PutUpTo a F                    F stands at the end of a buffer, if there is room for it from the place a on
 --   Grows a F                      the same, with the rows made in another buffer from a on
-use Rattle.std.specs.Prelude.{ℕ, ◌+◌, ◌-◌, ◌%◌, ◌≤◌, ◌<◌, ◌≡◌, List, length, take, drop, Option, Some, None}
+use Rattle.std.specs.Prelude.{ℕ, ◌+◌, ◌-◌, ◌≤◌, ◌<◌, ◌≡◌, List, length, take, drop, Option, Some, None}
 use Rattle.words.specs.Words.{laid}
-use Rattle.row.specs.Row.{row_length}
 
 -- the words from the place a up to e
 abbrev pub part : ℕ → ℕ → List ℕ → List ℕ
@@ -16,9 +15,9 @@ part a e l = take (e - a) (drop a l)
 abbrev pub Behind : ℕ → ℕ → ℕ → List ℕ → List ℕ → Type 0
 Behind start middle end t s = (start ≤ middle) × (middle ≤ end) × (end ≤ length t) × (length s ≡ length t)
 
--- the words are whole atoms, the place is one of a buffer, and the other buffer is as long
-abbrev pub From : List ℕ → ℕ → List ℕ → List ℕ → Type 0
-From atoms start t s = (length atoms % row_length ≡ 0) × (start ≤ length t) × (length s ≡ length t)
+-- the place is one of a buffer, and the other buffer is as long
+abbrev pub From : ℕ → List ℕ → List ℕ → Type 0
+From start t s = (start ≤ length t) × (length s ≡ length t)
 
 -- words at start..made of one buffer, and at start..end of the other, which is as long
 abbrev pub Before : ℕ → ℕ → ℕ → List ℕ → List ℕ → Type 0

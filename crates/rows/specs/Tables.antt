@@ -13,7 +13,7 @@ use Rattle.flow.specs.Match.{is_empty, common}
 use Rattle.flow.specs.declared.Match.{Match}
 use Rattle.action.specs.Operator as operator
 use Rattle.action.specs.declared.Action.{Action}
-use Rattle.row.specs.Row.{row_of, rows_in, words_of}
+use Rattle.row.specs.Row.{rows_in, words_of}
 use Rattle.common.specs.Tables.{common_rows_words}
 
 -- two tables joined
@@ -29,8 +29,8 @@ unfoldable pub join_words : List ℕ → List ℕ → List ℕ → List ℕ
 join_words o left right = common_rows_words o left right ++ (left ++ right)
 
 -- an atom's table: one row, or none if its match is empty
-unfoldable pub atom_words : List ℕ → List ℕ
-atom_words x = words_of (kept is_empty (row_of x))
+unfoldable pub atom_words : Row Match Action → List ℕ
+atom_words x = words_of (kept is_empty x)
 
 -- the table of a node's own atoms, folded from the last
 unfoldable pub own_words : List ℕ → List ℕ → List ℕ

@@ -1,7 +1,7 @@
-// Tables joined in their place, within two lent buffers that are as long as there is room. Only the
-// walk of the compile calls these functions: they ask for places inside the buffers, and where
-// there is no room they do not say what words are left, since the compile then clears both.
-// The buffers and the place stay parameters, for the reason at `common::common_rows`.
+//! Tables joined in their place, within two lent buffers that are as long as there is room. Only the
+//! walk of the compile calls these functions: they ask for places inside the buffers, and where
+//! there is no room they do not say what words are left, since the compile then clears both.
+//! The buffers and the place stay parameters, for the reason that the head of `common` has.
 #![tactic(auto)]
 
 ghost use Rattle.std.specs.Prelude.{◌≡◌, ◌++◌, ◌≤◌, length, drop};
@@ -13,11 +13,11 @@ ghost use Rattle.rows.specs.Tables.{join_words, atom_words, own_words};
 
 use action::Operator;
 use common::{append, common_rows, common_with};
-use row::{ROW_WORDS, Row, RowSpelling, words_of_row};
-use words::{Spelling, copy};
+use row::{Row, Rows, words_of_row};
+use words::copy;
 
-// Joins the tables at start..middle and middle..end: their common rows are made in scratch, and put
-// before them.
+/// Joins the tables at start..middle and middle..end: their common rows are made in scratch, and put
+/// before them.
 pub fn join(
     operator: Operator,
     table: &mut [u32],
@@ -42,8 +42,8 @@ pub fn join(
     put_before(table, scratch, start, made, end)
 }
 
-// The table of a node's own atoms, folded from the last. It grows down from the end of scratch, so
-// that nothing is moved when rows are put before it.
+/// The table of a node's own atoms, folded from the last. It grows down from the end of scratch, so
+/// that nothing is moved when rows are put before it.
 pub fn own_rows(
     operator: Operator,
     atoms: &[u32],
@@ -51,13 +51,13 @@ pub fn own_rows(
     scratch: &mut [u32],
     start: usize,
 ) -> Option<usize>
-    requires { From atoms.now start table.old scratch.old }
+    requires { From start table.old scratch.old }
     ensures { Lays start (own_words operator.cells atoms.now) table.old
         table.new result }
 {
     let mut first = scratch.len();
-    // Scratch from first on is the table of the atoms so far.
-    for atom in atoms.rchunks_exact(ROW_WORDS) {
+    // Scratch from first on is the table of the atoms gone over, which stand behind those that are left.
+    for atom in Rows::of(atoms).rev() {
         first = join_atom(operator, atom, table, scratch, start, first)?;
     }
     append(table, start, &scratch[first..])
@@ -88,7 +88,7 @@ fn put_before(
 // has no row.
 fn join_atom(
     operator: Operator,
-    atom: &[u32],
+    atom: Row,
     table: &mut [u32],
     scratch: &mut [u32],
     start: usize,
@@ -96,14 +96,13 @@ fn join_atom(
 ) -> Option<usize>
     requires { Ending start first table.old scratch.old }
     ensures { Grows start
-        (join_words operator.cells (atom_words atom.now) (drop first scratch.old))
+        (join_words operator.cells (atom_words atom) (drop first scratch.old))
         table.old table.new scratch.new result }
 {
-    let row = RowSpelling::read(atom);
-    if row.matching.is_empty() {
+    if atom.matching.is_empty() {
         return Some(first);
     }
-    let end = row_before(operator, row, &scratch[first..], table, start)?;
+    let end = row_before(operator, atom, &scratch[first..], table, start)?;
     put_up_to(scratch, start, first, &table[start..end])
 }
 
@@ -117,7 +116,7 @@ fn put_up_to(out: &mut [u32], start: usize, place: usize, words: &[u32]) -> Opti
         return None;
     }
     let first = place - words.len();
-    copy(out, first, words);
+    out[first..place].copy_from_slice(words);
     Some(first)
 }
 
@@ -134,5 +133,5 @@ fn row_before(
         out.old out.new result }
 {
     let end = common_with(operator, row, table, out, at)?;
-    append(out, end, &words_of_row(row.matching, row.action))
+    append(out, end, &words_of_row(row))
 }

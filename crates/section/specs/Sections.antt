@@ -11,8 +11,7 @@
 --                                (6)
 --   behind                       where a section ends: the next one's count stands there
 --   section_fault                the count, then the whole section (1), then its records in order
---   Reaches                      a file reaches to a place, and its operators are there
-use Rattle.std.specs.Prelude.{ℕ, ◌+◌, ◌*◌, ◌≤◌, Bool, cond, ◌&&◌, List, [], ◌∷◌, Result, Ok, Err, leb, ltb, get_or, length, drop}
+use Rattle.std.specs.Prelude.{ℕ, ◌+◌, ◌*◌, Bool, cond, ◌&&◌, List, [], ◌∷◌, Result, Ok, Err, leb, ltb, get_or, length, drop}
 use Rattle.words.specs.Records.{records}
 use Rattle.refusal.specs.Refusals.{refusal_at}
 use Rattle.refusal.specs.declared.Reason.{Reason}
@@ -131,7 +130,3 @@ section_fault f at s =
     ◌else◌ (count_fault f at s)
     (◌else◌ (unless (leb (behind at s n) (length f)) ShortFile (length f))
     (each (record_fault s) (at + 1) k (records n k (drop (at + 1) f))))
-
--- a file reaches to a place, and its operators are there, whose count stands at h
-abbrev pub Reaches : Edition → List ℕ → ℕ → ℕ → ℕ → Type 0
-Reaches e f h a at = (a ≤ most_operators) × (behind h (Operators e) a ≤ length f) × (at ≤ length f)

@@ -1,5 +1,6 @@
-// What each edition of the file format fixes: the lengths of its header and its records, which codes
-// its cells may have, and the operator that its words are.
+//! What each edition of the file format fixes: the lengths of its header and its records, which codes
+//! its cells may have, and the operator that its words are.
+
 ghost use Rattle.std.specs.Prelude.{◌≡◌};
 ghost use Rattle.section.specs.Numbers.{header_length_in, operator_length_in, atom_length_in};
 ghost use Rattle.section.specs.Cells.{right_cell_in, operator_row};
@@ -10,7 +11,7 @@ use crate::{ATOM_WORDS, Edition, HEADER_WORDS, OPERATOR_WORDS};
 use action::{Operator, right_cell};
 use refusal::Refusal;
 
-// How many words stand before the first count, and how many an operator and an atom have.
+/// How many words stand before the first count, and how many an operator and an atom have.
 #[derive(Clone, Copy)]
 pub struct EditionWords {
     pub header: usize,
@@ -19,6 +20,7 @@ pub struct EditionWords {
 }
 
 impl Edition {
+    /// How long its header and its records are.
     pub fn words(self) -> EditionWords
         ensures { result ≡ record {
           header = header_length_in self;
@@ -35,7 +37,7 @@ impl Edition {
         }
     }
 
-    // The header of a file.
+    /// What is wrong in a file's header; the first edition has none.
     pub fn header_fault(self, file: &[u32]) -> Result<(), Refusal>
         ensures { result ≡ header_fault self file.now }
     {
@@ -44,7 +46,7 @@ impl Edition {
         }
     }
 
-    // The operator that some words are.
+    /// The operator that some words are.
     pub fn operator(self, words: &[u32]) -> Operator
         ensures { result.cells ≡ cells_of (operator_row self words.now) }
     {

@@ -1,34 +1,33 @@
-// One section of a policy file: where it ends, its count, that all of it is there, and its records
-// in order.
+//! One section of a policy file: where it ends, its count, that all of it is there, and its records
+//! in order.
+
 ghost use Rattle.std.specs.Prelude.{◌≡◌, ◌+◌, ◌*◌, ◌/◌, ◌≤◌, ◌<◌, ◌^◌, length};
 ghost use Rattle.words.specs.Records.{records};
 ghost use Rattle.section.specs.Sections.{record_length, least, most, behind, unless, each};
 ghost use Rattle.section.specs.Sections.{count_fault, cells_fault, node_fault};
 ghost use Rattle.section.specs.Sections.{record_fault, section_fault};
 
-use crate::{CHILDREN, Edition, INNER, NODE_WORDS, OWN, PARENT, SIBLING, Section, atoms};
+use crate::{Edition, MOST_ATOMS, MOST_NODES, MOST_OPERATORS, NODE_WORDS, Node, Section};
 use refusal::{Reason, Refusal};
-use words::word;
-
-// How many records a section may have.
-pub const MOST_OPERATORS: u32 = 32;
-
-pub const MOST_ATOMS: u32 = 1024;
-
-pub const MOST_NODES: u32 = 256;
-
-// How many children a node may have.
-const MOST_CHILDREN: u32 = 255;
+use words::{Spelling, word};
 
 // The fewest and the most records that a section may have.
 #[derive(Clone, Copy)]
 struct Limits {
-    least: u32,
-    most: u32,
+    least: usize,
+    most: usize,
+}
+
+// Words of a file, and the place where the first of them stands in it.
+#[derive(Clone, Copy)]
+pub(crate) struct Piece<'a> {
+    pub(crate) words: &'a [u32],
+    pub(crate) at: usize,
+    ghost end: { at + length words.now < 2 ^ 64 },
 }
 
 impl Section {
-    // The first fault of the section whose count stands at a place.
+    /// The first fault of the section whose count stands at a place.
     #[tactic(auto, unfolding(crate::specs::Sections::section_fault))]
     pub fn fault(self, file: &[u32], at: usize) -> Result<(), Refusal>
         requires { at ≤ length file.now }
@@ -37,10 +36,14 @@ impl Section {
         self.count_fault(file, at)?;
         let end = self.behind(at, word(file, at) as usize);
         unless(end <= file.len(), Reason::ShortFile, file.len())?;
-        self.records_fault(&file[at + 1..end], at + 1)
+        let records = Piece {
+            words: &file[at + 1..end],
+            at: at + 1,
+        };
+        records.records_fault(self)
     }
 
-    // Where it ends, with so many records, if its count stands at a place.
+    /// Where it ends, with so many records, if its count stands at a place.
     pub fn behind(self, at: usize, count: usize) -> usize
         requires { behind at self count < 2 ^ 64 }
         ensures { result ≡ behind at self count }
@@ -84,70 +87,66 @@ impl Section {
         ensures { result ≡ count_fault file.now at self }
     {
         unless(at < file.len(), Reason::ShortFile, file.len())?;
-        let count = word(file, at);
+        let count = word(file, at) as usize;
         let limits = self.limits();
         let good = (limits.least <= count) & (count <= limits.most);
         unless(good, Reason::WrongCount, at)
     }
+}
 
-    // The first fault of some records that stand one behind the other, from a place of the file on.
-    fn records_fault(self, words: &[u32], at: usize) -> Result<(), Refusal>
-        requires { at + length words.now < 2 ^ 64 }
-        ensures { result ≡ each (record_fault self) at (record_length self)
-            (records (length words.now / record_length self) (record_length self) words.now) }
+impl Piece<'_> {
+    // The first fault of a section's records, which stand one behind the other.
+    fn records_fault(self, section: Section) -> Result<(), Refusal>
+        ensures { result ≡ each (record_fault section) self.entry.at (record_length section)
+            (records (length self.entry.words.now / record_length section) (record_length section)
+            self.entry.words.now) }
     {
-        let step = self.record_words();
-        // No record before record i has a fault.
-        for (i, record) in words.chunks_exact(step).enumerate() {
-            self.record_fault(record, at + step * i)?;
+        let step = section.record_words();
+        // No record before record i has a fault. No `Records`, which are of one length: here the edition tells it.
+        for (i, words) in self.words.chunks_exact(step).enumerate() {
+            let record = Piece {
+                words,
+                at: self.at + step * i,
+            };
+            record.record_fault(section)?;
         }
         Ok(())
     }
 
-    // The fault of one record, whose first word stands at a place of the file.
-    fn record_fault(self, words: &[u32], at: usize) -> Result<(), Refusal>
-        requires { (at + length words.now < 2 ^ 64) × (record_length self ≤ length words.now) }
-        ensures { result ≡ record_fault self at words.now }
+    // The fault of one record of a section.
+    fn record_fault(self, section: Section) -> Result<(), Refusal>
+        requires { record_length section ≤ length self.words.now }
+        ensures { result ≡ record_fault section self.entry.at self.entry.words.now }
     {
-        match self {
-            Section::Operators(edition) => cells_fault(words, at, edition),
-            Section::Atoms(edition) => atoms::atom_fault(words, at, edition),
-            Section::Nodes(operators) => node_fault(words, at, operators),
+        match section {
+            Section::Operators(edition) => self.cells_fault(edition),
+            Section::Atoms(edition) => self.atom_fault(edition),
+            Section::Nodes(operators) => self.node_fault(operators),
         }
     }
-}
 
-// The first wrong cell of an operator.
-#[tactic(auto, unfolding(crate::specs::Sections::cells_fault))]
-fn cells_fault(operator: &[u32], at: usize, edition: Edition) -> Result<(), Refusal>
-    requires { at + length operator.now < 2 ^ 64 }
-    ensures { result ≡ cells_fault edition at operator.now }
-{
-    for (j, code) in operator.iter().enumerate() {
-        unless(edition.right_cell(j, *code), Reason::WrongCell, at + j)?;
+    // The first wrong cell of an operator.
+    #[tactic(auto, unfolding(crate::specs::Sections::cells_fault))]
+    fn cells_fault(self, edition: Edition) -> Result<(), Refusal>
+        ensures { result ≡ cells_fault edition self.entry.at self.entry.words.now }
+    {
+        for (j, code) in self.words.iter().enumerate() {
+            unless(edition.right_cell(j, *code), Reason::WrongCell, self.at + j)?;
+        }
+        Ok(())
     }
-    Ok(())
+
+    // A node whose operator indexes, own-atom count or child count is too large.
+    #[tactic(auto, unfolding(crate::specs::Sections::node_fault))]
+    fn node_fault(self, operators: usize) -> Result<(), Refusal>
+        ensures { result ≡ node_fault operators self.entry.at self.entry.words.now }
+    {
+        let node = Node::read(self.words);
+        unless(node.is_right(operators), Reason::WrongNode, self.at)
+    }
 }
 
-// An operator index that is too large, or a count.
-#[tactic(auto, unfolding(crate::specs::Sections::node_fault))]
-fn node_fault(node: &[u32], at: usize, operators: usize) -> Result<(), Refusal>
-    ensures { result ≡ node_fault operators at node.now }
-{
-    let inner = word(node, INNER) as usize;
-    let parent = word(node, PARENT) as usize;
-    let sibling = word(node, SIBLING) as usize;
-    let own = word(node, OWN);
-    let children = word(node, CHILDREN);
-    let good = (inner < operators)
-        & (parent < operators)
-        & (sibling < operators)
-        & (own <= MOST_ATOMS)
-        & (children <= MOST_CHILDREN);
-    unless(good, Reason::WrongNode, at)
-}
-
-// The refusal for a reason at a place, where a test is not met.
+/// The refusal for a reason at a place, where a test is not met.
 pub fn unless(good: bool, reason: Reason, place: usize) -> Result<(), Refusal>
     ensures { result ≡ unless good reason place }
 {

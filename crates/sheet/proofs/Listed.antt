@@ -1,12 +1,11 @@
--- What the parts of a table's text put is the whole text, answer by answer of the numbering. Assumes nothing.
+-- A table's text, answer by answer of the numbering. Assumes nothing.
 use Prim.Native.Nat.{ℕ, ◌≤◌}
 use native.Mathlib.Omega.{arith}
-use mathlib.Core.Path.{◌≡◌, sym, ap, ap₂, subst, ◌∙◌}
+use mathlib.Core.Path.{◌≡◌, sym, ap, ap₂, ◌∙◌}
 use mathlib.Core.List.{List}
 use lib.ListN.{length, take}
 use Rattle.words.specs.Words.{laid}
 use Rattle.words.proofs.Laid.{length-laid, take-laid}
-use Rattle.row.specs.Row.{rows_in}
 use Rattle.table.specs.Table.{row_count}
 use Rattle.priority.specs.Numbering.{priorities_of, number_of, Answered, Ready}
 use Rattle.std.specs.Prelude.{Result, Ok, Err}
@@ -14,11 +13,8 @@ use Rattle.refusal.specs.Refusals.{refusal_number}
 use Rattle.refusal.specs.declared.Refusal.{Refusal}
 use Rattle.priority.proofs.After.{number-ready, priorities-left}
 use Rattle.priority.proofs.Whole.{priorities-many}
-use Rattle.line.specs.Text.{head, refusal}
-use Rattle.line.specs.Puts.{Adds}
-use Rattle.line.specs.declared.page.Page.{Page}
-use Rattle.line.proofs.Putting.{◌onto◌}
-use Rattle.sheet.specs.Sheet.{listing_room, lines, table_text}
+use Rattle.line.specs.Text.{refusal}
+use Rattle.sheet.specs.Sheet.{listing_room, numbered, table_text}
 
 -- the rows of a table, where the numbering answers a count
 module _ (t ps cs : List ℕ) {ps' cs' : List ℕ} {r : Result ℕ Refusal} (c : Answered t ps cs r ps' cs') where
@@ -41,14 +37,12 @@ module _ (t ps cs : List ℕ) {ps' cs' : List ℕ} {r : Result ℕ Refusal} (c :
     answer-room : r ≡ number_of t listing_room listing_room
     answer-room = c.0 ∙ ap₂ (number_of t) np nc
 
-    pub table-listed : {l : ℕ} {p q z : Page} → r ≡ Ok l → Adds (head (row_count t) l) p q
-        → Adds (lines (take (row_count t) ps') (rows_in t)) q z
-        → Adds (table_text t) p z
+    pub table-listed : {l : ℕ} → r ≡ Ok l → numbered t (take (row_count t) ps') l ≡ table_text t
     unfolding table_text
-    table-listed {l} {q = q} {z} e f g =
+    table-listed {l} e =
         let k : number_of t listing_room listing_room ≡ Ok l = sym answer-room ∙ e in
-        rw k (f onto subst (λ x. Adds (lines x (rows_in t)) q z) (table-numbers e) g)
+        rw k (ap (λ x. numbered t x l) (table-numbers e))
 
-    pub table-refused : {f : Refusal} {p q : Page} → r ≡ Err f → Adds (refusal (refusal_number f) f.place) p q → Adds (table_text t) p q
+    pub table-refused : {f : Refusal} → r ≡ Err f → refusal (refusal_number f) f.place ≡ table_text t
     unfolding table_text
-    table-refused {f} e a = let k : number_of t listing_room listing_room ≡ Err f = sym answer-room ∙ e in rw k a
+    table-refused {f} e = let k : number_of t listing_room listing_room ≡ Err f = sym answer-room ∙ e in rw k

@@ -1,10 +1,11 @@
 -- A table as text: for every list of words, the one text of the rows with their priorities. See docs/FORMAT.md, "The
 -- listing".
 --
---   listing_room    the rows that a listing has room for
---   lines ps rs     rows, each with its priority
---   table_text t    the text of a table: its rows, or the refusal of the numbering
---   rows_text n t   the text of a table t of n rows that is not refused: the head, and a line for each row
+--   listing_room      the rows that a listing has room for
+--   lines ps rs       rows, each with its priority
+--   numbered t ps l   the text of a table t with its priorities ps, of which there are l
+--   table_text t      the text of a table: its rows, or the refusal of the numbering
+--   rows_text n t     the text of a table t of n rows that is not refused: the head, and a line for each row
 use Rattle.std.specs.Prelude.{ℕ, List, [], ◌∷◌, ◌++◌, Result, Ok, Err}
 use Rattle.theory.specs.declared.Row.{Row}
 use Rattle.theory.specs.Number.{level_count}
@@ -27,9 +28,13 @@ lines [] rs = []
 lines (p ∷ ps) [] = []
 lines (p ∷ ps) (r ∷ rs) = line p r ++ lines ps rs
 
+-- what is shown of a table with its priorities ps, of which there are l
+abbrev pub numbered : List ℕ → List ℕ → ℕ → List ℕ
+numbered t ps l = head (row_count t) l ++ lines ps (rows_in t)
+
 -- what is shown of a table, by what the numbering answers
 abbrev pub numbered_text : List ℕ → Result ℕ Refusal → List ℕ
-numbered_text t (Ok l) = head (row_count t) l ++ lines (priorities_of t) (rows_in t)
+numbered_text t (Ok l) = numbered t (priorities_of t) l
 numbered_text t (Err f) = refusal (refusal_number f) f.place
 
 -- THE TEXT OF A TABLE

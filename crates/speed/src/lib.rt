@@ -1,4 +1,4 @@
-// The library's functions under C names, for the benchmark, which links them into a Rust program.
+//! The library's functions under C names, for the benchmark, which links them into a Rust program.
 #![tactic(auto)]
 
 ghost use Rattle.std.specs.Prelude.{◌≡◌, length};
@@ -11,7 +11,7 @@ ghost use Rattle.hidden.specs.Hidden.{kept_of, table_kept, kept_count};
 ghost use Rattle.refusal.specs.Refusals.{answer_number};
 ghost use Rattle.speed.specs.Answers.{tree_action, with_action};
 
-use action::Action;
+use action::{Action, ActionWords};
 use compile::compile;
 use hidden::drop_hidden;
 use policy::read;
@@ -21,7 +21,7 @@ use table::{Found, scan};
 use tree::tree_action;
 use words::copy;
 
-// The number of a policy file's refusal, 0 where it is accepted.
+/// The number of a policy file's refusal, 0 where it is accepted.
 #[unsafe(no_mangle)]
 pub extern "C" fn speed_read(file: &[u32]) -> u32
     ensures { result ≡ answer_number (read_of file.now) }
@@ -29,7 +29,7 @@ pub extern "C" fn speed_read(file: &[u32]) -> u32
     answer_number(read(file))
 }
 
-// The action's two words; the answer is the number of the refusal, 0 where there is none.
+/// The action's two words; the answer is the number of the refusal, 0 where there is none.
 #[unsafe(no_mangle)]
 pub extern "C" fn speed_tree(file: &[u32], packet: &[u32], given: &mut [u32]) -> u32
     ensures value { result ≡ answer_number (tree_action_of file.now packet.now) }
@@ -37,11 +37,11 @@ pub extern "C" fn speed_tree(file: &[u32], packet: &[u32], given: &mut [u32]) ->
         ≡ with_action given.old (tree_action (tree_action_of file.now packet.now)) }
 {
     let answer = tree_action(file, packet);
-    put_action(given, answer.unwrap_or(Action::DONT_CARE));
+    put_action(given, answer.unwrap_or(Action::DontCare));
     answer_number(answer)
 }
 
-// The compile; the answer is the row count, 0 where it is refused.
+/// The compile; the answer is the row count, 0 where it is refused.
 #[unsafe(no_mangle)]
 pub extern "C" fn speed_compile(file: &[u32], table: &mut [u32], scratch: &mut [u32]) -> usize
     ensures value { result ≡ compile_count (answer_of file.now table.old scratch.old) }
@@ -51,7 +51,7 @@ pub extern "C" fn speed_compile(file: &[u32], table: &mut [u32], scratch: &mut [
     compile(file, table, scratch).unwrap_or(0)
 }
 
-// The action's two words; the answer is how many rows were tried, 0 where the scan is refused.
+/// The action's two words; the answer is how many rows were tried, 0 where the scan is refused.
 #[unsafe(no_mangle)]
 pub extern "C" fn speed_scan(table: &[u32], packet: &[u32], given: &mut [u32]) -> usize
     ensures value { result ≡ scan_tried (scan_of table.now packet.now) }
@@ -59,14 +59,14 @@ pub extern "C" fn speed_scan(table: &[u32], packet: &[u32], given: &mut [u32]) -
         ≡ with_action given.old (scan_action (scan_of table.now packet.now)) }
 {
     let found = scan(table, packet).unwrap_or(Found {
-        action: Action::DONT_CARE,
+        action: Action::DontCare,
         tried: 0,
     });
     put_action(given, found.action);
     found.tried
 }
 
-// The numbering; the answer is how many priorities there are, 0 where it is refused.
+/// The numbering; the answer is how many priorities there are, 0 where it is refused.
 #[unsafe(no_mangle)]
 pub extern "C" fn speed_number(table: &[u32], priorities: &mut [u32], chain: &mut [u32]) -> u32
     ensures value { result
@@ -78,7 +78,7 @@ pub extern "C" fn speed_number(table: &[u32], priorities: &mut [u32], chain: &mu
     number(table, priorities, chain).unwrap_or(0)
 }
 
-// The pass that takes hidden rows out; the answer is how many rows stay, 0 where it is refused.
+/// The pass that takes hidden rows out; the answer is how many rows stay, 0 where it is refused.
 #[unsafe(no_mangle)]
 pub extern "C" fn speed_hidden(table: &mut [u32]) -> usize
     ensures value { result ≡ kept_count (kept_of table.old) }
@@ -101,6 +101,5 @@ fn answer_number<T: Drop>(answer: Result<T, Refusal>) -> u32
 fn put_action(given: &mut [u32], a: Action)
     ensures { given.new ≡ with_action given.old a }
 {
-    let words = [a.kind(), a.rate()];
-    copy(given, 0, &words);
+    copy(given, 0, &ActionWords::from(a));
 }

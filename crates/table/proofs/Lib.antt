@@ -1,3 +1,4 @@
 pub mod Turns
+pub mod Tested
 pub mod Tables
 pub mod Scans

@@ -1,11 +1,11 @@
 -- Tables against their rows: each row by its place, what the check passes, and rows written and read; by induction over the rows. Assumes nothing.
-use Prim.Native.Nat.{ℕ, zero, suc, ◌+◌, ◌*◌, ◌-◌, ◌%◌, ◌≤◌, ◌<◌}
+use Prim.Native.Nat.{ℕ, zero, suc, ◌+◌, ◌*◌, ◌%◌, ◌≤◌, ◌<◌}
 use native.Mathlib.Omega.{arith}
 use mathlib.Core.Path.{◌≡◌, refl, sym, ap, ap₂, ◌∙◌}
 use mathlib.Core.Bool.{Bool, true, not, ◌&&◌}
 use mathlib.Core.List.{List, [], ◌∷◌, ◌++◌, map}
 use lib.Dec.{eqb, leb}
-use lib.ListN.{length, get_or, take, drop, length-drop, length-map, take-append-drop, get_or-map, get_or-eq_default}
+use lib.ListN.{length, get_or, take, drop, length-drop, length-map, take-append-drop, get_or-map}
 use lib.Seq.{drop-drop, take_at, take_all, drop_at, length-take-le}
 use borrow.Author.Tests.{eqb-true, eq-eqb, leb-true, le-leb, not-true, not-false}
 use Rattle.logic.proofs.Tests.{by-test, by_le, and_left, and_right, and_both}
@@ -48,15 +48,13 @@ pub row-at : (ws : List ℕ) (i : ℕ) → i < row_count ws → get_or (rows_in 
 unfolding rows_of
 row-at ws i h = get_or-map row_of (records (row_count ws) row_length ws) i [] ∙ ap row_of (records-at (row_count ws) row_length i ws h)
 
--- the match of row i, as its words are read, and past the last row
-pub match-at : (ws : List ℕ) (i : ℕ) → i < row_count ws
-    → match_of (take (i * row_length + row_length - i * row_length) (drop (i * row_length) ws)) ≡ (get_or (rows_in ws) i past).matching
-match-at ws i h =
-    let e : i * row_length + row_length - i * row_length ≡ row_length = omega arith in
-    rw (e, row-at ws i h)
-
-pub match-past : (ws : List ℕ) (i : ℕ) → row_count ws ≤ i → past.matching ≡ (get_or (rows_in ws) i past).matching
-match-past ws i h = ap (λ r. r.matching) (sym (get_or-eq_default (rows_in ws) past (omega (arith, length-rows ws))))
+-- the match of row i, as its words are read; past the last row there are none
+pub match-read : (ws : List ℕ) (rows : List (List ℕ)) (i : ℕ) (row : List ℕ) → rows ≡ records (row_count ws) row_length ws
+    → row ≡ get_or rows i [] → match_of row ≡ (get_or (rows_in ws) i past).matching
+unfolding rows_of
+match-read ws rows i row e d =
+    let same : row ≡ get_or (records (row_count ws) row_length ws) i [] = d ∙ ap (λ (rs : List (List ℕ)). get_or rs i []) e in
+    ap match_of same ∙ ap (λ r. r.matching) (sym (get_or-map row_of (records (row_count ws) row_length ws) i []))
 
 -- a row whose words are right is right, and a right row has right words
 pub row-right : (ws : List ℕ) → right_row ws ≡ true → RightRow (row_of ws)
@@ -79,7 +77,7 @@ pub words_right : (r : Row Match Action) → RightRow r → right_row (row_words
 unfolding right_row right_row_match right_row_action
 words_right r h = and_both (and_both h.matching (ap not h.not_empty)) (right-words r.action ∙ h.action)
 
-right-action : (ws : List ℕ) → right_row ws ≡ true → right_row_action ws ≡ true
+pub right-action : (ws : List ℕ) → right_row ws ≡ true → right_row_action ws ≡ true
 unfolding right_row
 right-action ws h = and_right (right_row_match ws && not (is_empty (match_of ws))) (right_row_action ws) h
 
@@ -132,7 +130,7 @@ module _ (ws : List ℕ) where
       rw (eq-eqb (length ws % row_length) 0 t.whole, le-leb (row_count ws) most_rows t.few)
       (check-counts 0 each (λ j h. rw (each_at j h) (t.rows j (omega arith))) ∙ ap counted e)
 
-  passes-right : (n : ℕ) → check_of ws ≡ counted n → RightTable ws
+  pub passes-right : (n : ℕ) → check_of ws ≡ counted n → RightTable ws
   unfolding check_of check_rows right_length
   passes-right n e =
       let whole : Bool = eqb (length ws % row_length) 0 in

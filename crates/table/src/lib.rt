@@ -1,38 +1,67 @@
-// Tables: rows that stand one behind the other, which tables are right, and the scan.
+//! Tables: rows that stand one behind the other, which tables are right, and the scan.
 #![tactic(auto)]
 
-ghost use Rattle.std.specs.Prelude.{◌≡◌, get_or};
-ghost use Rattle.table.specs.Table.{past, right_length, check_rows, check_of};
+ghost use Rattle.std.specs.Prelude.{◌≡◌, length, get_or};
+ghost use Rattle.table.specs.Table.{row_count, past, right_length, check_rows, check_of, RightTable};
 ghost use Rattle.table.specs.Scan.{found, scan_of};
-ghost use Rattle.row.specs.Row.{rows_in};
+ghost use Rattle.row.specs.Row.{row_length, rows_in};
+ghost use Rattle.words.specs.Records.{records};
 
 use action::Action;
-use flow::{Match, Packet, right_packet_words};
+use flow::{Match, Packet};
 use refusal::{Reason, Refusal};
-use row::{MOST_ROWS, ROW_WORDS, Rows, right_row};
+use row::{MOST_ROWS, ROW_WORDS, RowWords, Rows, right_row};
+use words::Spelling;
 
-// What a scan finds: the action, and how many rows were tried. No Option: where none matches, it is don't care and the
-// row count, which callers use as they stand.
+/// What a scan finds: the action, and how many rows were tried. No Option: where none matches, it is don't care and the
+/// row count, which callers use as they stand.
 #[derive(Clone, Copy)]
 pub struct Found {
     pub action: Action,
     pub tried: usize,
 }
 
-// Scans a table for a packet, both as words.
+/// A tested table: right rows, and not too many.
+#[derive(Clone, Copy)]
+pub struct Table<'a> {
+    pub words: &'a [u32],
+    pub ghost right: { RightTable words.now },
+}
+
+// The table that some words are, if they pass the check.
+impl<'a> TryFrom<&'a [u32]> for Table<'a> {
+    type Error = Refusal;
+
+    ghost use Rattle.table.specs.Checked.{Checked};
+
+    ghost try_from_gives = { λ words r. Checked words.now r };
+
+    fn try_from(words: &'a [u32]) -> Result<Table<'a>, Refusal> {
+        check(words)?;
+        Ok(Table { words })
+    }
+}
+
+impl<'a> Table<'a> {
+    /// How many rows it has.
+    pub fn row_count(self) -> usize
+        ensures { result ≡ row_count self.entry.words.now }
+    {
+        self.words.len() / ROW_WORDS
+    }
+}
+
+/// Scans a table for a packet, both as words.
 #[tactic(auto, unfolding(crate::specs::Scan::scan_of))]
 pub fn scan(table: &[u32], packet: &[u32]) -> Result<Found, Refusal>
     ensures { result ≡ scan_of table.now packet.now }
 {
-    if !right_packet_words(packet) {
-        return Err(Reason::WrongPacket.at(0));
-    }
-    check(table)?;
-    Ok(first_match(table, Packet::read(packet)))
+    let packet = Packet::try_from(packet)?;
+    let table = Table::try_from(table)?;
+    Ok(first_match(table.words, packet))
 }
 
-// Tests a table: its length, then each row. Answers how many rows it has. No type stands for a tested table: each
-// function takes the caller's words and tests them once, so it would be made and taken apart in one function.
+/// Tests a table: its length, then each row. Answers how many rows it has.
 #[tactic(auto, unfolding(crate::specs::Table::check_of))]
 pub fn check(table: &[u32]) -> Result<usize, Refusal>
     ensures { result ≡ check_of table.now }
@@ -43,7 +72,7 @@ pub fn check(table: &[u32]) -> Result<usize, Refusal>
     check_rows(table)
 }
 
-// The first matching row's action and its place plus 1; don't care and the row count if none matches.
+/// The first matching row's action and its place plus 1; don't care and the row count if none matches.
 pub fn first_match(table: &[u32], p: Packet) -> Found
     ensures { result ≡ found 0 (rows_in table.now) p }
 {
@@ -57,21 +86,27 @@ pub fn first_match(table: &[u32], p: Packet) -> Found
         }
     }
     Found {
-        action: Action::DONT_CARE,
+        action: Action::DontCare,
         tried: table.len() / ROW_WORDS,
     }
 }
 
-// The match of row i; past the last row, that of no words.
+/// The match of row i; past the last row, that of no words.
 pub fn match_at(table: &[u32], i: usize) -> Match
     ensures { result ≡ (get_or (rows_in table.now) i past).matching }
 {
-    if i < table.len() / ROW_WORDS {
-        let from = i * ROW_WORDS;
-        let end = from + ROW_WORDS;
-        return Match::read(&table[from..end]);
+    match rows(table).get(i) {
+        Some(row) => Match::read(row),
+        None => Match::read(&[]),
     }
-    Match::read(&table[..0])
+}
+
+/// The rows of a table, each by its words; words behind the last whole row are left out.
+pub fn rows(table: &[u32]) -> &[RowWords]
+    ensures { (result.now ≡ records (row_count table.now) row_length table.now)
+        × (length result.now ≡ row_count table.now) }
+{
+    table.as_chunks::<ROW_WORDS>().0
 }
 
 // Whether the words of a table are rows, and not too many.

@@ -1,33 +1,27 @@
--- What the parts of the listing put is the listing's text, answer by answer. Assumes nothing.
+-- The listing of an input, by the rows that the compile leaves, and by those of them that stay. Assumes nothing.
 use Prim.Native.Nat.{ℕ, ◌*◌, ◌/◌, ◌≤◌}
 use native.Mathlib.Omega.{arith}
-use mathlib.Core.Path.{◌≡◌, sym, ap, ap₂, subst, ◌∙◌}
-use mathlib.Core.Bool.{true, false, and-eq-true_iff}
-use mathlib.Core.List.{List}
-use lib.ListN.{length, take}
+use mathlib.Core.Path.{◌≡◌, refl, sym, ap, ap₂, ◌∙◌}
+use mathlib.Core.Bool.{true, and-eq-true_iff}
+use mathlib.Core.List.{List, ◌++◌}
+use lib.ListN.{length, take, length-append}
 use borrow.Author.Tests.{leb-true}
-use Rattle.std.specs.Prelude.{Result, Ok, Err}
+use Rattle.std.specs.Prelude.{Result, Ok, Err, IfOk}
+use Rattle.std.proofs.lemmas.List.{take-append-le}
 use Rattle.words.specs.Words.{copied}
 use Rattle.words.specs.Bytes.{word_bytes, words_in}
 use Rattle.words.proofs.Laid.{copied-fits, length-copied, take-laid}
 use Rattle.words.proofs.Bytes.{length-words}
-use Rattle.row.specs.Row.{row_length, most_rows, table_rows}
+use Rattle.row.specs.Row.{row_length, table_rows}
 use Rattle.table.specs.Table.{check_of}
 use Rattle.table.proofs.Tables.{rows-within}
 use Rattle.hidden.specs.Hidden.{kept_of, table_kept}
-use Rattle.hidden.specs.Theorems.{KeptTells}
 use Rattle.hidden.proofs.Laws.{kept-rows}
 use Rattle.section.specs.Numbers.{longest_file}
-use Rattle.refusal.specs.Refusals.{reason_number, refusal_number}
-use Rattle.refusal.specs.declared.Reason.TheVariants.{WrongInput}
 use Rattle.refusal.specs.declared.Refusal.{Refusal}
 use Rattle.compile.specs.Compile.{answer_of, table_after, Compiles}
-use Rattle.compile.proofs.Answered.{answers-rows}
-use Rattle.line.specs.Text.{refusal}
-use Rattle.line.specs.Puts.{Puts}
 use Rattle.sheet.specs.Sheet.{table_text}
-use Rattle.text.specs.Listing.{longest_input, right_input, blank, shown_text, file_text}
-use Rattle.text.specs.Listing.{listing_of}
+use Rattle.text.specs.Listing.{longest_input, right_input, blank, kept_text, shown_text, compiled_text, file_text, listing_of}
 use Rattle.text.proofs.Right.{table-right}
 
 -- the words of an input, where it is right
@@ -49,54 +43,38 @@ module _ (b : List ℕ) (right : right_input b ≡ true) where
       let k : length l' ≡ length l = ap length e ∙ length-copied 0 (words_in b) l in
       omega (arith, input-fits)
 
-  pub input-listed : (f : List ℕ) {l m : List ℕ} {r : ℕ} → f ≡ words_in b → Puts (file_text f) l 0 m r → Puts (listing_of b) l 0 m r
-  unfolding listing_of
-  input-listed f {l} {m} {r} e p = rw right (subst (λ x. Puts (file_text x) l 0 m r) e p)
+  pub input-compiled : {f t s t' s' : List ℕ} {r : Result ℕ Refusal} → f ≡ words_in b → Compiles f t s t' s' r → t ≡ blank → s ≡ blank
+      → listing_of b ≡ compiled_text t' r
+  unfolding listing_of file_text
+  input-compiled {f} {t} {s} {t'} {s'} {r} e c bt bs =
+      let answer : r ≡ answer_of (words_in b) blank blank = c.answer ∙ ap (λ x. answer_of x t s) e ∙ ap₂ (answer_of (words_in b)) bt bs in
+      let table : t' ≡ table_after (words_in b) blank blank = c.table ∙ ap (λ x. table_after x t s) e ∙ ap₂ (table_after (words_in b)) bt bs in
+      rw right (sym (ap₂ compiled_text table answer))
 
-pub input-refused : (b : List ℕ) {l m : List ℕ} {r : ℕ} → right_input b ≡ false → Puts (refusal (reason_number WrongInput) 0) l 0 m r → Puts (listing_of b) l 0 m r
-unfolding listing_of
-input-refused b e p = rw e p
+-- the rows of a file, where the compile answers them, fit their table
+pub file-within : {f t s t' s' : List ℕ} {r : Result ℕ Refusal} → Compiles f t s t' s' r → IfOk r (λ n. n * row_length ≤ length t')
+file-within {f} {t} {s} {t'} {r = r} c = within r refl
+  where
+    within : (x : Result ℕ Refusal) → r ≡ x → IfOk x (λ n. n * row_length ≤ length t')
+    within (Ok n) e = rows-within n t' (ap (λ x. check_of (table_rows n x)) c.table ∙ table-right f t s n (sym c.answer ∙ e))
+    within (Err x) e = tt
 
--- the table of a file, where the compile answers rows
-module _ {f t s t' s' : List ℕ} {r : Result ℕ Refusal} (c : Compiles f t s t' s' r) where
-  pub file-few : {n : ℕ} → r ≡ Ok n → n ≤ most_rows
-  file-few {n} e = omega (arith, (answers-rows f t s n (sym c.answer ∙ e)).fits)
+-- the rows that stay, where the pass answers them, in a longer table
+module _ (t : List ℕ) {t' : List ℕ} {r : Result ℕ Refusal} (e : r ≡ kept_of t) (w : t' ≡ table_kept t) (rest : List ℕ) where
+  kept-fits : {n : ℕ} → r ≡ Ok n → n * row_length ≤ length t'
+  kept-fits {n} q = rows-within n t' (ap (λ x. check_of (table_rows n x)) w ∙ (kept-rows t n (sym e ∙ q)).check)
 
-  pub file-fits : {n : ℕ} → r ≡ Ok n → n * row_length ≤ length t'
-  file-fits {n} e = rows-within n t' (ap (λ x. check_of (table_rows n x)) c.table ∙ table-right f t s n (sym c.answer ∙ e))
-
-  module _ (bt : t ≡ blank) (bs : s ≡ blank) where
-    answer-blank : r ≡ answer_of f blank blank
-    answer-blank = c.answer ∙ ap₂ (answer_of f) bt bs
-
-    table-blank : t' ≡ table_after f blank blank
-    table-blank = c.table ∙ ap₂ (table_after f) bt bs
-
-    pub file-listed : {n : ℕ} {l m : List ℕ} {i : ℕ} → r ≡ Ok n → Puts (shown_text (take (n * row_length) t')) l 0 m i → Puts (file_text f) l 0 m i
-    unfolding file_text
-    file-listed {n} {l} {m} {i} e p =
-        let q : answer_of f blank blank ≡ Ok n = sym answer-blank ∙ e in
-        rw q (subst (λ x. Puts (shown_text (take (n * row_length) x)) l 0 m i) table-blank p)
-
-    pub file-refused : {x : Refusal} {l m : List ℕ} {i : ℕ} → r ≡ Err x → Puts (refusal (refusal_number x) x.place) l 0 m i → Puts (file_text f) l 0 m i
-    unfolding file_text
-    file-refused {x} e p = let q : answer_of f blank blank ≡ Err x = sym answer-blank ∙ e in rw q p
-
--- the rows that stay, where the pass answers them
-module _ (t : List ℕ) {t' : List ℕ} {r : Result ℕ Refusal} (e : r ≡ kept_of t) (w : t' ≡ table_kept t) where
-  module _ {n : ℕ} (q : r ≡ Ok n) where
-    pub kept-few : n ≤ most_rows
-    kept-few = let k : KeptTells t n = kept-rows t n (sym e ∙ q) in omega (arith, k.fewer, k.right.few)
-
-    pub kept-fits : n * row_length ≤ length t'
-    kept-fits = rows-within n t' (ap (λ x. check_of (table_rows n x)) w ∙ (kept-rows t n (sym e ∙ q)).check)
-
-    pub kept-listed : {l m : List ℕ} {i : ℕ} → Puts (table_text (take (n * row_length) t')) l 0 m i → Puts (shown_text t) l 0 m i
-    unfolding shown_text
-    kept-listed {l} {m} {i} p =
-        let z : kept_of t ≡ Ok n = sym e ∙ q in
-        rw z (subst (λ x. Puts (table_text (take (n * row_length) x)) l 0 m i) w p)
-
-  pub kept-refused : {f : Refusal} {l m : List ℕ} {i : ℕ} → r ≡ Err f → Puts (refusal (refusal_number f) f.place) l 0 m i → Puts (shown_text t) l 0 m i
+  pub kept-listed : shown_text t ≡ kept_text (t' ++ rest) r
   unfolding shown_text
-  kept-refused {f} q p = let z : kept_of t ≡ Err f = sym e ∙ q in rw z p
+  kept-listed = ap₂ kept_text (sym w) (sym e) ∙ sym (alone r refl)
+    where
+      alone : (x : Result ℕ Refusal) → r ≡ x → kept_text (t' ++ rest) x ≡ kept_text t' x
+      alone (Ok n) q = ap table_text (take-append-le (n * row_length) t' rest (kept-fits q))
+      alone (Err f) q = refl
+
+  pub kept-within : IfOk r (λ n. n * row_length ≤ length (t' ++ rest))
+  kept-within = within r refl
+    where
+      within : (x : Result ℕ Refusal) → r ≡ x → IfOk x (λ n. n * row_length ≤ length (t' ++ rest))
+      within (Ok n) q = omega (arith, length-append t' rest, kept-fits q)
+      within (Err f) q = tt

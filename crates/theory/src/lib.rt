@@ -1,7 +1,7 @@
-// Rows, trees and numbering over any matches, actions and operators, and the theorems on them.
+//! Rows, trees and numbering over any matches, actions and operators, and the theorems on them.
 #![tactic(auto)]
 
-// An atom or a row: a match, and the action given where it is met. Figure 1 of the paper: P = M × A.
+/// An atom or a row: a match, and the action given where it is met. Figure 1 of the paper: P = M × A.
 #[derive(Clone, Copy)]
 pub struct Row<M, A> {
     pub matching: M,

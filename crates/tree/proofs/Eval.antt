@@ -18,22 +18,22 @@ use Rattle.nodes.proofs.Walk.{root-tree}
 use Rattle.tree.specs.Action.{eval_tree, accepted_action, tree_action_of}
 use Rattle.tree.specs.Steps.{TreeGave}
 use Rattle.tree.specs.Theorems.{ActionEval, ActionRefused, ActionPacket}
-use Rattle.tree.specs.declared.Gave.{Gave}
+use Rattle.tree.specs.declared.SubtreeAction.{SubtreeAction}
 
 -- what the walk from the root gives
-pub root-gave : (f : List ℕ) (l : Layout) → read_of f ≡ Ok l → (at : Spot) → at ≡ root_spot l → (p : Packet) {q : Packet} {r : Gave} → q ≡ p
+pub root-gave : (f : List ℕ) (l : Layout) → read_of f ≡ Ok l → (at : Spot) → at ≡ root_spot l → (p : Packet) {q : Packet} {r : SubtreeAction} → q ≡ p
     → TreeGave f at q r → r.action ≡ eval_tree (tree_of f l) p
 root-gave f l e at start p same t = t.action ∙ ap₂ eval_tree (root-tree f l e at start) same
 
--- the packet's test, as the code has it
-module _ (f : List ℕ) (l : Layout) (p : List ℕ) (t : Bool) (q : t ≡ right_packet_words p) where
-  pub accepted-gives : {x : Action} → t ≡ true → x ≡ eval_tree (tree_of f l) (packet_of p) → Ok x ≡ accepted_action f l p
+-- by the packet's test
+module _ (f : List ℕ) (l : Layout) (p : List ℕ) where
+  pub accepted-gives : {x : Action} → right_packet_words p ≡ true → x ≡ eval_tree (tree_of f l) (packet_of p) → Ok x ≡ accepted_action f l p
   unfolding accepted_action
-  accepted-gives {x} h e = rw (← q, h, e)
+  accepted-gives {x} h e = rw (h, e)
 
-  pub accepted-refuses : t ≡ false → Err (refusal_at WrongPacket 0) ≡ accepted_action f l p
+  pub accepted-refuses : right_packet_words p ≡ false → Err (refusal_at WrongPacket 0) ≡ accepted_action f l p
   unfolding accepted_action
-  accepted-refuses h = rw (← q, h)
+  accepted-refuses h = rw h
 
 pub action-eval : ActionEval
 unfolding tree_action_of accepted_action

@@ -12,12 +12,12 @@ use Rattle.section.specs.Numbers.{atom_length}
 use Rattle.policy.specs.File.{PolicyTree}
 use Rattle.nodes.specs.Nodes.{node_at, cells_at, atom_words_at}
 use Rattle.nodes.specs.Walk.{Reached}
-use Rattle.nodes.specs.declared.NodeWords.{NodeWords}
+use Rattle.section.specs.declared.Node.{Node}
 use Rattle.nodes.specs.declared.Spot.{Spot}
 use Rattle.nodes.proofs.Walk.{tree-here, after-tree, children-here, after-children, NoChild}
 use Rattle.tree.specs.Action.{eval_tree}
 use Rattle.tree.specs.Steps.{own_action, TreeGave, ChildrenGave}
-use Rattle.tree.specs.declared.Gave.{Gave}
+use Rattle.tree.specs.declared.SubtreeAction.{SubtreeAction}
 
 module _ {f : List ℕ} {s : Spot} {p : Packet} where
   -- no child is taken
@@ -25,7 +25,7 @@ module _ {f : List ℕ} {s : Spot} {p : Packet} where
   children-none sibling h = record { action = sym (ap (λ ts. evals meets DontCare join ts (cells_at f sibling) p) h.none); after = h.after }
 
   -- one child, then the others
-  pub children-gave : (sibling k : ℕ) {one rest : Gave} {r : Action} → Reached f s → 0 < s.left → 0 < k → TreeGave f s p one
+  pub children-gave : (sibling k : ℕ) {one rest : SubtreeAction} {r : Action} → Reached f s → 0 < s.nodes_left → 0 < k → TreeGave f s p one
       → ChildrenGave f one.next sibling (k - 1) p rest → r ≡ join (cells_at f sibling) one.action rest.action
       → ChildrenGave f s sibling k p (record { action = r; next = rest.next })
   children-gave sibling k reached more some t v j = record {
@@ -35,16 +35,16 @@ module _ {f : List ℕ} {s : Spot} {p : Packet} where
   }
 
   -- a node's own action, and its children's
-  pub tree-gave : {n : NodeWords} {atoms : List ℕ} {x r : Action} {rest : Gave} → Reached f s → 0 < s.left → n ≡ node_at f s.left
-      → atoms ≡ atom_words_at f s.atom n.own → x ≡ own_action (cells_at f n.inner) atoms p
-      → ChildrenGave f (record { left = s.left - 1; atom = s.atom + atom_length * n.own }) n.sibling n.children p rest
+  pub tree-gave : {n : Node} {atoms : List ℕ} {x r : Action} {rest : SubtreeAction} → Reached f s → 0 < s.nodes_left → n ≡ node_at f s.nodes_left
+      → atoms ≡ atom_words_at f s.next_atom n.own → x ≡ own_action (cells_at f n.inner) atoms p
+      → ChildrenGave f (record { nodes_left = s.nodes_left - 1; next_atom = s.next_atom + atom_length * n.own }) n.sibling n.children p rest
       → r ≡ join (cells_at f n.parent) x rest.action → TreeGave f s p (record { action = r; next = rest.next })
   unfolding own_action
   tree-gave {n} {atoms} {x} {r} {rest} reached more e v q k j =
       let below = rw e at k in
       let own : x ≡ _ = rw e at (q ∙ ap (λ l. own_action (cells_at f n.inner) l p) v) in
       record {
-        action = (rw e at j) ∙ ap₂ (join (cells_at f (node_at f s.left).parent)) own below.action
+        action = (rw e at j) ∙ ap₂ (join (cells_at f (node_at f s.nodes_left).parent)) own below.action
             ∙ sym (ap (λ (t : PolicyTree). eval_tree t p) (tree-here f s reached more));
         after = after-tree f s reached more below.after;
       }

@@ -1,5 +1,4 @@
 pub mod Nodes
-pub mod Stack
 pub mod Turns
 pub mod Trees
 pub mod Depths

@@ -1,49 +1,58 @@
 -- One turn of the shape test. Assumes nothing.
-use Prim.Native.Nat.{ℕ, suc, ◌+◌, ◌-◌, ◌≤◌, ◌<◌}
+use Prim.Native.Nat.{ℕ, zero, suc, ◌+◌, ◌-◌, ◌≤◌, ◌<◌, pred}
 use native.Mathlib.Omega.{arith}
 use native.Mathlib.Numerals.{add-one}
-use mathlib.Core.Path.{◌≡◌, sym, ◌∙◌}
-use mathlib.Core.Bool.{true, false, cond, ◌&&◌, ◌||◌}
-use mathlib.Core.List.{List, [], ◌∷◌, map}
-use lib.ListN.{get_or, length, set}
-use lib.Dec.{eqb, leb, ltb}
-use borrow.Author.Tests.{eqb-true, ltb-true, le-leb, lt-leb}
-use mathlib.Core.Logic.{⊎_elim}
-use Rattle.std.proofs.lemmas.Bool.Decides.{nat_tests}
-use Rattle.logic.proofs.Tests.{or_split}
+use mathlib.Core.Path.{◌≡◌, sym, ap, ◌∙◌}
+use mathlib.Core.Bool.{Bool, true, false, not, cond, ◌&&◌}
+use mathlib.Core.List.{List, [], ◌∷◌, ◌++◌, reverse}
+use lib.ListN.{length}
+use lib.Dec.{leb}
+use borrow.Author.Tests.{ne_eqb, le-leb, lt-leb}
+use Rattle.std.proofs.lemmas.List.{reverse-append, length-reverse}
 use Rattle.refusal.specs.Refusals.{refusal_at}
-use Rattle.section.specs.Sections.{Test, unless, children_of}
-use Rattle.whole.specs.Whole.{waiting_nodes, one_less, shape, stacked}
-use Rattle.std.specs.Prelude.{Err}
-use Rattle.whole.proofs.Stack.{stacked-length, enter}
+use Rattle.section.specs.Sections.{Test, unless}
+use Rattle.section.specs.declared.nodes.Node.{Node}
+use Rattle.whole.proofs.Nodes.{counts}
+use Rattle.whole.specs.Whole.{waiting_nodes, shape, Innermost}
+use Rattle.std.specs.Prelude.{Err, Option, Some, None, is_some}
 use Rattle.refusal.specs.declared.Reason.TheVariants.{NoTree}
 
--- a node that is awaited, and not too deep
-pub going : (d : ℕ) → (eqb d 0 || ltb 16 d) ≡ false → (0 < d) × (d ≤ 16)
-going d t = (grind (arith, nat_tests), grind (arith, nat_tests))
+-- what is pushed is on top
+pub pushed : (xs ys : List ℕ) (x : ℕ) → ys ≡ xs ++ (x ∷ []) → reverse ys ≡ x ∷ reverse xs
+pushed xs ys x e = ap reverse e ∙ reverse-append xs (x ∷ [])
 
-module _ (ys : List (List ℕ)) (i : ℕ) (w : List ℕ) (h d : ℕ) (v : Test)
-    (inv : shape (map children_of ys) (stacked w h) i ≡ v) (s : stacked w d ≡ waiting_nodes (stacked w h)) where
-  -- the number of open nodes is the height
-  opened : length (waiting_nodes (stacked w h)) ≡ d
-  opened = rw (← s) (stacked-length w d)
+-- the one on top waits, or it has all its children
+pub on_top : (st r : List ℕ) (n : ℕ) → st ≡ n ∷ r → 0 < n → waiting_nodes st ≡ n ∷ r
+on_top st r zero e p = absurd (omega arith)
+on_top st r (suc n) e p = ap waiting_nodes e
 
+module _ (ys : List Node) (i : ℕ) (old new : List ℕ) (v : Test) (inv : shape (counts ys) (reverse old) i ≡ v) where
   -- the node x is next, and those behind it
-  module _ (x : List ℕ) (xs : List (List ℕ)) (e : ys ≡ x ∷ xs) where
-    turn : v ≡ cond (leb 1 d && leb d 16) (shape (map children_of xs) (get_or x 4 0 ∷ one_less (stacked w d)) (suc i)) (Err (refusal_at NoTree i))
-    turn = sym inv ∙ rw (e, opened, ← s)
+  module _ (x : Node) (xs : List Node) (e : ys ≡ x ∷ xs) where
+    -- the tree had ended
+    pub ended : Innermost old new None → Err (refusal_at NoTree i) ≡ v
+    ended h = sym (sym inv ∙ rw (e, h))
 
-    -- the tree had ended, or is too deep here
-    pub stopped : (eqb d 0 || ltb 16 d) ≡ true → Err (refusal_at NoTree i) ≡ v
-    stopped t =
-        ⊎_elim
-        (λ h. let z : d ≡ 0 = eqb-true d 0 h in sym (turn ∙ rw z))
-        (λ h. let g : 16 < d = ltb-true 16 d h in sym (turn ∙ rw (le-leb 1 d (omega arith), lt-leb d 16 g)))
-        (or_split (eqb d 0) (ltb 16 d) t)
+    module _ (n : ℕ) (h : Innermost old new (Some n)) where
+      turn : v ≡ cond (leb 1 (suc (length (reverse new))) && leb (suc (length (reverse new))) 16) (shape (counts xs) (x.children ∷ pred n ∷ reverse new) (suc i)) (Err (refusal_at NoTree i))
+      turn = sym inv ∙ rw (e, h.1)
 
-    pub on : 0 < d → d ≤ 16 → length w ≡ 17
-        → shape (map children_of xs) (stacked (set (set w (d - 1) (get_or w (d - 1) 0 - 1)) d (get_or x 4 0)) (d + 1)) (i + 1) ≡ v
-    on p q n = rw (add-one i, enter w d (get_or x 4 0) p (omega arith)) (sym (turn ∙ rw (le-leb 1 d p, le-leb d 16 q)))
+      -- it is too deep here
+      pub deep : 16 ≤ length new → Err (refusal_at NoTree i) ≡ v
+      deep g = let l = length-reverse new in sym (turn ∙ rw (le-leb 1 (suc (length (reverse new))) (omega arith), lt-leb (suc (length (reverse new))) 16 (omega arith)))
 
-  pub finished : ys ≡ [] → unless (eqb d 0) NoTree i ≡ v
-  finished e = let g : shape [] (stacked w h) i ≡ v = rw e at inv in rw opened at g
+      pub on : (one two : List ℕ) → length new < 16 → one ≡ new ++ ((n - 1) ∷ []) → two ≡ one ++ (x.children ∷ [])
+          → shape (counts xs) (reverse two) (i + 1) ≡ v
+      on one two g p q =
+          let l = length-reverse new in
+          let m : n - 1 ≡ pred n = omega arith in
+          rw (add-one i, pushed one two x.children q, pushed new one (n - 1) p, m)
+          (sym (turn ∙ rw (le-leb 1 (suc (length (reverse new))) (omega arith), le-leb (suc (length (reverse new))) 16 (omega arith))))
+
+  pub finished : (found : Option ℕ) (t : Bool) → is_some found ≡ not t → ys ≡ [] → Innermost old new found → unless t NoTree i ≡ v
+  finished None true s e h = let g : shape [] (reverse old) i ≡ v = rw e at inv in rw h at g
+  finished None false s e h = cc
+  finished (Some n) true s e h = cc
+  finished (Some n) false s e h =
+      let g : shape [] (reverse old) i ≡ v = rw e at inv in
+      rw (h.1, ne_eqb (suc (length (reverse new))) 0 (λ q. omega arith)) at g

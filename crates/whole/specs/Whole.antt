@@ -6,8 +6,8 @@
 --   own_atoms, sum_fault   the own-atom counts add up to the atoms (9)
 --   names, named           a node, or some node, names an operator as inner or sibling
 --   laws_fault             the operators that some node names so keep the laws (10)
---   stacked                the stack that an array is
-use Rattle.std.specs.Prelude.{ℕ, zero, suc, ◌+◌, ◌/◌, pred, Bool, false, cond, ◌&&◌, ◌||◌, List, [], ◌∷◌, Ok, Err, map, eqb, leb, get_or, length}
+--   Innermost              the innermost node that waits is taken off a stack
+use Rattle.std.specs.Prelude.{ℕ, zero, suc, ◌+◌, ◌/◌, ◌<◌, ◌≡◌, pred, Bool, false, cond, ◌&&◌, ◌||◌, List, [], ◌∷◌, Option, Some, None, Ok, Err, map, reverse, eqb, leb, length}
 use Rattle.action.specs.Operator.{cells_of}
 use Rattle.action.specs.Laws.{Searched, law_search}
 use Rattle.words.specs.Records.{records}
@@ -75,7 +75,7 @@ operator_fault ns i o = cond (named i ns) (broken i (law_search (cells_of o))) (
 unfoldable pub laws_fault : List (List ℕ) → List (List ℕ) → Test
 laws_fault ns os = each (operator_fault ns) 0 1 os
 
--- the stack that the first d entries of an array are, the last of them on top
-abbrev pub stacked : List ℕ → ℕ → List ℕ
-stacked w zero = []
-stacked w (suc d) = get_or w d 0 ∷ stacked w d
+-- of a stack whose last is on top, the innermost that waits for a child is taken off, with those above it; or none waits
+abbrev pub Innermost : List ℕ → List ℕ → Option ℕ → Type 0
+Innermost old new (Some n) = (0 < n) × (waiting_nodes (reverse old) ≡ n ∷ reverse new)
+Innermost old new None = waiting_nodes (reverse old) ≡ []

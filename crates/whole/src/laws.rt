@@ -1,16 +1,16 @@
-// The laws of the operators that some node names as inner or sibling.
+//! The laws of the operators that some node names as inner or sibling.
+
 ghost use Rattle.std.specs.Prelude.{◌≡◌, ◌/◌, length};
 ghost use Rattle.words.specs.Records.{records};
 ghost use Rattle.section.specs.Numbers.{operator_length_in};
 ghost use Rattle.section.specs.Cells.{operator_row, operator_rows};
-ghost use Rattle.whole.specs.Whole.{node_records, names, named, broken, operator_fault, laws_fault};
+ghost use Rattle.whole.specs.Whole.{node_records, named, broken, operator_fault, laws_fault};
 
 use action::LawFailure;
 use refusal::{Reason, Refusal};
-use section::{Edition, INNER, NODE_WORDS, SIBLING};
-use words::word;
+use section::{Edition, Nodes};
 
-// The first operator, by index, that some node names and that breaks a law.
+/// The first operator, by index, that some node names and that breaks a law.
 pub fn laws_fault(nodes: &[u32], operators: &[u32], edition: Edition) -> Result<(), Refusal>
     ensures { result ≡ laws_fault (node_records nodes.now)
         (operator_rows edition
@@ -39,22 +39,7 @@ fn operator_fault(words: &[u32], i: usize, edition: Edition, nodes: &[u32]) -> R
 fn is_named(nodes: &[u32], operator: usize) -> bool
     ensures { result ≡ named operator (node_records nodes.now) }
 {
-    // None of the nodes before names the operator.
-    for node in nodes.chunks_exact(NODE_WORDS) {
-        if names(node, operator) {
-            return true;
-        }
-    }
-    false
-}
-
-// Whether a node does.
-fn names(node: &[u32], operator: usize) -> bool
-    ensures { result ≡ names operator node.now }
-{
-    let inner = word(node, INNER) as usize;
-    let sibling = word(node, SIBLING) as usize;
-    (inner == operator) | (sibling == operator)
+    Nodes::of(nodes).any(|node| node.names(operator))
 }
 
 // The refusal for a broken law of the operator at an index.

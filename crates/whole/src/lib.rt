@@ -1,5 +1,5 @@
-// What is tested of a file once its sections are good: that the nodes are one tree of the depth
-// allowed, their own-atom counts, and the laws of the operators.
+//! What is tested of a file once its sections are good: that the nodes are one tree of the depth
+//! allowed, their own-atom counts, and the laws of the operators.
 #![tactic(auto)]
 
 pub use crate::laws::laws_fault;

@@ -1,52 +1,56 @@
-// Whether the nodes are one tree of the depth allowed, and their own-atom counts.
-ghost use Rattle.std.specs.Prelude.{◌≡◌, ◌+◌, ◌-◌, ◌≤◌, ◌<◌, length, get_or};
-ghost use Rattle.section.specs.Numbers.{most_nodes, deepest};
-ghost use Rattle.whole.specs.Whole.{node_records, waiting_nodes, stacked};
-ghost use Rattle.whole.specs.Whole.{shape_fault, own_atoms, sum_fault};
+//! Whether the nodes are one tree of the depth allowed, and their own-atom counts.
 
+ghost use Rattle.std.specs.Prelude.{◌≡◌, ◌≤◌, length};
+ghost use Rattle.section.specs.Numbers.{most_nodes};
+ghost use Rattle.whole.specs.Whole.{node_records, shape_fault, own_atoms, sum_fault, Innermost};
+
+use arrayvec::ArrayVec;
 use refusal::{Reason, Refusal};
-use section::{CHILDREN, NODE_WORDS, OWN, unless};
-use words::word;
+use section::{NODE_WORDS, Nodes, unless};
 
 // The root has depth 1.
 const DEEPEST: usize = 16;
 
-// The first node that the tree has no place for: it had ended, or the node is too deep; or the node
-// count, if children are missing.
+const MOST_OPEN: usize = DEEPEST + 1;
+
+// The children still to come of each open node, the innermost last; the first count is for the root.
+type Waiting = ArrayVec<u32, MOST_OPEN>;
+
+/// The first node that the tree has no place for: it had ended, or the node is too deep; or the node
+/// count, if children are missing.
 pub fn shape_fault(nodes: &[u32]) -> Result<(), Refusal>
     ensures { result ≡ shape_fault (node_records nodes.now) }
 {
-    // A stack in fixed memory, since a file is read without a heap: an array and its height.
-    let mut waiting = [0u32; DEEPEST + 1];
-    waiting[0] = 1;
-    let mut height = 1;
-    // The nodes before node i have a place; the first height words of waiting are the children
-    // still to come of each node that is open behind them.
-    for (i, node) in nodes.chunks_exact(NODE_WORDS).enumerate() {
-        let d = settled(waiting, height);
-        if (d == 0) | (DEEPEST < d) {
-            return Err(Reason::NoTree.at(i));
+    let mut waiting = Waiting::new();
+    waiting.push(1);
+    // The nodes before node i have a place.
+    for (i, node) in Nodes::of(nodes).enumerate() {
+        match take_parent(&mut waiting) {
+            Some(count) if waiting.len() < DEEPEST => {
+                waiting.push(count - 1);
+                waiting.push(node.children);
+            }
+            _ => return Err(Reason::NoTree.at(i)),
         }
-        waiting[d - 1] -= 1;
-        waiting[d] = node[CHILDREN];
-        height = d + 1;
     }
-    let d = settled(waiting, height);
-    unless(d == 0, Reason::NoTree, nodes.len() / NODE_WORDS)
+    let ended = take_parent(&mut waiting).is_none();
+    unless(ended, Reason::NoTree, nodes.len() / NODE_WORDS)
 }
 
-// Goes up past the nodes that have all their children.
-fn settled(waiting: [u32; DEEPEST + 1], height: usize) -> usize
-    requires { height ≤ deepest + 1 }
-    ensures same { stacked waiting result ≡ waiting_nodes (stacked waiting height) }
-    ensures low { result ≤ height }
-    ensures waits { 0 < result → 0 < get_or waiting (result - 1) 0 }
+// Takes the nodes off that have all their children, and the innermost that waits; says for how many
+// it does.
+fn take_parent(waiting: &mut Waiting) -> Option<u32>
+    ensures { Innermost waiting.old.items waiting.new.items result }
 {
-    let ended = waiting[..height].iter().rev().position(|count| *count != 0);
-    height - ended.unwrap_or(height)
+    while let Some(count) = waiting.pop() {
+        if count != 0 {
+            return Some(count);
+        }
+    }
+    None
 }
 
-// Whether the own-atom counts add up to the atoms.
+/// Whether the own-atom counts add up to the atoms.
 #[tactic(auto, unfolding(crate::specs::Whole::sum_fault))]
 pub fn sum_fault(nodes: &[u32], atoms: usize) -> Result<(), Refusal>
     requires { length (node_records nodes.now) ≤ most_nodes }
@@ -60,10 +64,5 @@ fn own_atoms(nodes: &[u32]) -> usize
     requires { length (node_records nodes.now) ≤ most_nodes }
     ensures { result ≡ own_atoms (node_records nodes.now) }
 {
-    let mut sum = 0;
-    // sum is what the nodes before take.
-    for node in nodes.chunks_exact(NODE_WORDS) {
-        sum += word(node, OWN) as usize;
-    }
-    sum
+    Nodes::of(nodes).map(|node| node.own as usize).sum()
 }

@@ -1,5 +1,5 @@
 -- A word against its bytes, and bytes of words in a buffer that they fill from its start. Assumes nothing.
-use Rattle.std.proofs.Common.{◌≡◌, ap, ◌∙◌, List, [], ◌∷◌, ◌++◌, ℕ, ◌+◌, ◌/◌, ◌%◌, ◌*◌, ◌≤◌, ◌<◌, length, take, get_or, arith, w32}
+use Rattle.std.proofs.Common.{◌≡◌, ap, ◌∙◌, List, [], ◌∷◌, ◌++◌, ℕ, ◌+◌, ◌*◌, ◌≤◌, ◌<◌, length, take, get_or, arith, w32}
 use Rattle.std.specs.declared.option.Option.{Option}
 use Rattle.std.specs.Int.{from_le_bytes}
 use Rattle.std.specs.Io.KnownBytes.{Consumes}
@@ -7,7 +7,7 @@ use Rattle.words.specs.Words.{copied}
 use Rattle.words.specs.Records.{flat}
 use Rattle.words.specs.Bytes.{word_bytes, bytes_of}
 use Rattle.words.proofs.Laid.{copied-fits, take-laid}
-use Rattle.words.proofs.Bytes.{length-bytes}
+use Rattle.words.proofs.Bytes.{length-bytes, bytes-of}
 use Rattle.words.proofs.RecordLaws.{flat_append}
 use Rattle.wire.proofs.Known.{consumes_then}
 
@@ -18,18 +18,9 @@ word_read (p ∷ []) w h k e = absurd (omega arith)
 word_read (p ∷ q ∷ []) w h k e = absurd (omega arith)
 word_read (p ∷ q ∷ r ∷ []) w h k e = absurd (omega arith)
 word_read (p ∷ q ∷ r ∷ s ∷ []) w h k e =
-    let kp : p < 256 = k 0 in
-    let kq : q < 256 = k 1 in
-    let kr : r < 256 = k 2 in
-    let ks : s < 256 = k 3 in
     let f : w ≡ p + q * 256 + r * 65536 + s * 16777216 = e in
-    let a : w % 256 ≡ p = omega arith in
-    let b' : w / 256 ≡ q + 256 * r + 65536 * s = omega arith in
-    let b : w / 256 % 256 ≡ q = rw b' (omega arith) in
-    let c' : w / 65536 ≡ r + 256 * s = omega arith in
-    let c : w / 65536 % 256 ≡ r = rw c' (omega arith) in
-    let d : w / 16777216 ≡ s = omega arith in
-    rw (a, b, c, d)
+    let g : w ≡ p + 256 * q + 65536 * r + 16777216 * s = omega arith in
+    bytes-of p q r s w (k 0) (k 1) (k 2) (k 3) g
 word_read (p ∷ q ∷ r ∷ s ∷ t ∷ b) w h k e = absurd (omega arith)
 
 -- the bytes of words, at the start of a buffer

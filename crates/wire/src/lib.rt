@@ -1,7 +1,8 @@
-// 32-bit words over a reader and a writer, the lowest byte of each first. Where the bytes that a reader has left are
-// known, they begin with those of what is taken, and lose them; where those that a writer holds are, the bytes of what
-// is given come behind them. An answer is an error where the reader or the writer gives one, where memory runs out, and
-// where what stands on the input is longer than the caller takes.
+//! 32-bit words over a reader and a writer, the lowest byte of each first. Where the bytes that a reader has left are
+//! known, they begin with those of what is taken, and lose them; where those that a writer holds are, the bytes of what
+//! is given come behind them. An answer is an error where the reader or the writer gives one, where memory runs out,
+//! and where what stands on the input is longer than the caller takes. The reader and how much is taken stay two
+//! parameters: the limit is the caller's, and not the reader's.
 #![tactic(auto)]
 
 ghost use Rattle.std.specs.Prelude.{◌≡◌, ◌≤◌, ◌%◌, ◌^◌, ℕ, List, length, replicate, IfOk, OnOk};
@@ -87,7 +88,7 @@ pub fn give_bytes<W: Write>(output: &mut W, bytes: &[u8]) -> io::Result<()>
 pub fn low(n: usize) -> u32
     ensures { result ≡ n % 2 ^ 32 }
 {
-    (n % 4294967296) as u32
+    (n & u32::MAX as usize) as u32
 }
 
 // The word that four bytes are.
@@ -116,6 +117,7 @@ fn give_block<W: Write>(output: &mut W, words: &[u32]) -> io::Result<()>
     ensures { OnOk result (Appends (W.contents output.old) (W.contents output.new)
         (flat bytes_of words.now)) }
 {
+    // An array, since a `Vec` can fail with no memory left.
     let mut bytes = [0u8; WORD_BYTES * BLOCK];
     words::to_bytes(words, &mut bytes);
     output.write_all(&bytes[..WORD_BYTES * words.len()])

@@ -16,11 +16,12 @@ use Rattle.words.specs.Theorems.{WordsRead, BytesRead}
 use Rattle.words.proofs.Laid.{laid_none, laid_then, put-laid}
 use Rattle.words.proofs.RecordLaws.{rows_more, rows-flat, length-records}
 
--- the chunks of some bytes are their records, and a chunk is read as its word
-chunks-records : (n k : ℕ) (xs : List ℕ) → first_chunks k n xs ≡ records n k xs
+-- the first chunks of some words are their records
+pub chunks-records : (n k : ℕ) (xs : List ℕ) → first_chunks k n xs ≡ records n k xs
 chunks-records zero k xs = refl
 chunks-records (suc n) k xs = ap (λ rs. take k xs ∷ rs) (chunks-records n k (drop k xs))
 
+-- a chunk is read as its word
 word-at : (rs : List (List ℕ)) (i : ℕ) → get_or (map word_of rs) i 0 ≡ word_of (get_or rs i [])
 word-at [] i = refl
 word-at (r ∷ rs) zero = refl
@@ -76,7 +77,8 @@ length-bytes (w ∷ ws) =
 pub words-read : WordsRead
 words-read = rows-flat word_bytes word_of (omega arith) bytes_of (λ w. refl) (λ w. omega arith)
 
-bytes-of : (p q r s w : ℕ) → p < 256 → q < 256 → r < 256 → s < 256 → w ≡ word_of (p ∷ q ∷ r ∷ s ∷ []) → bytes_of w ≡ p ∷ q ∷ r ∷ s ∷ []
+-- the bytes of the word that four bytes are
+pub bytes-of : (p q r s w : ℕ) → p < 256 → q < 256 → r < 256 → s < 256 → w ≡ word_of (p ∷ q ∷ r ∷ s ∷ []) → bytes_of w ≡ p ∷ q ∷ r ∷ s ∷ []
 bytes-of p q r s w hp hq hr hs e =
     let a : w % 256 ≡ p = omega arith in
     let b' : w / 256 ≡ q + 256 * r + 65536 * s = omega arith in

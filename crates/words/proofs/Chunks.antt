@@ -1,23 +1,20 @@
 -- Records as the chunks that an iterator gives: at each turn those that are left are the next and those behind it.
-use Prim.Native.Nat.{ℕ, zero, suc, ◌+◌, ◌-◌, ◌*◌, ◌/◌, ◌%◌, ◌≤◌, ◌<◌}
+use Prim.Native.Nat.{ℕ, zero, suc, ◌+◌, ◌-◌, ◌*◌, ◌/◌, ◌≤◌, ◌<◌}
 use native.Mathlib.Omega.{arith}
 use native.Mathlib.Numerals.{add-one}
-use native.Mathlib.Nat.{add-div_right, div-eq_of_lt, add-mod_right, mod-eq_of_lt}
-use mathlib.Core.Path.{◌≡◌, refl, sym, ap, ◌∙◌}
-use mathlib.Core.List.{List, [], ◌∷◌, ◌++◌, append_assoc, map}
-use Rattle.std.proofs.lemmas.List.{append-nil, nil_from_length}
+use native.Mathlib.Nat.{add-div_right, div-eq_of_lt}
+use mathlib.Core.Path.{◌≡◌, sym, ap, ◌∙◌}
+use mathlib.Core.List.{List, [], ◌∷◌, ◌++◌}
 use lib.ListN.{length, take, drop, length-append, length-drop}
 use lib.Seq.{take-add, length-take-le}
 use Rattle.std.proofs.Math.Seq.{take-append_seam, drop-append_seam}
 use Rattle.std.specs.Slice.Iter.{chunks_exact_steps}
-use Rattle.std.specs.Slice.Exact.{rchunks_exact_steps}
 use Rattle.std.specs.Iterator.Adapters.{enumerate_steps}
 use Rattle.std.specs.declared.slice.ChunksExact.{ChunksExact}
-use Rattle.std.specs.declared.slice.RChunksExact.{RChunksExact}
 use Rattle.std.specs.declared.iter.Enumerate.{Enumerate}
 use Rattle.std.specs.Prelude.{Some, None}
 use Rattle.std.specs.Borrow.{Bor}
-use Rattle.words.specs.Records.{records, rows_of}
+use Rattle.words.specs.Records.{records}
 use Rattle.words.proofs.RecordLaws.{length-records}
 
 -- the records of k words that a list of words holds
@@ -63,17 +60,6 @@ left-next k s t x pos z g = ap (whole k) g.1.0 ∙ whole-next k x.now t.rest.now
 
 pub left-none : (k : ℕ) (s t : ChunksExact ℕ) → s.size ≡ k → chunks_exact_steps s None t → left k s ≡ []
 left-none k s t z g = whole-none k s.rest.now (omega arith)
-
--- the same as rows
-pub rows-next :
-    {R : Type 0} (k : ℕ) (read : List ℕ → R) (s t : ChunksExact ℕ) (x : Bor (List ℕ)) → 0 < k → s.size ≡ k → chunks_exact_steps s (Some x) t
-    → rows_of k read s.rest.now ≡ read x.now ∷ rows_of k read t.rest.now
-unfolding rows_of
-rows-next k read s t x pos z g = ap (map read) (left-next k s t x pos z g)
-
-pub rows-none : {R : Type 0} (k : ℕ) (read : List ℕ → R) (s t : ChunksExact ℕ) → s.size ≡ k → chunks_exact_steps s None t → rows_of k read s.rest.now ≡ []
-unfolding rows_of
-rows-none k read s t z g = ap (map read) (left-none k s t z g)
 
 -- A loop over numbered chunks: the chunks are records of k words, and those given and those left are all that ws holds.
 pub record Going (k : ℕ) (ws : List ℕ) (s : Enumerate (ChunksExact ℕ)) : Type 0 where
@@ -130,48 +116,3 @@ ended k ws s t h g =
     let l : left k s.iter ≡ [] = left-none k s.iter t.iter h.size g.0 in
     let n : length (left k s.iter) ≡ 0 = ap length l in
     record { count = omega (arith, h.all); none = l }
-
--- A loop over chunks from the back: whole records are left, and behind them stands what was given.
-pub record Returning (k : ℕ) (ws : List ℕ) (s : RChunksExact ℕ) : Type 0 where
-  pub size : s.size ≡ k
-  pub whole : length s.rest.now % k ≡ 0
-  pub given : List ℕ
-  pub parts : s.rest.now ++ given ≡ ws
-
--- its start, from what `rchunks_exact` and `into_iter` give, where all that ws holds are records
-pub returning :
-    (k : ℕ) (ws : List ℕ) (c s : RChunksExact ℕ) → length ws % k ≡ 0 → ws ≡ c.rem.now ++ c.rest.now → length c.rem.now ≡ length ws % k → c.size ≡ k → s ≡ c
-    → (r : Returning k ws s) × (r.given ≡ [])
-returning k ws c s w p r z e =
-    let q : c.rest.now ≡ ws = sym (p ∙ ap (λ f. f ++ c.rest.now) (nil_from_length c.rem.now (r ∙ w))) in
-    let n : s.rest.now ≡ ws = ap (λ (y : RChunksExact ℕ). y.rest.now) e ∙ q in (
-      record {
-        size = ap (λ (y : RChunksExact ℕ). y.size) e ∙ z;
-        whole = ap (λ l. length l % k) n ∙ w;
-        given = [];
-        parts = append-nil s.rest.now ∙ n;
-      },
-      refl,
-    )
-
--- a turn: what was given before has the chunk in front of it
-pub returned :
-    (k : ℕ) (ws : List ℕ) (s t : RChunksExact ℕ) (x : Bor (List ℕ)) (r : Returning k ws s) → rchunks_exact_steps s (Some x) t
-    → (u : Returning k ws t) × (u.given ≡ x.now ++ r.given)
-returned k ws s t x r g =
-    let m : length x.now ≡ k = g.2.1 ∙ r.size in
-    let n : length t.rest.now + k ≡ length s.rest.now = ap (λ j. length t.rest.now + j) (sym m) ∙ sym (length-append t.rest.now x.now) ∙ ap length (sym g.2.0) in (
-      record {
-        size = g.0 ∙ r.size;
-        whole = sym (add-mod_right (length t.rest.now) k) ∙ ap (λ j. j % k) n ∙ r.whole;
-        given = x.now ++ r.given;
-        parts = sym (append_assoc t.rest.now x.now r.given) ∙ ap (λ l. l ++ r.given) (sym g.2.0) ∙ r.parts;
-      },
-      refl,
-    )
-
--- its end: all was given
-pub all-given : (k : ℕ) (ws : List ℕ) (s t : RChunksExact ℕ) (r : Returning k ws s) → rchunks_exact_steps s None t → r.given ≡ ws
-all-given k ws s t r g =
-    let n : length s.rest.now ≡ 0 = sym (mod-eq_of_lt (omega arith)) ∙ r.whole in
-    ap (λ l. l ++ r.given) (sym (nil_from_length s.rest.now n)) ∙ r.parts

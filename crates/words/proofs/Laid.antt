@@ -111,9 +111,3 @@ store-turn p F l whole i v e h d =
 
 pub store-end : (p : ℕ) (F l whole : List ℕ) (i : ℕ) → laid p (drop i F) l ≡ whole → length F ≤ i → l ≡ whole
 store-end p F l whole i e h = sym (laid_none p l) ∙ ap (λ G. laid p G l) (sym (drop_of_length-le F h)) ∙ e
-
-pub copy-turn : (a : ℕ) (F l whole : List ℕ) (i : ℕ) → i < length F → laid (a + i) (drop i F) l ≡ whole
-    → laid (a + (i + 1)) (drop (i + 1) F) (set l (a + i) (get_or F i 0)) ≡ whole
-copy-turn a F l whole i h e =
-    let q : a + (i + 1) ≡ a + i + 1 = omega arith in
-    rw q (store-turn (a + i) F l whole i (get_or F i 0) e h refl)

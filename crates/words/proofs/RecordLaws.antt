@@ -32,16 +32,6 @@ module _ {R : Type 0} (k : ℕ) (read : List ℕ → R) (pos : 0 < k) where
   unfolding rows_of
   rows_none ws h = ap (λ n. map read (records n k ws)) (div-eq_of_lt h)
 
-  -- the same from a place on, as a loop goes
-  pub rows_at : (ws : List ℕ) (i : ℕ) → i + k ≤ length ws
-      → rows_of k read (drop i ws) ≡ read (take k (drop i ws)) ∷ rows_of k read (drop (i + k) ws)
-  rows_at ws i h =
-      rows_more (drop i ws) (rw length-drop (omega arith))
-      ∙ ap (λ l. read (take k (drop i ws)) ∷ rows_of k read l) (drop-drop k i ws)
-
-  pub rows_end : (ws : List ℕ) (i : ℕ) → length ws < i + k → rows_of k read (drop i ws) ≡ []
-  rows_end ws i h = rows_none (drop i ws) (rw length-drop (omega arith))
-
   -- the first c rows, and those behind them
   pub rows_drop : (c : ℕ) (ws : List ℕ) → c * k ≤ length ws → rows_of k read (drop (c * k) ws) ≡ drop c (rows_of k read ws)
   rows_drop zero ws h = let q : zero * k ≡ 0 = omega arith in rw q refl

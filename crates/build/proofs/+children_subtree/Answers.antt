@@ -12,26 +12,26 @@ children-returns-then-count-at t c =
 
 pub children-subtree-requires : goal.children-subtree-requires
 children-subtree-requires t c =
-    let some = some-taken c.args.count c.args.at.left c.if-count-at.false in
+    let some = some-taken c.args.count c.args.at.nodes_left c.if-count-at.false in
     (omega arith, (c.requires.0, some.1, c.requires.1, c.requires.2))
 
 pub children-returns-in_err-first : goal.children-returns-in_err-first
 children-returns-in_err-first t c =
-    let some = some-taken c.args.count c.args.at.left c.if-count-at.false in
+    let some = some-taken c.args.count c.args.at.nodes_left c.if-count-at.false in
     rw c.from_residual.ensures (children-full _ _ c.subtree.ensures c.requires.0 some.0 some.1 _ c.in_err-first.was)
 
 pub children-overflow_sub-count : goal.children-overflow_sub-count
-children-overflow_sub-count t c = omega (arith, some-taken c.args.count c.args.at.left c.if-count-at.false)
+children-overflow_sub-count t c = omega (arith, some-taken c.args.count c.args.at.nodes_left c.if-count-at.false)
 
 pub children-children-requires : goal.children-children-requires
 children-children-requires t c =
-    let some = some-taken c.args.count c.args.at.left c.if-count-at.false in
+    let some = some-taken c.args.count c.args.at.nodes_left c.if-count-at.false in
     let told = built-told c.subtree.ensures c.in_ok-first.was in
     (omega (arith, told.2.less), (told.2.reached, omega (arith, told.1), omega (arith, c.requires.2)))
 
 pub children-returns-in_err-rest : goal.children-returns-in_err-rest
 children-returns-in_err-rest t c =
-    let some = some-taken c.args.count c.args.at.left c.if-count-at.false in
+    let some = some-taken c.args.count c.args.at.nodes_left c.if-count-at.false in
     rw c.from_residual-in_err-rest.ensures
     (children-rest _ _ c.subtree.ensures c.requires.0 some.0 some.1 c.in_ok-first.was c.children.ensures _ c.in_err-rest.was)
 
@@ -43,7 +43,7 @@ children-join_built-requires t c =
 
 pub children-returns : goal.children-returns
 children-returns t c =
-    let some = some-taken c.args.count c.args.at.left c.if-count-at.false in
+    let some = some-taken c.args.count c.args.at.nodes_left c.if-count-at.false in
     children-done _ _ c.subtree.ensures c.requires.0 some.0 some.1 c.in_ok-first.was c.children.ensures _ c.in_ok-rest.was c.join_built.ensures
 
 pub subtree-node_rows-requires : goal.subtree-node_rows-requires
@@ -56,7 +56,7 @@ subtree-returns-in_err-own t c =
 pub subtree-children-requires : goal.subtree-children-requires
 subtree-children-requires t c =
     let told = built-told c.node_rows.ensures c.in_ok-own.was in (
-      omega (arith, c.requires.1, ap (λ (x : Spot). x.left) told.2),
+      omega (arith, c.requires.1, ap (λ (x : Spot). x.nodes_left) told.2),
       (rw told.2 (here _ _ c.requires.0 c.requires.1).next, omega (arith, told.1), omega (arith, c.requires.3)),
     )
 

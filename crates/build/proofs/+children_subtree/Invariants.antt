@@ -3,7 +3,7 @@ use Rattle.std.proofs.Common.{◌+◌}
 use Rattle.build.proofs.+children_subtree.Given as goal
 
 abbrev pub decreases-subtree : goal.decreases-subtree
-decreases-subtree l = l.at.left + l.at.left
+decreases-subtree l = l.at.nodes_left + l.at.nodes_left
 
 abbrev pub decreases-children : goal.decreases-children
-decreases-children l = l.at.left + l.at.left + 1
+decreases-children l = l.at.nodes_left + l.at.nodes_left + 1

@@ -1,21 +1,21 @@
 -- The rows of the node's own atoms, and the place behind them.
-use Rattle.std.proofs.Common.{arith}
-use Rattle.nodes.proofs.Places.{atoms-rows, atoms-within, next-spot}
+use Rattle.std.proofs.Common.{◌∙◌, arith}
+use Rattle.nodes.proofs.Places.{atoms-within, next-spot}
 use Rattle.build.proofs.Building.{node-full, node_done}
 use Rattle.build.proofs.node_rows.Goals as goal
 
 pub own_rows-requires : goal.own_rows-requires
-own_rows-requires c = (rw c.atoms_at.ensures (atoms-rows _ _ _), omega (arith, c.requires.3), c.requires.4)
+own_rows-requires c = (omega (arith, c.requires.3), c.requires.4)
 
 pub returns-in_err-end : goal.returns-in_err-end
 returns-in_err-end c =
     rw c.from_residual.ensures
     (node-full _ _ _ c.requires.2 c.operator_at.ensures c.atoms_at.ensures c.own_rows.ensures c.in_err-end.was)
 
-pub overflow_add-next : goal.overflow_add-next
-overflow_add-next c = omega (arith, atoms-within _ _ c.requires.0 c.requires.1 _ c.requires.2)
+pub behind_own-next-requires-clause-within : goal.behind_own-next-requires-clause-within
+behind_own-next-requires-clause-within c = omega (arith, atoms-within _ _ c.requires.0 c.requires.1 _ c.requires.2)
 
 pub returns : goal.returns
 returns c =
     node_done _ _ _ c.requires.2 c.operator_at.ensures c.atoms_at.ensures c.own_rows.ensures c.in_ok-end.was
-    (next-spot _ _ c.requires.0 c.requires.1 _ c.requires.2)
+    (c.behind_own-next.ensures ∙ next-spot _ _ c.requires.0 c.requires.1 _ c.requires.2)

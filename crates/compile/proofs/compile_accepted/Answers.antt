@@ -22,8 +22,8 @@ subtree-built-requires c =
           (omega (arith, c.if-scratch-words.false)) (omega (arith, c.room_of-words.ensures)),
     )
 
-pub settle-requires : goal.settle-requires
-settle-requires c = built-inside _ _ c.subtree-built.ensures c.subtree-built.auto.table refl
+pub finish-requires : goal.finish-requires
+finish-requires c = built-inside _ _ c.subtree-built.ensures c.subtree-built.auto.table refl
 
 pub returns : goal.returns
 returns c =
@@ -33,4 +33,4 @@ returns c =
     c.subtree-built.auto.table
     (length-append c.subtree-built.new.scratch (drop k c.args.scratch.now)
     ∙ omega (arith, c.subtree-built.auto.scratch, length-take-le k c.args.scratch.now enough, length-drop k c.args.scratch.now))
-    _ c.subtree-built.ensures c.settle.ensures
+    _ c.subtree-built.ensures c.finish.ensures

@@ -12,4 +12,4 @@ pub returns : goal.returns
 returns c =
     any_from_yields_List (λ r. inside c.args.m r.matching) c.any.new.self _ _ c.any.ensures.ran
     (YieldsList-from_first (λ x. x) rows_left {s = c.of.result} (rows_in c.args.rows.now) c.of.ensures)
-    (λ x b q k. search (rules, tests))
+    (λ x b q k. (search (rules, tests), search (rules, tests)))

@@ -11,9 +11,6 @@ loop-i-init c = keeping_start c.args.table.now
 pub slice_bounds-read-end : goal.slice_bounds-read-end
 slice_bounds-read-end c = omega (arith, keeping-length c.loop-i.invariant)
 
-pub slice_bounds-row_action-end : goal.slice_bounds-row_action-end
-slice_bounds-row_action-end c = omega (arith, keeping-length c.loop-i.invariant)
-
 pub loop-i-preserved : goal.loop-i-preserved
 loop-i-preserved c =
     let k = c.loop-i.invariant in
@@ -21,8 +18,7 @@ loop-i-preserved c =
     elim c.if-not-inside_one.branch [
       | then-not-inside_one w ↦
           rw (w.table-is, w.to-is)
-          (keeping-stays k h _ c.read-m.ensures _ c.inside_one.ensures _ w.row_action.ensures _ w.write.ensures
-          w.if-not-inside_one.true)
+          (keeping-stays k h _ c.read-m.ensures _ c.inside_one.ensures c.requires _ w.copy_within.ensures.after w.if-not-inside_one.true)
       | else-not-inside_one w ↦ rw (w.table-is, w.to-is) (keeping-goes k h _ c.read-m.ensures _ c.inside_one.ensures w.if-not-inside_one.false)
     ]
 

@@ -1,6 +1,7 @@
 -- A turn reads one more part.
 use Rattle.std.proofs.Common.{rules, length, ◌-◌}
-use Rattle.listing.proofs.Read.{consumes_then, part_read}
+use Rattle.wire.proofs.Known.{consumes_then}
+use Rattle.listing.proofs.Read.{part_read}
 use Rattle.listing.proofs.read_full.Goals as goal
 
 pub loop-count-preserved : goal.loop-count-preserved

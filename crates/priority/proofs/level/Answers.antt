@@ -7,8 +7,8 @@ pub returns-then-count-best : goal.returns-then-count-best
 returns-then-count-best c =
     let l = c.loop-j in
     let g = c.args in
-    level-most g.table.now g.levels.now g.i _ _ c.requires.3
-    (back-stop g.table.now g.levels.now g.i l.j _ _ l.invariant _ (omega arith) c.if-count-best.true c.requires.3)
+    level-most g.table.words.now g.levels.now g.i _ _ c.requires.3
+    (back-stop g.table.words.now g.levels.now g.i l.j _ _ l.invariant _ (omega arith) c.if-count-best.true c.requires.3)
 
 pub raised-best-requires : goal.raised-best-requires
 raised-best-requires c = (omega arith, omega (arith, c.requires.3 (c.loop-j.j - 1) (omega arith)))
@@ -17,11 +17,11 @@ pub loop-j-preserved : goal.loop-j-preserved
 loop-j-preserved c =
     let l = c.loop-j in
     let g = c.args in
-    back-turn g.table.now g.levels.now g.i l.j l.best _ l.invariant c.loop-j-test.true _ c.match_at-m.ensures _ c.raised-best.ensures
+    back-turn g.table.words.now g.levels.now g.i l.j l.best _ l.invariant c.loop-j-test.true _ c.match_at-m.ensures _ c.raised-best.ensures
 
 pub returns : goal.returns
 returns c =
     let l = c.loop-j in
     let g = c.args in
-    level-most g.table.now g.levels.now g.i _ _ c.requires.3
-    (back_end g.table.now g.levels.now g.i l.j _ _ l.invariant c.loop-j-test.false)
+    level-most g.table.words.now g.levels.now g.i _ _ c.requires.3
+    (back_end g.table.words.now g.levels.now g.i l.j _ _ l.invariant c.loop-j-test.false)

@@ -5,4 +5,4 @@ use Rattle.priority.specs.Numbering.{over}
 use Rattle.priority.proofs.level.Given as goal
 
 abbrev pub invariant-loop-j : goal.invariant-loop-j
-invariant-loop-j l = max l.best (above (over l.table) l.levels l.i l.j) ≡ above (over l.table) l.levels l.i l.i
+invariant-loop-j l = max l.best (above (over l.table.words.now) l.levels l.i l.j) ≡ above (over l.table.words.now) l.levels l.i l.i

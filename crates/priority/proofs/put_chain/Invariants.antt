@@ -3,4 +3,4 @@ use Rattle.priority.proofs.Linking.{Linked}
 use Rattle.priority.proofs.put_chain.Given as goal
 
 abbrev pub invariant-loop-l : goal.invariant-loop-l
-invariant-loop-l l = Linked l.table l.levels l.fn.chain l.chain l.count l.l l.at.0
+invariant-loop-l l = Linked l.table.words.now l.levels l.fn.chain l.chain l.count l.l l.at.0

@@ -4,13 +4,13 @@ use Rattle.priority.proofs.Levelling.{levelling-start, levelling-below, levellin
 use Rattle.priority.proofs.put_levels.Goals as goal
 
 pub loop-i-init : goal.loop-i-init
-loop-i-init c = levelling-start c.args.table.now c.args.levels.now
+loop-i-init c = levelling-start c.args.table.words.now c.args.levels.now
 
 pub level-l-requires : goal.level-l-requires
-level-l-requires c = (omega arith, omega arith, omega arith, levelling-below c.loop-i.invariant)
+level-l-requires c = (omega arith, omega arith, omega (arith, c.args.table.right.few), levelling-below c.loop-i.invariant)
 
 pub loop-i-preserved : goal.loop-i-preserved
 loop-i-preserved c = levelling-turn c.loop-i.invariant (omega arith) _ c.level-l.ensures.0 _ c.max-count.ensures
 
 pub returns : goal.returns
-returns c = levelling-end c.loop-i.invariant c.requires.0 (omega arith)
+returns c = levelling-end c.loop-i.invariant c.requires (omega arith)

@@ -6,12 +6,12 @@ use Rattle.rows.proofs.join_atom.Goals as goal
 
 pub returns-then-is_empty : goal.returns-then-is_empty
 returns-then-is_empty c =
-    atom-none _ _ _ c.read-row.ensures c.is_empty.ensures c.if-is_empty.true c.requires.0 c.requires.1
+    atom-none _ _ _ c.is_empty.ensures c.if-is_empty.true c.requires.0 c.requires.1
 
 pub returns-in_err-end : goal.returns-in_err-end
 returns-in_err-end c =
     rw c.from_residual.ensures
-    (atom-full _ _ _ _ c.read-row.ensures c.is_empty.ensures c.if-is_empty.false c.row_before.ensures _
+    (atom-full _ _ _ _ c.is_empty.ensures c.if-is_empty.false c.row_before.ensures _
     (omega (arith, c.requires.2)) c.in_err-end.was)
 
 pub slice_bounds-put_up_to-count : goal.slice_bounds-put_up_to-count
@@ -25,5 +25,5 @@ slice_bounds-put_up_to-end c = omega (arith, lays-ends c.row_before.ensures c.in
 
 pub returns : goal.returns
 returns c =
-    atom-joined _ _ c.args.first c.args.scratch.now c.read-row.ensures c.is_empty.ensures c.if-is_empty.false
+    atom-joined _ c.args.first c.args.scratch.now _ c.is_empty.ensures c.if-is_empty.false
     c.row_before.ensures c.in_ok-end.was c.put_up_to.ensures

@@ -1,5 +1,6 @@
 -- The test says whether there is room.
 use Rattle.std.proofs.Common.{arith}
+use Rattle.words.proofs.Laid.{put-laid}
 use Rattle.rows.proofs.Own.{put-up-full, put-up-words}
 use Rattle.rows.proofs.put_up_to.Goals as goal
 
@@ -9,4 +10,6 @@ returns-then-place-start c =
 
 pub returns : goal.returns
 returns c =
-    let g = c.args in put-up-words _ g.place g.words.now g.out.now c.copy.ensures (omega arith) (omega arith) (omega arith)
+    let g = c.args in
+    put-up-words _ g.place g.words.now g.out.now (put-laid _ _ _ _ _ c.copy_from_slice.ensures.after (omega arith) (omega arith))
+    (omega arith) (omega arith) (omega arith)

@@ -1,10 +1,10 @@
--- The words of row i are read, and past the last row none. Assumes nothing.
-use mathlib.Core.Path.{◌∙◌}
-use Rattle.table.proofs.Tables.{match-at, match-past}
+-- The words of row i are read, and past the last row none.
+use Rattle.std.proofs.Common.{◌∙◌, [], arith}
+use Rattle.table.proofs.Tables.{match-read}
 use Rattle.table.proofs.match_at.Goals as goal
 
-pub returns-then-i-table : goal.returns-then-i-table
-returns-then-i-table c = c.read.ensures ∙ match-at _ c.args.i c.if-i-table.true
+pub returns-in-Some : goal.returns-in-Some
+returns-in-Some c = c.read.ensures ∙ match-read _ _ c.args.i _ c.rows.ensures.0 (c.in-Some.ensures.lookup.3.1 [])
 
-pub returns : goal.returns
-returns c = c.read-2.ensures ∙ match-past c.args.table.now c.args.i c.if-i-table.false
+pub returns-in-None : goal.returns-in-None
+returns-in-None c = c.read-in-None.ensures ∙ match-read c.args.table.now _ c.args.i [] c.rows.ensures.0 (c.in-None.ensures.lookup.4 (omega arith) [])

@@ -1,16 +1,20 @@
 -- The walk starts at the root, and gives eval of the tree.
+use Rattle.std.proofs.Common.{sym, ◌∙◌}
+use Rattle.std.proofs.lemmas.Result.{err_from_is_err_and}
+use Rattle.flow.proofs.Words.{packet-found, packet-none}
 use Rattle.nodes.proofs.Walk.{start-reached}
 use Rattle.tree.proofs.Eval.{root-gave, accepted-gives, accepted-refuses}
 use Rattle.tree.proofs.accepted_action.Goals as goal
 
-pub subtree-gave-requires : goal.subtree-gave-requires
-subtree-gave-requires c = start-reached _ _ c.requires _ c.root.ensures
+pub subtree-found-requires : goal.subtree-found-requires
+subtree-found-requires c = start-reached _ _ c.requires _ c.root.ensures
 
-pub returns-then-not-right_packet_words : goal.returns-then-not-right_packet_words
-returns-then-not-right_packet_words c =
-    rw c.at.ensures (accepted-refuses _ _ _ _ c.right_packet_words.ensures c.if-not-right_packet_words.true)
+pub returns-in_err-try_from : goal.returns-in_err-try_from
+returns-in_err-try_from c =
+    let p = err_from_is_err_and c.from_residual.result c.from_residual.ensures.1 in
+    rw (p.1, p.2) (accepted-refuses _ _ _ (packet-none _ _ (sym c.try_from.ensures ∙ c.in_err-try_from.was)))
 
 pub returns : goal.returns
 returns c =
-    accepted-gives _ _ _ _ c.right_packet_words.ensures c.if-not-right_packet_words.false
-    (root-gave _ _ c.requires _ c.root.ensures _ c.read.ensures c.subtree-gave.ensures)
+    let k = packet-found _ _ (sym c.try_from.ensures ∙ c.in_ok-try_from.was) in
+    accepted-gives _ _ _ k.0 (root-gave _ _ c.requires _ c.root.ensures _ (sym k.1) c.subtree-found.ensures)

@@ -5,4 +5,4 @@ use Rattle.field.proofs.Prefix.contains.Goals as goal
 
 pub returns : goal.returns
 unfolding in_prefix
-returns c = rw (← c.bits_beyond.ensures) (xor-test c.args.self.address c.args.x c.bits_beyond.result)
+returns c = rw (← c.bits_beyond.ensures, c.from.ensures) (xor-test c.args.self.address c.args.x c.bits_beyond.result)

@@ -5,6 +5,7 @@ use mathlib.Core.Bool.{Bool, true, false, cond, not, ◌&&◌, ◌||◌, and-tru
 use lib.Bits.{bit_and, and_zero_r}
 use lib.Dec.{eqb}
 use Rattle.flow.specs.Match.{protocol_flag, port_flags, flagged, has_ports, clash}
+use Rattle.flow.proofs.matches.clash.Goals.{then-flags-has_ports, else-flags-has_ports}
 use Rattle.flow.proofs.matches.clash.Goals as goal
 
 -- by whether the protocol is free, and whether it has ports
@@ -20,5 +21,14 @@ barred f q = go (eqb (bit_and f protocol_flag) 0) (has_ports q)
     go false true = none ∙ sym (and-false (flagged port_flags f && true))
     go false false = sym (and-true (flagged port_flags f && true) ∙ and-true (flagged port_flags f))
 
+-- the same, by what was picked
+picked : (f q b : ℕ) {t h : Bool} → h ≡ has_ports q → (eqb (bit_and f protocol_flag) 0 || h) ≡ t → b ≡ cond t 0 port_flags
+    → not (eqb (bit_and f b) 0) ≡ clash f q
+picked f q b e p g = rw (g, ← p, e) (barred f q)
+
 pub returns : goal.returns
-returns c = rw (c.common_value-barred.ensures, c.has_ports.ensures) (barred _ _)
+returns c =
+    elim c.if-flags-has_ports.branch [
+      | then-flags-has_ports w ↦ picked _ _ _ c.has_ports.ensures w.if-flags-has_ports.true w.barred-is
+      | else-flags-has_ports w ↦ picked _ _ _ c.has_ports.ensures w.if-flags-has_ports.false w.barred-is
+    ]

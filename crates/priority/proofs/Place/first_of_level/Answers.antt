@@ -14,4 +14,4 @@ returns c =
     let found : c.position.result ≡ position (λ x. eqb x c.args.l) ls =
     position_from_yields_List (λ x. eqb x c.args.l) _ _ c.position.result c.position.ensures.ran (YieldsList-from_slice ls c.iter.ensures.rest)
     (λ x b q k. search (rules, tests)) in
-    c.unwrap_or.ensures ∙ ap (λ o. unwrap_or o (length ls)) found ∙ first-position ls c.args.l
+    c.unwrap_or.ensures ∙ ap (λ o. unwrap_or o (length ls)) found ∙ first-position 0 (λ x. eqb x c.args.l) ls

@@ -1,20 +1,29 @@
--- A turn takes the atoms of one node.
-use Rattle.std.proofs.Common.{◌≡◌, suc, ◌+◌, length, ap, ◌∙◌, arith}
-use Rattle.words.proofs.Chunks.{left, left-next}
-use Rattle.section.specs.Numbers.{node_length}
-use Rattle.section.specs.Sections.{own_of}
-use Rattle.whole.specs.Whole.{own_atoms}
+-- The own-atom counts of the nodes that the words hold, each a number of 32 bits.
+use Rattle.std.proofs.Common.{rules, tests, of_calls, ◌∙◌}
+use Rattle.std.proofs.lemmas.Iterator.{YieldsList-from_map}
+use Rattle.std.proofs.lemmas.Iterator.Consumers.{YieldsList-at, YieldsList-from_first, sum_by_from_yields_List, fits_by_from_yields_list}
+use Rattle.section.specs.declared.nodes.Node.{Node}
+use Rattle.section.specs.Node.{nodes_in, nodes_left}
+use Rattle.whole.proofs.Nodes.{sum-own, sum-fits}
 use Rattle.whole.proofs.shape.own_atoms.Goals as goal
 
-pub loop-node-preserved : goal.loop-node-preserved
-loop-node-preserved c =
-    let l = c.loop-node in
-    let more = left-next node_length l.node-iterator c.next.new.self c.in-Some.node (omega arith) l.invariant.size c.in-Some.ensures.steps in
-    let behind = left node_length c.next.new.self in
-    let n : length (left node_length l.node-iterator) ≡ suc (length behind) = ap length more in
-    let s : own_atoms (left node_length l.node-iterator) ≡ own_of c.in-Some.node.now + own_atoms behind = ap own_atoms more in
-    record {
-      size = c.in-Some.ensures.steps.0 ∙ l.invariant.size;
-      small = omega (arith, l.invariant.small, c.word.type_inv, c.word.ensures);
-      same = omega (arith, l.invariant.same, c.word.ensures);
-    }
+pub sum-requires : goal.sum-requires
+sum-requires c = record {
+  can = search of_calls;
+  finite = search of_calls;
+  fits = fits_by_from_yields_list (λ (n : Node). n.own) (nodes_in c.args.nodes.now) c.map.result _
+      (YieldsList-from_map _ (λ (n : Node). n.own)
+      (YieldsList-at c.map.ensures.source
+      (YieldsList-from_first (λ x. x) nodes_left {s = c.of.result} (nodes_in c.args.nodes.now) c.of.ensures))
+      c.map.ensures.closure (λ x r q k. search (rules, tests)))
+      (sum-fits c.args.nodes.now (λ k. (c.type_inv.nodes k).fits) c.requires);
+}
+
+pub returns : goal.returns
+returns c =
+    sum_by_from_yields_List (λ (n : Node). n.own) (nodes_in c.args.nodes.now) c.map.result _ c.sum.ensures.ran
+    (YieldsList-from_map _ (λ (n : Node). n.own)
+    (YieldsList-at c.map.ensures.source
+    (YieldsList-from_first (λ x. x) nodes_left {s = c.of.result} (nodes_in c.args.nodes.now) c.of.ensures))
+    c.map.ensures.closure (λ x r q k. search (rules, tests)))
+    ∙ sum-own c.args.nodes.now

@@ -1,55 +1,60 @@
 -- A turn gives one node its place, or finds that there is none.
-use Rattle.std.proofs.Common.{◌≡◌, ◌/◌, eqb, ap, sym, ◌∙◌, refl, suc, length, length-set, arith}
-use Rattle.words.proofs.RecordLaws.{length-records}
-use Rattle.words.proofs.Chunks.{left, left-next, left-none, started}
+use Rattle.std.proofs.Common.{◌≡◌, ◌/◌, ap, sym, ◌∙◌, suc, length, inl, arith}
 use Rattle.refusal.specs.declared.Reason.TheVariants.{NoTree}
 use Rattle.section.specs.Numbers.{node_length}
 use Rattle.section.specs.Sections.{unless}
+use Rattle.section.specs.Node.{nodes_left}
 use Rattle.whole.specs.Whole.{shape_fault}
+use Rattle.whole.proofs.Nodes.{counts-children, length-nodes}
 use Rattle.whole.proofs.Turns as turn
 use Rattle.whole.proofs.shape.shape_fault.Goals as goal
+use Rattle.whole.proofs.shape.shape_fault.Goals.{in_default-via-in-Some-take_parent+else-len-lt-DEEPEST, in_default-via-in_default}
 
 pub loop-i-init : goal.loop-i-init
 unfolding shape_fault
 loop-i-init c =
-    let g = c.args in
-    let s = started node_length g.nodes.now _ _ _ c.chunks_exact.ensures.rest c.chunks_exact.ensures.size c.enumerate-i-items.ensures.source
-    c.enumerate-i-items.ensures.count c.into_iter-i-iterator.ensures.into_iter_gives in
-    let n = length-records (length g.nodes.now / node_length) node_length g.nodes.now in
+    let none = ap (λ s. s.count) c.into_iter-i-iterator.ensures.into_iter_gives ∙ c.enumerate-i-items.ensures.count in
+    let all = ap (λ s. nodes_left s.iter) c.into_iter-i-iterator.ensures.into_iter_gives ∙ ap nodes_left c.enumerate-i-items.ensures.source ∙ c.of.ensures in
     record {
-      room = refl;
-      low = omega arith;
-      size = s.going.size;
-      all = rw (s.none, s.left) (omega (arith, n));
-      same = rw (s.none, s.left);
+      all = rw (none, all) (omega (arith, length-nodes c.args.nodes.now));
+      same = rw (none, all, counts-children c.args.nodes.now, c.push.ensures.items, c.new-waiting.ensures);
     }
 
-pub returns-then-d : goal.returns-then-d
-returns-then-d c =
-    let l = c.loop-i in
-    let more = left-next node_length l.i-iterator.iter c.next.new.self.iter c.in-Some.node (omega arith) l.invariant.size c.in-Some.ensures.steps.0 in
-    rw (c.at.ensures, c.in-Some.ensures.steps.1)
-    (turn.stopped _ l.i-iterator.count l.waiting l.height _ _ l.invariant.same c.settled-d.ensures.same _ _ more c.if-d.true)
+pub loop-i-init-derived : goal.loop-i-init-derived
+loop-i-init-derived c =
+    let none = ap (λ s. s.count) c.into_iter-i-iterator.ensures.into_iter_gives ∙ c.enumerate-i-items.ensures.count in
+    let all = ap (λ s. length (nodes_left s.iter)) c.into_iter-i-iterator.ensures.into_iter_gives
+    ∙ ap (λ s. length (nodes_left s)) c.enumerate-i-items.ensures.source ∙ ap length c.of.ensures in
+    ((tt, tt, inl (rw (none, all) (omega (arith, length-nodes c.args.nodes.now)))), tt)
 
 pub loop-i-preserved : goal.loop-i-preserved
 loop-i-preserved c =
     let l = c.loop-i in
-    let more = left-next node_length l.i-iterator.iter c.next.new.self.iter c.in-Some.node (omega arith) l.invariant.size c.in-Some.ensures.steps.0 in
-    let n : length (left node_length l.i-iterator.iter) ≡ suc (length (left node_length c.next.new.self.iter)) = ap length more in
-    let d = turn.going c.settled-d.result c.if-d.false in
+    let n : length (nodes_left l.i-iterator.iter) ≡ suc (length (nodes_left c.next.new.self.iter)) = ap length c.in-Some.ensures.steps.0 in
     record {
-      room = simp length-set l.invariant.room;
-      low = omega arith;
-      size = c.in-Some.ensures.steps.0.0 ∙ l.invariant.size;
       all = omega (arith, l.invariant.all, c.in-Some.ensures.steps.2);
       same = rw c.in-Some.ensures.steps.2
-          (turn.on _ l.i-iterator.count l.waiting l.height _ _ l.invariant.same c.settled-d.ensures.same _ _ more d.0 d.1 l.invariant.room);
+          (turn.on _ l.i-iterator.count l.waiting.items c.take_parent.new.waiting.items _ l.invariant.same _ _ c.in-Some.ensures.steps.0 _ (rw c.in-Some-take_parent.is at c.take_parent.ensures)
+          _ _ (omega (arith, c.if-len-lt-DEEPEST.true, c.len.ensures.value))
+          c.push-in-Some-take_parent.ensures.items c.push-in-Some-take_parent-2.ensures.items);
     }
+
+pub returns-in_default : goal.returns-in_default
+returns-in_default c =
+    let l = c.loop-i in
+    rw (c.at.ensures, c.in-Some.ensures.steps.1)
+    (elim c.in_default.branch [
+      | in_default-via-in-Some-take_parent+else-len-lt-DEEPEST w ↦
+          turn.deep _ l.i-iterator.count l.waiting.items c.take_parent.new.waiting.items _ l.invariant.same _ _ c.in-Some.ensures.steps.0 _ (rw w.in-Some-take_parent.is at c.take_parent.ensures)
+          (omega (arith, w.if-len-lt-DEEPEST.false, w.len.ensures.value))
+      | in_default-via-in_default w ↦
+          turn.ended _ l.i-iterator.count l.waiting.items c.take_parent.new.waiting.items _ l.invariant.same _ _ c.in-Some.ensures.steps.0 (rw w.in_default.is at c.take_parent.ensures)
+    ])
 
 pub returns : goal.returns
 returns c =
     let l = c.loop-i in
-    let none = left-none node_length l.i-iterator.iter c.next.new.self.iter l.invariant.size c.in-None.ensures.steps.0 in
-    let n : l.i-iterator.count ≡ length c.args.nodes.now / node_length = omega (arith, l.invariant.all, ap length none) in
-    c.unless.ensures ∙ ap (unless (eqb c.settled-d-2.result 0) NoTree) (sym n)
-    ∙ turn.finished _ l.i-iterator.count l.waiting l.height _ _ l.invariant.same c.settled-d-2.ensures.same none
+    let n : l.i-iterator.count ≡ length c.args.nodes.now / node_length = omega (arith, l.invariant.all, ap length c.in-None.ensures.steps.0.0) in
+    c.unless.ensures ∙ ap (unless c.is_none-ended.result NoTree) (sym n)
+    ∙ turn.finished _ l.i-iterator.count l.waiting.items c.take_parent-2.new.waiting.items _ l.invariant.same c.take_parent-2.result _
+    c.is_none-ended.ensures c.in-None.ensures.steps.0.0 c.take_parent-2.ensures

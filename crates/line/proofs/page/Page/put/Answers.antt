@@ -1,13 +1,10 @@
--- A turn adds one byte of those that are left; at the end nothing is left.
-use Rattle.std.proofs.Common.{arith}
-use Rattle.line.proofs.Putting.{ahead-start, text-turn, text-end}
+-- It stores what fits of the text, or nothing past the buffer's end.
+use Rattle.std.proofs.Common.{refl, arith}
+use Rattle.line.proofs.Putting.{puts-fitting, puts-nothing}
 use Rattle.line.proofs.page.Page.put.Goals as goal
 
-pub loop-byte-init : goal.loop-byte-init
-loop-byte-init c = ahead-start _ _
+pub returns-then-self : goal.returns-then-self
+returns-then-self c = record { puts = puts-fitting _ _ _ _ _ _ (omega arith) (omega arith) c.min-count.ensures c.copy_from_slice.ensures.after; same = refl }
 
-pub loop-byte-preserved : goal.loop-byte-preserved
-loop-byte-preserved c = text-turn c.args.text.now c.loop-byte.byte-index c.loop-byte.invariant c.put_byte.ensures (omega arith)
-
-pub returns : goal.returns
-returns c = text-end c.args.text.now c.loop-byte.byte-index c.loop-byte.invariant (omega arith)
+pub returns-else-self : goal.returns-else-self
+returns-else-self c = record { puts = puts-nothing _ _ _ (omega arith); same = refl }

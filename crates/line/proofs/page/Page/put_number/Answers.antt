@@ -9,4 +9,4 @@ pub returns : goal.returns
 unfolding number
 returns c =
     let e : c.as_bytes.result.now ≡ decimal c.args.n = c.as_bytes.ensures.value ∙ c.format.ensures.text ∙ plain-decimal c.args.n (omega (arith, c.ranges.n)) in
-    (rw e at c.put.ensures) onto c.put_byte.ensures
+    (rw e at c.put.ensures) onto c.put-2.ensures

@@ -2,7 +2,7 @@
 use Rattle.std.proofs.Common.{[], ◌∷◌}
 use Rattle.words.specs.Words.{zeros}
 use Rattle.refusal.specs.Refusals.{refusal_number}
-use Rattle.replies.specs.Replies.{low, failure_words, broken_words, refusal_words}
+use Rattle.replies.specs.Replies.{low, failure_width, failure_words, broken_words, refusal_words}
 use Rattle.replies.proofs.Parts.{given_then}
 use Rattle.replies.proofs.answers.RefusalReply.reply.Goals as goal
 
@@ -12,14 +12,14 @@ returns-in-Some g c =
     let r = c.args.self.now in
     rw (← c.failure.ensures, c.in-Some.is)
     (given_then _ _ _ _ (refusal_number r ∷ low r.place ∷ []) (failure_words c.in-Some.failure)
-    (rw (c.number.ensures, c.low.ensures) at c.in_ok-give.ensures)
-    c.reply.ensures)
+    c.in_ok-reply.ensures
+    c.reply-in-Some.ensures)
 
 pub returns-in-None : goal.returns-in-None
 unfolding refusal_words broken_words
 returns-in-None g c =
     let r = c.args.self.now in
     rw (← c.failure.ensures, c.in-None.is)
-    (given_then _ _ _ _ (refusal_number r ∷ low r.place ∷ []) (zeros 7)
-    (rw (c.number.ensures, c.low.ensures) at c.in_ok-give.ensures)
+    (given_then _ _ _ _ (refusal_number r ∷ low r.place ∷ []) (zeros failure_width)
+    c.in_ok-reply.ensures
     c.give_zeros.ensures)

@@ -1,9 +1,0 @@
--- What falls is the number of nodes left; children at a place come before the subtree that stands there.
-use Rattle.std.proofs.Common.{◌+◌}
-use Rattle.tree.proofs.Asked.+children_subtree.Given as goal
-
-abbrev pub decreases-children : goal.decreases-children
-decreases-children l = l.at.left + l.at.left + 1
-
-abbrev pub decreases-subtree : goal.decreases-subtree
-decreases-subtree l = l.at.left + l.at.left

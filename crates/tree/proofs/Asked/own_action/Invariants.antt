@@ -1,9 +1,0 @@
--- What is given is the action of the atoms that the iterator has given.
-use Rattle.nodes.specs.Nodes.{cells_at}
-use Rattle.row.specs.Row.{rows_in}
-use Rattle.row.specs.Left.{rows_left}
-use Rattle.tree.proofs.Own.{Behind}
-use Rattle.tree.proofs.Asked.own_action.Given as goal
-
-abbrev pub invariant-loop-atom : goal.invariant-loop-atom
-invariant-loop-atom l = Behind (cells_at l.self.file.now l.inner) l.self.packet (rows_in l.atoms) (rows_left l.atom-iterator.iter) l.given

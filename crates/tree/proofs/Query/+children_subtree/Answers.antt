@@ -1,0 +1,29 @@
+-- A node and its children are a tree, a tree and the others are children; each call has fewer nodes left.
+use Rattle.std.proofs.Common.{ap, arith}
+use Rattle.nodes.specs.declared.Spot.{Spot}
+use Rattle.nodes.proofs.Places.{atoms-within, next-reached}
+use Rattle.nodes.proofs.Walk.{none-taken, some-taken}
+use Rattle.tree.proofs.Steps.{children-none, children-gave, tree-gave}
+use Rattle.tree.proofs.Query.+children_subtree.Goals as goal
+
+pub children-returns-then-count-at : goal.children-returns-then-count-at
+children-returns-then-count-at t c = children-none _ (none-taken _ c.requires c.if-count-at.true)
+
+pub children-returns : goal.children-returns
+children-returns t c =
+    let some = some-taken c.args.count c.args.at.nodes_left c.if-count-at.false in
+    children-gave _ _ c.requires some.1 some.0 c.subtree-first.ensures c.children-rest.ensures c.join_at.ensures
+
+pub subtree-behind_own-requires-clause-within : goal.subtree-behind_own-requires-clause-within
+subtree-behind_own-requires-clause-within t c = omega (arith, atoms-within _ _ c.requires.0 c.requires.1 _ c.node_at-node.ensures)
+
+pub subtree-children-below-requires : goal.subtree-children-below-requires
+subtree-children-below-requires t c = (
+  omega (arith, ap (λ (x : Spot). x.nodes_left) c.behind_own.ensures),
+  rw c.behind_own.ensures (next-reached _ _ c.requires.0 c.requires.1 _ c.node_at-node.ensures),
+)
+
+pub subtree-returns : goal.subtree-returns
+subtree-returns t c =
+    tree-gave c.requires.0 c.requires.1 c.node_at-node.ensures c.atoms_at-atoms.ensures c.own_action-own.ensures
+    (rw c.behind_own.ensures at c.children-below.ensures) c.join_at.ensures

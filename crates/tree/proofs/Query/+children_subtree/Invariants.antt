@@ -1,0 +1,9 @@
+-- What falls is the number of nodes left; children at a place come before the subtree that stands there.
+use Rattle.std.proofs.Common.{◌+◌}
+use Rattle.tree.proofs.Query.+children_subtree.Given as goal
+
+abbrev pub decreases-children : goal.decreases-children
+decreases-children l = l.at.nodes_left + l.at.nodes_left + 1
+
+abbrev pub decreases-subtree : goal.decreases-subtree
+decreases-subtree l = l.at.nodes_left + l.at.nodes_left
