@@ -72,7 +72,7 @@ all-cases = (
       ),
     ),
   ),
-  (refl, (refl, (refl, (refl, (refl, (refl, (refl, (refl, (refl, (refl, (refl, tt))))))))))),
+  (refl, (refl, (refl, (refl, (refl, (refl, (refl, (refl, (refl, (refl, (refl, (refl, (refl, (refl, tt)))))))))))))),
 )
 
 pub worked-cases : WorkedCases

@@ -20,7 +20,7 @@ use Rattle.action.specs.declared.Action.TheVariants.{DontCare}
 use Rattle.row.specs.Row.{row_length, right_row, words_of}
 use Rattle.action.specs.Laws.{Searched, law_search}
 use Rattle.refusal.specs.Refusals.{law_broken, reason_number, failure_of, refusal_at, refusal_number}
-use Rattle.refusal.specs.declared.Reason.TheVariants.{NoRoom, NoScratch, WrongRate, WrongTable, WrongRow}
+use Rattle.refusal.specs.declared.Reason.TheVariants.{NoRoom, NoScratch, WrongRate}
 use Rattle.refusal.specs.declared.Refusal.{Refusal}
 use Rattle.policy.specs.Read.{read_of}
 use Rattle.policy.specs.declared.Layout.{Layout}
@@ -37,7 +37,7 @@ use Rattle.words.specs.Words.{zeros}
 use Rattle.hidden.specs.Hidden.{kept_of}
 use Rattle.hidden.proofs.Laws as hidden
 use Rattle.compile.specs.Compile.{room, compiled_rows, fine, answer_of, table_after, scratch_after}
-use Rattle.promises.specs.Told.{search_told, read_told, action_told, compile_told, check_told, between, Fixed}
+use Rattle.promises.specs.Told.{search_told, read_told, action_told, compile_told, between, Fixed}
 use Rattle.promises.proofs.Reasons.{due-lawless, plain-told}
 use Rattle.promises.specs.Demands.{EveryInput, Order, WordsLeft, Demand1}
 

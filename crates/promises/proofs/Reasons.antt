@@ -4,14 +4,13 @@ use native.Mathlib.Omega.{arith}
 use mathlib.Core.Path.{◌≡◌, refl, sym, ap, ap₂, ◌∙◌}
 use mathlib.Core.List.{List, [], ◌∷◌}
 use lib.ListN.{get_or}
-use Rattle.std.specs.Prelude.{Option, Some, None}
+use Rattle.std.specs.Prelude.{None}
 use Rattle.refusal.specs.Refusals.{law_broken, reason_number, failure_of, refusal_at, refusal_number}
-use Rattle.action.specs.declared.LawFailure.{LawFailure}
 use Rattle.refusal.specs.declared.Reason.{Reason}
 use Rattle.refusal.specs.declared.Reason.TheVariants.{ShortFile, WrongCount, WrongCell, WrongMatch, WrongAction, WrongNode, ExtraWords, NoTree, WrongSum, LawBroken}
 use Rattle.refusal.specs.declared.Reason.TheVariants.{WrongPacket, NoRoom, NoScratch, WrongRate, WrongTable, WrongRow, ShortBuffer, WrongInput}
 use Rattle.refusal.specs.declared.Refusal.{Refusal}
-use Rattle.section.specs.Due.{RecordDue, cell, match, action, node, SectionDue, no-count, beyond, cut, wrong-record, HeaderDue}
+use Rattle.section.specs.Due.{RecordDue, cell, match, action, node, SectionDue, no-count, beyond, cut, wrong-record}
 use Rattle.section.specs.declared.Edition.{Edition}
 use Rattle.section.specs.declared.Edition.TheVariants.{First}
 use Rattle.section.specs.declared.Section.{Section}

@@ -125,6 +125,16 @@ pings =
     (2 ∷ sibling) ++ parent ++ (3 ∷ ported 0 0 0 4 2) ++ ported 1 0 0 2 1 ++ ported 1 0 0 6 2
     ++ (2 ∷ 0 ∷ 1 ∷ 0 ∷ 1 ∷ 1 ∷ 0 ∷ 1 ∷ 0 ∷ 2 ∷ 0 ∷ [])
 
+-- two siblings that deny and allow all: the sibling operator denies, the parent operator would allow
+abbrev pub twins : List ℕ
+twins =
+    (2 ∷ sibling) ++ parent ++ (2 ∷ ported 0 0 0 0 2) ++ ported 0 0 0 0 1
+    ++ (3 ∷ 0 ∷ 1 ∷ 0 ∷ 0 ∷ 2 ∷ 0 ∷ 1 ∷ 0 ∷ 1 ∷ 0 ∷ 0 ∷ 1 ∷ 0 ∷ 1 ∷ 0 ∷ [])
+
+-- every field of a match constrained, each by another value
+abbrev pub every_column : List ℕ
+every_column = node 1 (7 ∷ 167772160 ∷ 168231689 ∷ 6 ∷ 1 ∷ 2 ∷ 8 ∷ 32 ∷ 15 ∷ 0 ∷ 0 ∷ [])
+
 abbrev pub port_cases : List Case
 port_cases =
     k 1 (tree_action_of studio ping) (Ok DontCare)
@@ -143,6 +153,10 @@ port_cases =
     ∷ "1 * 0.0.0.0/0 0.0.0.0/0 1 * * allow\n"
     ∷ []))
     ∷ k 5 (check_of (ported 0 0 5 8 2 ++ ported 1 0 5 10 2)) (Err (refusal_at WrongRow 1))
+    ∷ k 6 (tree_action_of twins ping) (Ok Deny)
+    ∷ k 6 (scan_of (rows_left twins) ping) (Ok (record { action = Deny; tried = 1 }))
+    ∷ k 7 (listing_of (flat bytes_of every_column))
+    (flat ascii ("rows 1 priorities 1\n" ∷ "1 7 10.0.0.0/8 10.7.3.9/32 6 1 2 none\n" ∷ []))
     ∷ []
 
 -- EVERY SENTENCE

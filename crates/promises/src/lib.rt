@@ -1,2 +1,89 @@
-//! No code: the demands, the worked cases, and for each public function that no second answer fits.
+//! No code: the demands, the worked cases, and for each public function that no second answer fits. Each function here
+//! does nothing: its contract is a statement, so that the check fails where the statement is gone or has no proof.
 #![tactic(auto)]
+
+ghost use Rattle.promises.specs.Demands.{Demand1, Demand2, Demand3, SwitchObeysTree};
+ghost use Rattle.promises.specs.Hidden.{HiddenRows};
+ghost use Rattle.promises.specs.Ports.{PortsOnly};
+ghost use Rattle.promises.specs.Prints.{EveryListing};
+ghost use Rattle.promises.specs.Cases.{WorkedCases};
+ghost use Rattle.promises.specs.Held.{Numbers, Premises, RestsOn};
+ghost use Rattle.promises.specs.Files.{FileCases};
+ghost use Rattle.promises.specs.Fields.{FieldCases};
+ghost use Rattle.promises.specs.Trees.{TreeCases};
+ghost use Rattle.promises.specs.Listings.{ListingCases};
+
+/// Every input gets one fixed answer or one numbered refusal.
+pub fn demand_1()
+    ensures { Demand1 }
+{}
+
+/// The compiled table does what the tree says.
+pub fn demand_2()
+    ensures { Demand2 }
+{}
+
+/// The numbering is right, and none is smaller.
+pub fn demand_3()
+    ensures { Demand3 }
+{}
+
+/// A switch does what the tree says.
+pub fn switch_obeys_tree()
+    ensures { SwitchObeysTree }
+{}
+
+/// The worked cases.
+pub fn worked_cases()
+    ensures { WorkedCases }
+{}
+
+/// Hidden rows out.
+pub fn hidden_rows()
+    ensures { HiddenRows }
+{}
+
+/// Ports only where there are ports.
+pub fn ports_only()
+    ensures { PortsOnly }
+{}
+
+/// Every input has its listing.
+pub fn every_listing()
+    ensures { EveryListing }
+{}
+
+/// What these rest on, and what the words of packets, matches and files read back as.
+pub fn rests_on()
+    ensures { RestsOn }
+{}
+
+/// What premises ask, and no more.
+pub fn premises()
+    ensures { Premises }
+{}
+
+/// The numbers and words of the format.
+pub fn numbers()
+    ensures { Numbers }
+{}
+
+/// What reading answers of files.
+pub fn file_cases()
+    ensures { FileCases }
+{}
+
+/// What is answered for each field of a packet, a match and an action.
+pub fn field_cases()
+    ensures { FieldCases }
+{}
+
+/// What is answered of trees, of tables and of buffers.
+pub fn tree_cases()
+    ensures { TreeCases }
+{}
+
+/// What is listed.
+pub fn listing_cases()
+    ensures { ListingCases }
+{}

@@ -1,0 +1,5 @@
+use Rattle.promises.proofs.Demand3.{switch-obeys-tree}
+use Rattle.promises.proofs.switch_obeys_tree.Goals as goal
+
+pub returns : goal.returns
+returns c = switch-obeys-tree
