@@ -29,7 +29,7 @@ use table::Found;
 use text::LONGEST_LISTING;
 use wire::{give, give_bytes, low};
 
-// The laws' numbers in a reply.
+// The laws' numbers in a reply, whose words have them: they stand here alone.
 const COMMUTATIVITY: u32 = 1;
 
 const ASSOCIATIVITY: u32 = 2;

@@ -1,4 +1,5 @@
 //! The library's functions under C names, for the benchmark, which links them into a Rust program.
+//! A refusal is a number, or 0 where the answer is a count: C has no `Result`. Each export stays: its name is C's.
 #![tactic(auto)]
 
 ghost use Rattle.std.specs.Prelude.{◌≡◌, length};
