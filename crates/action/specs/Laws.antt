@@ -3,6 +3,7 @@
 --   Commutative o, Associative o   the laws, over all actions in range
 --   same a b                       equal actions
 --   Searched                       what a search finds: nothing, or a failure
+--   actions_of f                   the actions that show a failure, three for either law
 --   told kept f                    nothing where a law is kept, else its failure
 --   commutes o (a, b)              nothing, or the failure that a pair shows; associates o (a, (b, c)) for a triple
 --   shown, pairs, triples          the showing actions, and what the search tries, in order
@@ -19,7 +20,7 @@ use mathlib.Core.List.{List, [], ◌∷◌, ◌++◌, map, Memᴰ}
 use Rattle.action.specs.Action.{kind_of, rate_of, in_range}
 use Rattle.action.specs.Operator.{join}
 use Rattle.action.specs.declared.Action.{Action}
-use Rattle.action.specs.declared.Action.TheVariants.{Allow, Deny, Gmb}
+use Rattle.action.specs.declared.Action.TheVariants.{DontCare, Allow, Deny, Gmb}
 use Rattle.action.specs.declared.LawFailure.{LawFailure}
 use Rattle.action.specs.declared.LawFailure.TheVariants.{Commutativity, Associativity}
 
@@ -40,6 +41,11 @@ same a b = eqb (kind_of a) (kind_of b) && eqb (rate_of a) (rate_of b)
 -- what a search finds: nothing, or a failure
 abbrev pub Searched : Type 0
 Searched = Result (Unit {0}) LawFailure
+
+-- the actions that show a failure: don't care is the third where two show it
+abbrev pub actions_of : LawFailure → List Action
+actions_of (Commutativity a b) = a ∷ b ∷ DontCare ∷ []
+actions_of (Associativity a b c) = a ∷ b ∷ c ∷ []
 
 -- nothing where a law is kept, else its failure
 abbrev pub told : Bool → LawFailure → Searched

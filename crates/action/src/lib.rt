@@ -4,10 +4,11 @@
 #![tactic(auto)]
 
 ghost use Rattle.std.specs.Prelude.{◌≡◌, ◌≤◌, max, min};
-ghost use Rattle.action.specs.Action.{kind_of, rate_of, action_of, right_action};
-ghost use Rattle.action.specs.Operator.{kinds, cells_of, coded, join, sibling, parent};
+ghost use Rattle.action.specs.Action.{largest_rate, kind_of, rate_of, action_of, right_action};
+ghost use Rattle.action.specs.declared.Action.TheVariants.{DontCare};
+ghost use Rattle.action.specs.Operator.{kinds, cell_count, cells_of, coded, join, sibling, parent};
 ghost use Rattle.action.specs.Operator.{rate_cells, largest_in, right_cell};
-ghost use Rattle.action.specs.Laws.{first_pair, with_second, first_triple, with_pair, with_third, law_search};
+ghost use Rattle.action.specs.Laws.{first_pair, with_second, first_triple, with_pair, with_third, law_search, actions_of};
 
 use std::array;
 use words::word;
@@ -76,6 +77,9 @@ pub enum Action {
 }
 
 impl Action {
+    /// The action of a packet that no row or atom says anything of.
+    pub const DONT_CARE: Action = Action::DontCare;
+
     /// The number of its kind.
     pub fn kind(self) -> u32
         ensures { (result ≡ kind_of self) × (result ≤ kinds) }
@@ -144,6 +148,18 @@ pub enum LawFailure {
     Associativity(Action, Action, Action),
 }
 
+impl LawFailure {
+    /// The actions that show it, three for either law: don't care is the third where two show it.
+    pub fn actions(self) -> [Action; 3]
+        ensures { result ≡ actions_of self }
+    {
+        match self {
+            LawFailure::Commutativity(first, second) => [first, second, Action::DONT_CARE],
+            LawFailure::Associativity(first, second, third) => [first, second, third],
+        }
+    }
+}
+
 impl Operator {
     /// The two operators that are supplied by name.
     pub const SIBLING: Operator = Operator {
@@ -173,19 +189,6 @@ impl Operator {
             GIVES_LARGER,
         ],
     };
-
-    /// The cells of the two constants, which carry no contract of their own, stand in this and the next.
-    pub fn sibling() -> Operator
-        ensures { result.cells ≡ sibling }
-    {
-        Operator::SIBLING
-    }
-
-    pub fn parent() -> Operator
-        ensures { result.cells ≡ parent }
-    {
-        Operator::PARENT
-    }
 
     /// The operator whose cells the first words are. Words that are missing count as 0.
     pub fn from_words(words: &[u32]) -> Operator
@@ -267,6 +270,15 @@ impl Operator {
         })
     }
 }
+
+/// The public constants are what the definitions say, since a constant has no contract of its own.
+pub fn constants()
+    ensures { (Action.DONT_CARE ≡ DontCare)
+        × (Operator.SIBLING.cells ≡ sibling)
+        × (Operator.PARENT.cells ≡ parent)
+        × (LARGEST_RATE ≡ largest_rate)
+        × (CELLS ≡ cell_count) }
+{}
 
 /// Whether a cell may have a code.
 #[tactic(auto, unfolding(crate::specs::Operator::right_cell))]

@@ -56,11 +56,12 @@ impl Place {
 }
 
 impl Priority {
-    // Stores the priority over a row's level; nothing else does.
-    fn put(self, word: &mut u32)
-        ensures { word.new ≡ self.0 }
+    // Stores the priority of the row at a place, over its level; nothing else does.
+    fn put(self, priorities: &mut [u32], at: Place)
+        requires { at.0 < length priorities.old }
+        ensures { priorities.new ≡ set priorities.old at.0 self.0 }
     {
-        *word = self.0;
+        priorities[at.0] = self.0;
     }
 }
 
@@ -179,8 +180,9 @@ fn put_priorities(priorities: &mut [u32], count: u32)
     requires { (j : ℕ) → j < length priorities.old → get_or priorities.old j 0 ≤ count }
     ensures { priorities.new ≡ map (λ l. count - l) priorities.old }
 {
-    // The words before this one are priorities, and the others are still levels.
-    for word in priorities.iter_mut() {
-        Priority(count - *word).put(word);
+    // The words before this one are priorities, and the others are still levels. By place: it says whose the priority is.
+    for i in 0..priorities.len() {
+        let level = priorities[i];
+        Priority(count - level).put(priorities, Place(i));
     }
 }

@@ -1,7 +1,7 @@
 -- For each public function but those of the inner crates `common`, `rows` and `build`, and for those of the traits by which values are read, written and
 -- converted: its contract, as the checker reads it, asks nothing, and no second answer fits it. Where buffers are lent, their words are part of what is seen.
 use Prim.Native.Nat.{ℕ}
-use mathlib.Core.Path.{◌≡◌, sym, ap, ◌∙◌}
+use mathlib.Core.Path.{◌≡◌, refl, sym, ap, ◌∙◌}
 use mathlib.Core.List.{List, Mem, not-mem-nil}
 use denote.RattleType.{RattleType}
 use Rattle.logic.specs.Answers.{OneAnswer, answer_with, answer_and}
@@ -39,8 +39,8 @@ use Rattle.flow.proofs.matches.MatchWritten.write.Reads as write_match
 use Rattle.flow.proofs.packets.PacketWordsFromPacket.from.Reads as words_of_packet
 use Rattle.flow.proofs.matches.MatchWordsFromMatch.from.Reads as words_of_match
 use Rattle.action.specs.declared.Operator.{Operator}
-use Rattle.action.proofs.Operator.sibling.Reads as operator_sibling
-use Rattle.action.proofs.Operator.parent.Reads as operator_parent
+use Rattle.action.proofs.constants.Reads as action_constants
+use Rattle.action.proofs.LawFailure.actions.Reads as failure_actions
 use Rattle.action.proofs.Operator.join.Reads as operator_join
 use Rattle.action.proofs.Operator.law_search.Reads as operator_law_search
 use Rattle.action.proofs.Action.kind.Reads as kind
@@ -198,11 +198,11 @@ words_of_match-one = fixed (λ κ a r s p. p)
 by-cells : {o : Operator} {cells : List ℕ} → o.cells ≡ cells → o ≡ record { cells = cells }
 by-cells = ap (λ c. record { cells = c })
 
-operator_sibling-one : OneAnswer operator_sibling.Pre operator_sibling.Post (λ κ r s. r)
-operator_sibling-one = fixed (λ κ a r s p. by-cells p)
+action_constants-one : OneAnswer action_constants.Pre action_constants.Post (λ κ r s. r)
+action_constants-one = fixed (λ κ a r s p. refl)
 
-operator_parent-one : OneAnswer operator_parent.Pre operator_parent.Post (λ κ r s. r)
-operator_parent-one = fixed (λ κ a r s p. by-cells p)
+failure_actions-one : OneAnswer failure_actions.Pre failure_actions.Post (λ κ r s. r)
+failure_actions-one = fixed (λ κ a r s p. p)
 
 operator_join-one : OneAnswer operator_join.Pre operator_join.Post (λ κ r s. r)
 operator_join-one = fixed (λ κ a r s p. p)

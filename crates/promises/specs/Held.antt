@@ -10,9 +10,10 @@ use Rattle.field.specs.Theorems.{MeetExactly}
 use Rattle.flow.specs.Packet.{port_limit, protocol_limit, packet_length, packet_of, right_packet}
 use Rattle.flow.specs.declared.Packet.{Packet}
 use Rattle.action.specs.Action.{largest_rate, kind_of, action_of}
-use Rattle.action.specs.Laws.{shown}
+use Rattle.action.specs.Laws.{shown, actions_of}
 use Rattle.action.specs.declared.Action.{Action}
 use Rattle.action.specs.declared.LawFailure.{LawFailure}
+use Rattle.action.specs.declared.LawFailure.TheVariants.{Commutativity, Associativity}
 use Rattle.refusal.specs.Refusals.{reason_number, failure_of, refusal_at, answer_number, answer_place, answer_failure}
 use Rattle.refusal.specs.declared.Reason.{Reason}
 use Rattle.refusal.specs.declared.Refusal.{Refusal}
@@ -147,9 +148,11 @@ pub record Numbers : Type 0 where
   pub identity : (o : List ℕ) (n : ℕ)
       → (map (join o DontCare) (DontCare ∷ Allow ∷ Deny ∷ Gmb n ∷ []) ≡ DontCare ∷ Allow ∷ Deny ∷ Gmb n ∷ [])
       × (map (λ a. join o a DontCare) (Allow ∷ Deny ∷ Gmb n ∷ []) ≡ Allow ∷ Deny ∷ Gmb n ∷ [])
-  -- the two operators supplied by name, and the showing list
+  -- the two operators supplied by name, the actions that show a broken law, and the showing list
   pub supplied :
       (sibling ≡ 1 ∷ 2 ∷ 4 ∷ 2 ∷ 2 ∷ 2 ∷ 3 ∷ 2 ∷ 5 ∷ []) × (parent ≡ 1 ∷ 2 ∷ 4 ∷ 1 ∷ 2 ∷ 4 ∷ 3 ∷ 2 ∷ 5 ∷ [])
+  pub failures : (a b c : Action)
+      → (actions_of (Commutativity a b) ≡ a ∷ b ∷ DontCare ∷ []) × (actions_of (Associativity a b c) ≡ a ∷ b ∷ c ∷ [])
   pub showing : shown ≡ Allow ∷ Deny ∷ Gmb 1 ∷ Gmb 2 ∷ Gmb 3 ∷ []
   -- what a refusal tells, and a success
   pub told : (why : Reason) (at : ℕ)

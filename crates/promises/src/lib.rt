@@ -8,6 +8,7 @@ ghost use Rattle.promises.specs.Ports.{PortsOnly};
 ghost use Rattle.promises.specs.Prints.{EveryListing};
 ghost use Rattle.promises.specs.Cases.{WorkedCases};
 ghost use Rattle.promises.specs.Held.{Numbers, Premises, RestsOn};
+ghost use Rattle.promises.specs.Constants.{Constants};
 ghost use Rattle.promises.specs.Files.{FileCases};
 ghost use Rattle.promises.specs.Fields.{FieldCases};
 ghost use Rattle.promises.specs.Trees.{TreeCases};
@@ -66,6 +67,11 @@ pub fn premises()
 /// The numbers and words of the format.
 pub fn numbers()
     ensures { Numbers }
+{}
+
+/// The public constants.
+pub fn constants()
+    ensures { Constants }
 {}
 
 /// What reading answers of files.

@@ -1,5 +1,7 @@
 -- Words that are given in parts, one behind the other. Assumes nothing.
-use Rattle.std.proofs.Common.{◌≡◌, sym, List, ◌++◌, ℕ, ◌+◌}
+use Rattle.std.proofs.Common.{◌≡◌, sym, ap, ◌∙◌, append-nil, List, [], ◌∷◌, ◌++◌, ℕ, ◌+◌, ◌<◌, length, get_or, take}
+use native.Mathlib.Numerals.{add-one}
+use Rattle.std.proofs.Math.Seq.{take-suc}
 use Rattle.std.proofs.lemmas.List.{replicate-append-replicate}
 use Rattle.std.specs.declared.option.Option.{Option}
 use Rattle.std.specs.declared.result.Result.{Result}
@@ -24,3 +26,10 @@ given_then r a b c ws vs p q = rw (flat_append bytes_of ws vs) (written_then r a
 -- zeros behind zeros
 pub zeros_then : (m n : ℕ) → zeros (m + n) ≡ zeros m ++ zeros n
 zeros_then m n = sym (replicate-append-replicate m n 0)
+
+-- the words of a list with one more of its entries
+pub flat_more : {X : Type 0} (words : X → List ℕ) (l : List X) (i : ℕ) (d : X) → i < length l
+    → flat words (take (i + 1) l) ≡ flat words (take i l) ++ words (get_or l i d)
+flat_more words l i d h =
+    rw (add-one i)
+    (ap (flat words) (take-suc l i d h) ∙ flat_append words (take i l) (get_or l i d ∷ []) ∙ ap (λ r. flat words (take i l) ++ r) (append-nil (words (get_or l i d))))

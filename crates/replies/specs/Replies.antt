@@ -3,7 +3,7 @@
 --   action_width, failure_width, table_refusal_width, refusal_width, layout_width, found_width
 --                         how many words each value has
 --   refusal_words r       the nine words of a refusal of a file
---   law_words n a b c   the seven words of the law n and three actions
+--   law_number f          the number of a broken law
 --   failure_words f       the seven words of a broken law and the actions that show it
 --   broken_words          those of a broken law that a refusal may name, zeros where it names none
 --   table_refusal_words r, of_table x
@@ -20,8 +20,8 @@ use Rattle.words.specs.Words.{zeros}
 use Rattle.words.specs.Records.{flat}
 use Rattle.words.specs.Bytes.{bytes_of}
 use Rattle.action.specs.Action.{kind_of, rate_of}
+use Rattle.action.specs.Laws.{actions_of}
 use Rattle.action.specs.declared.Action.{Action}
-use Rattle.action.specs.declared.Action.TheVariants.{DontCare}
 use Rattle.action.specs.declared.LawFailure.{LawFailure}
 use Rattle.action.specs.declared.LawFailure.TheVariants.{Commutativity, Associativity}
 use Rattle.refusal.specs.Refusals.{refusal_number, failure_of}
@@ -69,14 +69,14 @@ found_width = action_width + 1
 abbrev pub action_words : Action → List ℕ
 action_words a = kind_of a ∷ rate_of a ∷ []
 
--- the seven words of a law, by its number, and three actions
-abbrev pub law_words : ℕ → Action → Action → Action → List ℕ
-law_words law a b c = ((law ∷ [] ++ action_words a) ++ action_words b) ++ action_words c
+-- a law's number
+abbrev pub law_number : LawFailure → ℕ
+law_number (Commutativity a b) = 1
+law_number (Associativity a b c) = 2
 
--- those of a broken law and the actions that show it: don't care is the third where two show it
+-- the seven words of a broken law and the actions that show it: don't care is the third where two show it
 unfoldable pub failure_words : LawFailure → List ℕ
-failure_words (Commutativity a b) = law_words 1 a b DontCare
-failure_words (Associativity a b c) = law_words 2 a b c
+failure_words f = law_number f ∷ flat action_words (actions_of f)
 
 -- those of the law that a refusal names, zeros where it names none
 unfoldable pub broken_words : Option LawFailure → List ℕ

@@ -12,7 +12,7 @@ ghost use Rattle.priority.specs.Numbering.{priorities_after, chain_after};
 ghost use Rattle.hidden.specs.Hidden.{table_kept};
 ghost use Rattle.text.specs.Listing.{listing_of};
 ghost use Rattle.replies.specs.Replies.{action_width, failure_width, table_refusal_width, refusal_width};
-ghost use Rattle.replies.specs.Replies.{layout_width, found_width, law_words, action_words, refusal_words};
+ghost use Rattle.replies.specs.Replies.{layout_width, found_width, law_number, action_words, refusal_words};
 ghost use Rattle.replies.specs.Replies.{failure_words, broken_words, table_refusal_words, of_table, layout_words};
 ghost use Rattle.replies.specs.Replies.{found_words, row_count_words, answer_words};
 ghost use Rattle.replies.specs.Replies.{compile_reply, number_reply, hidden_reply, text_reply};
@@ -92,14 +92,13 @@ impl Reply for LawFailure {
     ghost WIDTH = { failure_width };
 
     fn reply<W: Write>(&self, output: &mut W) -> io::Result<()> {
-        match *self {
-            LawFailure::Commutativity(first, second) => {
-                give_failure(output, COMMUTATIVITY, first, second, Action::DontCare)
-            }
-            LawFailure::Associativity(first, second, third) => {
-                give_failure(output, ASSOCIATIVITY, first, second, third)
-            }
+        let actions = self.actions();
+        give(output, &[law_number(*self)])?;
+        // The law and the actions so far are written.
+        for action in &actions {
+            action.reply(output)?;
         }
+        Ok(())
     }
 }
 
@@ -286,19 +285,12 @@ fn give_zeros<W: Write>(output: &mut W, count: usize) -> io::Result<()>
     Ok(())
 }
 
-// Writes a law by its number, and three actions.
-fn give_failure<W: Write>(
-    output: &mut W,
-    law: u32,
-    first: Action,
-    second: Action,
-    third: Action,
-) -> io::Result<()>
-    ensures { OnOk result (Appends (W.contents output.old) (W.contents output.new)
-        (flat bytes_of (law_words law first second third))) }
+// The number of a broken law.
+fn law_number(failure: LawFailure) -> u32
+    ensures { result ≡ law_number failure }
 {
-    give(output, &[law])?;
-    first.reply(output)?;
-    second.reply(output)?;
-    third.reply(output)
+    match failure {
+        LawFailure::Commutativity(..) => COMMUTATIVITY,
+        LawFailure::Associativity(..) => ASSOCIATIVITY,
+    }
 }

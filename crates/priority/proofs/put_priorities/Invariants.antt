@@ -2,7 +2,7 @@
 use Rattle.std.proofs.Common.{◌≡◌, ◌-◌, ◌++◌, map, length, take, drop}
 use Rattle.priority.proofs.put_priorities.Given as goal
 
-abbrev pub invariant-loop-word : goal.invariant-loop-word
-invariant-loop-word l =
+abbrev pub invariant-loop-i : goal.invariant-loop-i
+invariant-loop-i l =
     (length l.priorities ≡ length l.initial.priorities)
-    × (l.priorities ≡ map (λ x. l.count - x) (take l.word-index l.initial.priorities) ++ drop l.word-index l.initial.priorities)
+    × (l.priorities ≡ map (λ x. l.count - x) (take l.i l.initial.priorities) ++ drop l.i l.initial.priorities)

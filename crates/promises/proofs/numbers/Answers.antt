@@ -36,6 +36,7 @@ returns c = record {
   codes = refl;
   identity = λ o n. (refl, refl);
   supplied = (refl, refl);
+  failures = λ a b c. (refl, refl);
   showing = refl;
   told = λ why at. (refl, refl, refl);
   success = λ n. (refl, refl, refl);
