@@ -12,7 +12,6 @@ use Rattle.std.specs.Prelude.{Err}
 use Rattle.logic.proofs.Tests.{by_le, or_split}
 use Rattle.words.proofs.RecordLaws.{length-records}
 use Rattle.action.specs.Laws.{Shows}
-use Rattle.action.specs.declared.Action.{Action}
 use Rattle.action.specs.declared.LawFailure.{LawFailure}
 use Rattle.action.specs.declared.LawFailure.TheVariants.{Commutativity, Associativity}
 use Rattle.action.proofs.Exact.{shown-in-range}

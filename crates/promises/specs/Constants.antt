@@ -1,7 +1,7 @@
 -- The public constants, as literals: a constant has no contract of its own, so what each of them is stands here.
 --
 --   Constants   the actions, the operators and the match; lengths, limits and flags
-use Rattle.std.specs.Prelude.{ℕ, ◌≡◌, List, [], ◌∷◌}
+use Rattle.std.specs.Prelude.{◌≡◌, [], ◌∷◌}
 use Rattle.words.specs.declared.TheConstants.{WORD_BYTES}
 use Rattle.field.specs.declared.TheConstants.{ADDRESS_BITS}
 use Rattle.flow.specs.declared.TheConstants.{PACKET_WORDS, MATCH_WORDS, IN_PORT, PROTOCOL, SOURCE_PORT, DESTINATION_PORT}
