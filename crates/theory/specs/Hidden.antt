@@ -9,7 +9,7 @@
 --   Enclosing        asked of `inside`: a packet that meets the inner match meets the outer
 --   Nesting          asked of it too: what lies inside a match lies inside all that this one lies inside
 --   InsideSome       one of some rows whose match a match lies inside
-use Rattle.std.specs.Prelude.{ℕ, zero, suc, ◌<◌, ◌≡◌, Bool, true, false, cond, ◌||◌, List, [], ◌∷◌, ◌++◌, get_or, length, take}
+use Rattle.std.specs.Prelude.{ℕ, zero, suc, ◌<◌, ◌≡◌, Bool, true, cond, List, [], ◌∷◌, ◌++◌, get_or, length, take}
 use Rattle.std.specs.List.{list_any}
 use Rattle.theory.specs.declared.Row.{Row}
 

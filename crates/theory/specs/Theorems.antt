@@ -186,3 +186,35 @@ module _ (test : ℕ → Bool) where
   abbrev pub WhereRises : Type 0
   WhereRises = (n k : ℕ) → suc k < length (places_where test n)
       → get_or (places_where test n) k 0 < get_or (places_where test n) (suc k) 0
+
+-- All of these over any matches, packets, actions and operators, but for CompileEvery and HiddenEvery: they speak of every property, which a
+-- contract cannot.
+pub record Theorems (M P A O : Type 0) : Type 0 where
+  pub scan-join : (meets : M → P → Bool) (dont_care : A) (joined : O → A → A → A) (common : M → M → M) (empty : M → Bool)
+      → ScanJoin meets dont_care joined common empty
+  pub scan-compile : (meets : M → P → Bool) (dont_care : A) (joined : O → A → A → A) (common : M → M → M) (empty : M → Bool)
+      → ScanCompile meets dont_care joined common empty
+  pub node-chain : (meets : M → P → Bool) (dont_care : A) (joined : O → A → A → A) (common : M → M → M) (empty : M → Bool)
+      → NodeChain meets dont_care joined common empty
+  pub join-size : (common : M → M → M) (empty : M → Bool) (op : A → A → A) → JoinSize common empty op
+  pub list-plant : ListPlant O
+  pub plant-list : PlantList O
+  pub scan-place : (meets : M → P → Bool) (dont_care : A) → ScanPlace meets dont_care
+  pub scan-none : (meets : M → P → Bool) (dont_care : A) → ScanNone meets dont_care
+  pub priorities-right : (over : ℕ → ℕ → Bool) (n : ℕ) → PrioritiesRight over n
+  pub priorities-range : (over : ℕ → ℕ → Bool) (n : ℕ) → PrioritiesRange over n
+  pub priorities-count : (over : ℕ → ℕ → Bool) (n : ℕ) → PrioritiesCount over n
+  pub fewest-priorities : (over : ℕ → ℕ → Bool) (n : ℕ) → FewestPriorities over n
+  pub chain-holds : (over : ℕ → ℕ → Bool) (n : ℕ) → ChainHolds over n
+  pub switch-scan : (meets : M → P → Bool) (dont_care : A) (overlap : M → M → Bool) → SwitchScan meets dont_care overlap
+  pub switch-priorities : (meets : M → P → Bool) (dont_care : A) (overlap : M → M → Bool) → SwitchPriorities meets dont_care overlap
+  pub switch-first : (meets : M → P → Bool) (dont_care : A) (overlap : M → M → Bool) → SwitchFirst meets dont_care overlap
+  pub scan-hidden : (meets : M → P → Bool) (dont_care : A) (inside : M → M → Bool) → ScanHidden meets dont_care inside
+  pub hidden-exactly : (inside : M → M → Bool) → HiddenExactly A inside
+  pub one-exactly : (inside : M → M → Bool) → OneExactly A inside
+  pub none_hidden : (inside : M → M → Bool) → NoneHidden A inside
+  pub hidden-again : (inside : M → M → Bool) → HiddenAgain A inside
+  pub hidden-step : (inside : M → M → Bool) → HiddenStep A inside
+  pub hidden-less : (inside : M → M → Bool) → HiddenLess A inside
+  pub has-where : (test : ℕ → Bool) → HasWhere test
+  pub where-rises : (test : ℕ → Bool) → WhereRises test
