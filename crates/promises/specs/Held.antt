@@ -1,6 +1,7 @@
--- The statements of the crates below that no other proof cites: held here, so that none of them can go unseen; and the numbers and words of the format.
+-- The statements of the crates below that no other statement of this crate rests on: held here, so that none of them can go unseen; and the numbers and
+-- words of the format.
 --
---   RestsOn   each of them, those of theory at the matches, actions and operators of a policy file
+--   RestsOn   each of them; those of theory stand on the contract of `theory::theorems`
 --   Premises  what the premises of theorems ask
 --   Numbers   the numbers, limits and words of the format
 use Rattle.std.specs.Prelude.{ℕ, ◌*◌, ◌≤◌, ◌<◌, ◌≡◌, Bool, true, false, List, [], ◌∷◌, length, get_or, map, Result, Ok, Err, None}
@@ -33,33 +34,31 @@ use Rattle.line.specs.Text.{ascii, decimal, head, refusal, action_text, address}
 use Rattle.text.specs.Listing.{right_input, blank}
 use Rattle.flow.specs.Match.{meets, common, overlap, inside, is_empty, match_length, match_of, has_ports}
 use Rattle.flow.specs.Match.{in_port_flag, protocol_flag, source_port_flag, destination_port_flag, empty_flag}
-use Rattle.flow.specs.Theorems.{MetExactly, MatchWordsRead, MatchWrittenRead, PacketWordsRead, PacketReadWords, PacketWrittenRead}
+use Rattle.flow.specs.Theorems.{InsideTrans, MetExactly, MatchWordsRead, MatchWrittenRead, PacketWordsRead, PacketReadWords, PacketWrittenRead}
 use Rattle.action.specs.Operator.{cell_count, coded, join, sibling, parent}
 use Rattle.action.specs.declared.Action.TheVariants.{DontCare, Allow, Deny, Gmb}
-use Rattle.theory.specs.Theorems.{ScanJoin, NodeChain, JoinSize, SwitchPriorities, OneExactly}
 use Rattle.policy.specs.Theorems.{PartsAccepted, AcceptedParts, PartsWhole}
 use Rattle.line.specs.Theorems.{DecimalReads}
-use Rattle.text.specs.Theorems.{ExamplesListed}
+use Rattle.text.specs.Theorems.{NeverCut, WrittenWhole, KnownByFirst, ExamplesListed}
 
 pub record RestsOn : Type 0 where
   pub words-read : WordsRead
   pub bytes-read : BytesRead
   pub meet-exactly : MeetExactly
   pub met-exactly : MetExactly
+  pub inside-trans : InsideTrans
   pub match-words-read : MatchWordsRead
   pub match-written-read : MatchWrittenRead
   pub packet-words-read : PacketWordsRead
   pub packet-read-words : PacketReadWords
   pub packet-written-read : PacketWrittenRead
-  pub scan-join : ScanJoin meets DontCare join common is_empty
-  pub node-chain : NodeChain meets DontCare join common is_empty
-  pub join-size : (o : List ℕ) → JoinSize common is_empty (join o)
-  pub switch-priorities : SwitchPriorities meets DontCare overlap
-  pub one-exactly : OneExactly Action inside
   pub parts-accepted : PartsAccepted
   pub accepted-parts : AcceptedParts
   pub parts-whole : PartsWhole
   pub decimal-reads : DecimalReads
+  pub never-cut : NeverCut
+  pub written-whole : WrittenWhole
+  pub known-by-first : KnownByFirst
   pub examples-listed : ExamplesListed
 
 -- WHAT PREMISES ASK, and no more: where a theorem begins with one of these, so little is enough for it
