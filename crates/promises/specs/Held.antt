@@ -32,7 +32,7 @@ use Rattle.compile.specs.Compile.{room}
 use Rattle.sheet.specs.Sheet.{listing_room}
 use Rattle.line.specs.Text.{ascii, decimal, head, refusal, action_text, address}
 use Rattle.text.specs.Listing.{right_input, blank}
-use Rattle.flow.specs.Match.{meets, common, overlap, inside, is_empty, match_length, match_of, has_ports}
+use Rattle.flow.specs.Match.{meets, match_length, match_of, has_ports}
 use Rattle.flow.specs.Match.{in_port_flag, protocol_flag, source_port_flag, destination_port_flag, empty_flag}
 use Rattle.flow.specs.Theorems.{InsideTrans, MetExactly, MatchWordsRead, MatchWrittenRead, PacketWordsRead, PacketReadWords, PacketWrittenRead}
 use Rattle.action.specs.Operator.{cell_count, coded, join, sibling, parent}
