@@ -1,64 +1,109 @@
-//! Reads the bytes of a policy file from standard input, and writes its listing, or the refusal.
+//! Reads the bytes of a policy file from standard input, and writes its listing, or the refusal. A failed read or write
+//! is said on standard error, and by the exit status 2.
 #![tactic(auto)]
 
-ghost use Rattle.std.specs.Prelude.{◌≡◌, ◌≤◌, ◌⊎◌, length, take, IfSome, OnOk};
+ghost use Rattle.std.specs.Prelude.{◌≡◌, ◌≤◌, ◌↔◌, ◌⊎◌, length, take, IfSome, IsSome, IsNone, option_copied};
 ghost use Rattle.std.specs.Io.KnownBytes.{Appends, Consumes, IsAtEnd};
-ghost use Rattle.text.specs.Listing.{listing_of};
+ghost use Rattle.std.specs.Process.{exit_status};
+ghost use Rattle.listing.specs.Ends.{AppendsStart, Lists, status_of};
 
-use std::io;
-use std::io::{Read, Write};
+#[cfg(test)]
+mod tests;
+mod watched;
+
+use std::io::Error;
+use std::process::ExitCode;
 use text::{INPUT_ROOM, LONGEST_LISTING, list_whole};
+use watched::{Sink, Source, Watched};
 
-// What reads gave: how many bytes, of a failed read too, and how they ended.
-#[derive(Drop)]
-struct Got {
-    count: usize,
-    outcome: io::Result<()>,
+// The exit status where a read or a write failed.
+const NO_ANSWER: u8 = 2;
+
+fn main(rt: HostRuntime) -> ExitCode {
+    list_input(
+        &rt,
+        &mut Watched::new(rt.stdin()),
+        &mut Watched::new(rt.stdout()),
+    )
 }
 
-// A failed read or write is not told by the exit status.
-fn main(rt: HostRuntime) {
-    let _ = list_input(&mut rt.stdin(), &mut rt.stdout());
+// Lists an input, and answers the exit status.
+fn list_input<S: Source, T: Sink>(rt: &impl Eprint, input: &mut S, output: &mut T) -> ExitCode
+    requires can_read { IsNone (S.failure input.old) }
+    requires can_write { IsNone (T.failure output.old) }
+    ensures lists { Lists (S.failure input.new) (T.failure output.new)
+        (S.remaining input.old) (T.contents output.old) (T.contents output.new) }
+    ensures status { exit_status result ≡ status_of (S.failure input.new) (T.failure output.new) }
+{
+    write_listing(input, output);
+    tell(rt, input.failure(), output.failure())
 }
 
-// Writes the listing of an input, of any length. Where a read fails, what was read before it is listed.
-fn list_input<R: Read, W: Write>(input: &mut R, output: &mut W) -> io::Result<()>
-    ensures { OnOk result (IfSome (R.remaining input.old)
-        (λ all. Appends (W.contents output.old) (W.contents output.new) (listing_of all))) }
+// Writes the listing of an input, of any length: whole, unless a read or a write fails.
+fn write_listing<S: Source, T: Sink>(input: &mut S, output: &mut T)
+    requires can_read { IsNone (S.failure input.old) }
+    requires can_write { IsNone (T.failure output.old) }
+    ensures { Lists (S.failure input.new) (T.failure output.new)
+        (S.remaining input.old) (T.contents output.old) (T.contents output.new) }
 {
     // Arrays, since a heap would add the C library's memory to what is trusted.
     let mut bytes = [0u8; INPUT_ROOM];
     let mut out = [0u8; LONGEST_LISTING];
-    let got = read_full(input, &mut bytes);
-    let end = list_whole(&bytes, got.count, &mut out);
-    output.write_all(&out[..end])?;
-    got.outcome
+    if let Some(count) = read_full(input, &mut bytes) {
+        let end = list_whole(&bytes, count, &mut out);
+        write_full(output, &out[..end]);
+    }
 }
 
-// Reads until a buffer is full, the input ends or a read fails. What was read stands at the start of the buffer.
-fn read_full<R: Read>(input: &mut R, buf: &mut [u8]) -> Got
-    ensures within { result.count ≤ length buf.new }
-    ensures bytes { Consumes (R.remaining input.old) (R.remaining input.new)
-        (take result.count buf.new) }
-    ensures end { OnOk result.outcome
-        ((result.count ≡ length buf.new) ⊎ IsAtEnd (R.remaining input.new)) }
+// Reads until a buffer is full or the input ends. What was read stands at the start of the buffer. `None` where a read
+// failed.
+fn read_full<S: Source>(input: &mut S, buf: &mut [u8]) -> Option<usize>
+    requires { IsNone (S.failure input.old) }
+    ensures within { IfSome result (λ count. count ≤ length buf.new) }
+    ensures bytes { IfSome result (λ count.
+        Consumes (S.remaining input.old) (S.remaining input.new) (take count buf.new)) }
+    ensures end { IfSome result (λ count.
+        (count ≡ length buf.new) ⊎ IsAtEnd (S.remaining input.new)) }
+    ensures failed { IsNone result ↔ IsSome (S.failure input.new) }
 {
     let mut count = 0;
     // The first count bytes are read. A read gives as many bytes as it likes, so no iterator counts them.
     while count < buf.len() {
-        match input.read(&mut buf[count..]) {
-            Ok(0) => break,
-            Ok(n) => count += n,
-            Err(error) => {
-                return Got {
-                    count,
-                    outcome: Err(error),
-                };
-            }
+        match input.get(&mut buf[count..])? {
+            0 => break,
+            n => count += n,
         }
     }
-    Got {
-        count,
-        outcome: Ok(()),
+    Some(count)
+}
+
+// Writes bytes until all are written or a write fails.
+fn write_full<T: Sink>(output: &mut T, bytes: &[u8])
+    requires { IsNone (T.failure output.old) }
+    ensures whole { IsNone (T.failure output.new)
+        → Appends (T.contents output.old) (T.contents output.new) bytes.now }
+    ensures start { AppendsStart (T.contents output.old) (T.contents output.new) bytes.now }
+{
+    let mut count = 0;
+    // The first count bytes are written.
+    while count < bytes.len() {
+        match output.put(&bytes[count..]) {
+            Some(n) => count += n,
+            None => return,
+        }
     }
+}
+
+// Says what failed, and answers the exit status.
+fn tell(rt: &impl Eprint, read: Option<&Error>, write: Option<&Error>) -> ExitCode
+    ensures { exit_status result ≡ status_of (option_copied read.entry)
+        (option_copied write.entry) }
+{
+    // A failed write to standard error is told by the status alone.
+    let _ = match (read, write) {
+        (Some(error), _) => eprintln!(rt; "listing: cannot read standard input: {error}"),
+        (None, Some(error)) => eprintln!(rt; "listing: cannot write standard output: {error}"),
+        (None, None) => return ExitCode::SUCCESS,
+    };
+    NO_ANSWER.into()
 }

@@ -1,13 +1,14 @@
--- What was read stands at the start of the buffer.
-use Rattle.std.proofs.Common.{◌≡◌, ◌-◌, ◌≤◌, length, take}
+-- What was read stands at the start of the buffer, and no read has failed.
+use Rattle.std.proofs.Common.{◌≡◌, ◌-◌, ◌≤◌, length, take, IsNone}
 use Rattle.std.specs.Io.KnownBytes.{Consumes}
 use Rattle.listing.proofs.read_full.Given as goal
 
 abbrev pub invariant-loop-count : goal.invariant-loop-count
 invariant-loop-count g l = record {
+  well : IsNone (g.S.Source.failure l.input);
   within : l.count ≤ length l.buf;
   same_length : length l.buf ≡ length l.initial.buf;
-  read : Consumes (g.R.Read.remaining l.initial.input) (g.R.Read.remaining l.input) (take l.count l.buf);
+  read : Consumes (g.S.Source.remaining l.initial.input) (g.S.Source.remaining l.input) (take l.count l.buf);
 }
 
 abbrev pub decreases-loop-count : goal.decreases-loop-count

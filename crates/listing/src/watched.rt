@@ -1,0 +1,135 @@
+//! Where bytes come from and where they go. Each says itself whether a read or a write has failed, and keeps the error,
+//! so that a body over them that gives up cannot say it. A call that was interrupted has not failed: it is made again.
+
+ghost use Rattle.std.specs.Prelude.{◌≡◌, ◌≢◌, ◌≤◌, ◌<◌, ◌↔◌, ℕ, List, length, take, IfSome, IsSome, IsNone, option_copied};
+ghost use Rattle.std.specs.declared.option.Option.{Option};
+ghost use Rattle.std.specs.declared.io.Error.{Error};
+ghost use Rattle.std.specs.declared.io.ErrorKind.TheVariants.{Interrupted};
+ghost use Rattle.std.specs.IoError.{error_kind};
+ghost use Rattle.std.specs.Io.KnownBytes.{Keeps, Appends, Consumes, IsAtEnd};
+
+use std::io::{Error, ErrorKind, Read, Write};
+
+/// Where bytes come from.
+pub trait Source {
+    // The bytes that it has left, where they are known.
+    ghost remaining: { Self → Option (List ℕ) };
+
+    // The error by which a read failed.
+    ghost failure: { Self → Option Error };
+
+    /// Reads bytes to the start of a buffer, none only at the end. `None` where the read failed.
+    fn get(&mut self, buf: &mut [u8]) -> Option<usize>
+        requires { IsNone (failure self.old) }
+        ensures bound { IfSome result (λ n. n ≤ length buf.new) }
+        ensures bytes { IfSome result (λ n.
+            Consumes (remaining self.old) (remaining self.new) (take n buf.new)) }
+        ensures end { IfSome result (λ n.
+            n ≡ 0 → 0 < length buf.new → IsAtEnd (remaining self.new)) }
+        ensures lost { IsNone result → Keeps (remaining self.old) (remaining self.new) }
+        ensures failed { IsNone result ↔ IsSome (failure self.new) }
+        ensures retried { IfSome (failure self.new) (λ error. error_kind error ≢ Interrupted) };
+
+    /// The error by which a read failed.
+    fn failure(&self) -> Option<&Error>
+        ensures { option_copied result ≡ failure self.now };
+}
+
+/// Where bytes go.
+pub trait Sink {
+    // The bytes that it holds, where they are known.
+    ghost contents: { Self → Option (List ℕ) };
+
+    // The error by which a write failed.
+    ghost failure: { Self → Option Error };
+
+    /// Writes bytes from the start of some, one at least. `None` where the write failed.
+    fn put(&mut self, bytes: &[u8]) -> Option<usize>
+        requires some { 0 < length bytes.now }
+        requires well { IsNone (failure self.old) }
+        ensures bound { IfSome result (λ n. n ≤ length bytes.now) }
+        ensures more { IfSome result (λ n. 0 < n) }
+        ensures bytes { IfSome result (λ n.
+            Appends (contents self.old) (contents self.new) (take n bytes.now)) }
+        ensures lost { IsNone result → Keeps (contents self.old) (contents self.new) }
+        ensures failed { IsNone result ↔ IsSome (failure self.new) }
+        ensures retried { IfSome (failure self.new) (λ error. error_kind error ≢ Interrupted) };
+
+    /// The error by which a write failed.
+    fn failure(&self) -> Option<&Error>
+        ensures { option_copied result ≡ failure self.now };
+}
+
+/// A reader or a writer, and the error by which it failed. The contracts of std name no error, so one thing is read and
+/// not proved: that the error is one that it gave, or stands for a write of no bytes or for 2^64 interrupted calls.
+#[derive(Drop)]
+pub struct Watched<T> {
+    inner: T,
+    failure: Option<Error>,
+}
+
+impl<T> Watched<T> {
+    /// One that has not failed.
+    pub fn new(inner: T) -> Watched<T>
+        ensures { result ≡ record { inner = inner; failure = None } }
+    {
+        Watched {
+            inner,
+            failure: None,
+        }
+    }
+}
+
+impl<R: Read> Source for Watched<R> {
+    ghost remaining = { λ w. R.remaining w.inner };
+
+    ghost failure = { λ w. w.failure };
+
+    fn get(&mut self, buf: &mut [u8]) -> Option<usize> {
+        for _ in 0..u64::MAX {
+            match self.inner.read(buf) {
+                Ok(n) => return Some(n),
+                Err(error) if error.kind() == ErrorKind::Interrupted => {}
+                Err(error) => {
+                    self.failure = Some(error);
+                    return None;
+                }
+            }
+        }
+        self.failure = Some(ErrorKind::TimedOut.into());
+        None
+    }
+
+    fn failure(&self) -> Option<&Error> {
+        self.failure.as_ref()
+    }
+}
+
+impl<W: Write> Sink for Watched<W> {
+    ghost contents = { λ w. W.contents w.inner };
+
+    ghost failure = { λ w. w.failure };
+
+    fn put(&mut self, bytes: &[u8]) -> Option<usize> {
+        for _ in 0..u64::MAX {
+            match self.inner.write(bytes) {
+                Ok(0) => {
+                    self.failure = Some(ErrorKind::WriteZero.into());
+                    return None;
+                }
+                Ok(n) => return Some(n),
+                Err(error) if error.kind() == ErrorKind::Interrupted => {}
+                Err(error) => {
+                    self.failure = Some(error);
+                    return None;
+                }
+            }
+        }
+        self.failure = Some(ErrorKind::TimedOut.into());
+        None
+    }
+
+    fn failure(&self) -> Option<&Error> {
+        self.failure.as_ref()
+    }
+}
