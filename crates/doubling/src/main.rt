@@ -3,13 +3,19 @@
 //! the refusal of 13.
 #![tactic(auto)]
 
-ghost use Rattle.std.specs.Prelude.{◌≤◌};
-ghost use Rattle.doubling.specs.declared.TheConstants.{MANY};
+ghost use Rattle.std.specs.Prelude.{◌≡◌, ◌≤◌, Ok, Err, OnOk, codes};
+ghost use Rattle.std.specs.Io.KnownBytes.{Appends};
+ghost use Rattle.refusal.specs.Refusals.{refusal_at};
+ghost use Rattle.refusal.specs.declared.Reason.TheVariants.{NoRoom};
+ghost use Rattle.doubling.specs.declared.TheConstants.{FEW, MANY};
+ghost use Rattle.doubling.specs.Doubling.{answer_for, number_of};
 
 use compile::compile;
+use refusal::Refusal;
 use row::{MOST_ROWS, ROW_WORDS};
 use section::{ATOM_WORDS, FIRST_OPERATOR, NODE_WORDS, OPERATOR_WORDS};
 use std::io;
+use std::io::Write;
 use words::copy;
 
 // The words before the first atom: the operator count, an operator and the atom count.
@@ -22,21 +28,37 @@ const FEW: usize = 12;
 
 const MANY: usize = 13;
 
-// A failed write ends the output, and is not told by the exit status.
-fn main(rt: HostRuntime) {
-    let _ = show_both(&rt);
+fn main(rt: HostRuntime) -> io::Result<()> {
+    show(&mut rt.stdout())
 }
 
-fn show_both(rt: &impl Print) -> io::Result<()> {
-    show(rt, FEW)?;
-    print!(rt; " ")?;
-    show(rt, MANY)?;
-    println!(rt; "")
+// Writes both numbers, in a line.
+fn show<W: Write>(output: &mut W) -> io::Result<()>
+    ensures { OnOk result (Appends (W.contents output.old) (W.contents output.new)
+        (codes "4095 12\n")) }
+{
+    let few = number(FEW);
+    let many = number(MANY);
+    writeln!(output, "{few} {many}")
 }
 
-// Writes the answer for the file with so many atoms: the row count, or the refusal's number.
-fn show(rt: &impl Print, atoms: usize) -> io::Result<()>
+// The number that tells the answer for the file with so many atoms: the row count, or the refusal's number.
+fn number(atoms: usize) -> usize
     requires { atoms ≤ MANY }
+    ensures { result ≡ number_of (answer_for atoms) }
+{
+    match answer(atoms) {
+        Ok(rows) => rows,
+        Err(refusal) => refusal.reason.number() as usize,
+    }
+}
+
+// The answer for the file with so many atoms.
+fn answer(atoms: usize) -> Result<usize, Refusal>
+    requires { atoms ≤ MANY }
+    ensures answer { result ≡ answer_for atoms }
+    ensures few { atoms ≡ FEW → result ≡ Ok 4095 }
+    ensures many { atoms ≡ MANY → result ≡ Err (refusal_at NoRoom 0) }
 {
     // Arrays, since a heap would add the C library's memory to what is trusted.
     let mut file = [0u32; BEFORE + ATOM_WORDS * MANY + BEHIND];
@@ -46,8 +68,5 @@ fn show(rt: &impl Print, atoms: usize) -> io::Result<()>
     let count = atoms as u32;
     copy(&mut file, 0, &[1, 1, 1, 1, 1, 1, 1, 1, 1, 1, count]);
     copy(&mut file, behind, &[1, 0, 0, 0, count, 0]);
-    match compile(&file[..behind + BEHIND], &mut table, &mut scratch) {
-        Ok(rows) => print!(rt; "{rows}"),
-        Err(refusal) => print!(rt; "{}", refusal.reason.number()),
-    }
+    compile(&file[..behind + BEHIND], &mut table, &mut scratch)
 }

@@ -1,0 +1,110 @@
+-- The compile answers 4,095 rows for the file of 12 atoms, and the refusal 12 for that of 13. The files are read, and their trees found, by computation; their
+-- rows are counted by induction over the atoms.
+use Rattle.std.proofs.Common.{◌≡◌, refl, sym, ap, ◌∙◌, arith, subst, List, Ok, Err, ℕ, zero, suc, ◌*◌, ◌-◌, ◌^◌, ◌≤◌, length, replicate, false}
+use Rattle.std.proofs.lemmas.List.{length-replicate}
+use Rattle.logic.specs.Lists.{All}
+use Rattle.theory.specs.declared.Row.{Row}
+use Rattle.theory.specs.Tree.{node, bare, compile}
+use Rattle.theory.specs.Rows.{common_row}
+use Rattle.flow.specs.Match.{meets_ports, clash, unmet, is_empty, is_none, is_plain, right_match, common, both, overlap}
+use Rattle.flow.specs.declared.Match.{Match}
+use Rattle.field.specs.Prefix.{right_prefix, zero_beyond, prefixes_meet, in_prefix}
+use Rattle.field.specs.Value.{right_value, values_meet}
+use Rattle.action.specs.Action.{action_of, right_action, in_range}
+use Rattle.action.specs.Operator as operator
+use Rattle.action.specs.Laws.{commutes, associates, shown, pairs, triples, first_pair, first_triple, law_search}
+use Rattle.action.specs.declared.Action.{Action}
+use Rattle.row.specs.Row.{row_length, most_rows, row_of, row_action, right_row_match, right_row_action, InRange}
+use Rattle.words.specs.Words.{zeros}
+use Rattle.section.specs.Sections.{count_fault, cells_fault, atom_fault, node_fault, section_fault}
+use Rattle.whole.specs.Whole.{shape_fault, sum_fault, operator_fault, laws_fault}
+use Rattle.refusal.specs.Refusals.{refusal_at}
+use Rattle.refusal.specs.declared.Reason.TheVariants.{NoRoom}
+use Rattle.policy.specs.Read.{whole_stages, stages, read_as, read_of, layout}
+use Rattle.policy.specs.File.{PolicyNode, tree_of}
+use Rattle.compile.specs.Compile.{room, compiled_rows, answer_of}
+use Rattle.compile.proofs.Answered.{rows-answered, room-exactly}
+use Rattle.doubling.specs.Doubling.{file, largest, answer_for}
+use Rattle.doubling.proofs.Same.{compile_all}
+
+-- the row of an atom of zeros
+one : Row Match Action
+one = row_of (zeros row_length)
+
+-- the operator whose cells are all 1
+ones : List ℕ
+ones = replicate 9 1
+
+-- the one node of a file
+root : ℕ → PolicyNode
+root k = record { inner = ones; parent = ones; sibling = ones; atoms = replicate k one }
+
+one_joined : common_row common (operator.join ones) one one ≡ one
+unfolding one ones common both overlap is_empty unmet clash row_action action_of operator.join operator.coded prefixes_meet in_prefix values_meet
+one_joined = refl
+
+one_some : is_empty one.matching ≡ false
+unfolding one is_empty unmet clash
+one_some = refl
+
+one_in_range : InRange one
+unfolding one in_range row_action action_of
+one_in_range = refl
+
+read_few : read_of (file 12) ≡ Ok (layout 1 12 1)
+unfolding file right_prefix zero_beyond right_value is_none is_plain right_match meets_ports clash unmet is_empty action_of right_action in_range
+    operator.coded operator.join operator.right_cell commutes associates shown pairs triples first_pair first_triple law_search row_action
+    right_row_match right_row_action count_fault cells_fault atom_fault node_fault section_fault shape_fault sum_fault operator_fault laws_fault
+    whole_stages stages read_as
+read_few = refl
+
+read_many : read_of (file 13) ≡ Ok (layout 1 13 1)
+unfolding file right_prefix zero_beyond right_value is_none is_plain right_match meets_ports clash unmet is_empty action_of right_action in_range
+    operator.coded operator.join operator.right_cell commutes associates shown pairs triples first_pair first_triple law_search row_action
+    right_row_match right_row_action count_fault cells_fault atom_fault node_fault section_fault shape_fault sum_fault operator_fault laws_fault
+    whole_stages stages read_as
+read_many = refl
+
+tree_few : tree_of (file 12) (layout 1 12 1) ≡ node (root 12) bare
+unfolding file root one ones row_action
+tree_few = refl
+
+tree_many : tree_of (file 13) (layout 1 13 1) ≡ node (root 13) bare
+unfolding file root one ones row_action
+tree_many = refl
+
+rows : (k : ℕ) → tree_of (file k) (layout 1 k 1) ≡ node (root k) bare → compiled_rows (file k) (layout 1 k 1) ≡ replicate (2 ^ k - 1) one
+unfolding compiled_rows root
+rows k e = ap (compile common is_empty operator.join) e ∙ compile_all common is_empty operator.join one ones one_joined one_some (root k) k refl refl
+
+all_one : (n : ℕ) → All InRange (replicate n one)
+all_one zero = tt
+all_one (suc n) = (one_in_range, all_one n)
+
+count : (k : ℕ) → tree_of (file k) (layout 1 k 1) ≡ node (root k) bare → length (compiled_rows (file k) (layout 1 k 1)) ≡ 2 ^ k - 1
+count k e = ap length (rows k e) ∙ length-replicate (2 ^ k - 1) one
+
+-- any table of so many words, and a scratch as long
+module _ (t : List ℕ) (long : length t ≡ row_length * most_rows) where
+  room_is : room (length t) ≡ most_rows
+  room_is = ap room long
+
+  enough : row_length * room (length t) ≤ length t
+  enough = rw (long) (omega arith)
+
+  few_in : answer_of (file 12) t t ≡ Ok 4095
+  few_in =
+      let n : length (compiled_rows (file 12) (layout 1 12 1)) ≡ 4095 = count 12 tree_few in
+      (rows-answered (file 12) t t (layout 1 12 1) read_few enough (omega (arith, n, room_is)) (subst (All InRange) (sym (rows 12 tree_few)) (all_one 4095))).0
+      ∙ ap (λ i. Ok i) n
+
+  many_in : answer_of (file 13) t t ≡ Err (refusal_at NoRoom 0)
+  many_in =
+      let n : length (compiled_rows (file 13) (layout 1 13 1)) ≡ 8191 = count 13 tree_many in
+      (room-exactly (file 13) t t (layout 1 13 1) read_many enough).1 (omega (arith, n, room_is))
+
+pub few : answer_for 12 ≡ Ok 4095
+few = few_in largest (length-replicate {A = ℕ} (row_length * most_rows) 0)
+
+pub many : answer_for 13 ≡ Err (refusal_at NoRoom 0)
+many = many_in largest (length-replicate {A = ℕ} (row_length * most_rows) 0)
