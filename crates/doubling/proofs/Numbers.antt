@@ -1,7 +1,8 @@
--- The compile answers 4,095 rows for the file of 12 atoms, and the refusal 12 for that of 13. The files are read, and their trees found, by computation; their
--- rows are counted by induction over the atoms.
-use Rattle.std.proofs.Common.{◌≡◌, refl, sym, ap, ◌∙◌, arith, subst, List, Ok, Err, ℕ, zero, suc, ◌*◌, ◌-◌, ◌^◌, ◌≤◌, length, replicate, false}
+-- The compile answers 2 ^ k - 1 rows for the file of k atoms, where k is at most 12, and the refusal 12 for that of 13. The
+-- files are read, and their trees found, by computation; their rows are counted by induction over the atoms.
+use Rattle.std.proofs.Common.{◌≡◌, refl, sym, ap, ◌∙◌, arith, subst, List, Ok, Err, ℕ, zero, suc, ◌*◌, ◌-◌, ◌^◌, ◌≤◌, ◌<◌, length, replicate, false}
 use Rattle.std.proofs.lemmas.List.{length-replicate}
+use Rattle.std.proofs.Math.Pow.{pow_mono}
 use Rattle.logic.specs.Lists.{All}
 use Rattle.theory.specs.declared.Row.{Row}
 use Rattle.theory.specs.Tree.{node, bare, compile}
@@ -51,38 +52,43 @@ one_in_range : InRange one
 unfolding one in_range row_action action_of
 one_in_range = refl
 
-read_few : read_of (file 12) ≡ Ok (layout 1 12 1)
-unfolding file right_prefix zero_beyond right_value is_none is_plain right_match meets_ports clash unmet is_empty action_of right_action in_range
-    operator.coded operator.join operator.right_cell commutes associates shown pairs triples first_pair first_triple law_search row_action
-    right_row_match right_row_action count_fault cells_fault atom_fault node_fault section_fault shape_fault sum_fault operator_fault laws_fault
-    whole_stages stages read_as
-read_few = refl
+-- the file of k atoms is accepted, and is that one node
+abbrev Accepted : ℕ → Type 0
+Accepted k = (read_of (file k) ≡ Ok (layout 1 k 1)) × (tree_of (file k) (layout 1 k 1) ≡ node (root k) bare)
 
-read_many : read_of (file 13) ≡ Ok (layout 1 13 1)
-unfolding file right_prefix zero_beyond right_value is_none is_plain right_match meets_ports clash unmet is_empty action_of right_action in_range
-    operator.coded operator.join operator.right_cell commutes associates shown pairs triples first_pair first_triple law_search row_action
-    right_row_match right_row_action count_fault cells_fault atom_fault node_fault section_fault shape_fault sum_fault operator_fault laws_fault
-    whole_stages stages read_as
-read_many = refl
+-- a property of each number below n
+abbrev Each : (ℕ → Type 0) → ℕ → Type 0
+Each P zero = Unit {0}
+Each P (suc n) = P 0 × Each (λ i. P (suc i)) n
 
-tree_few : tree_of (file 12) (layout 1 12 1) ≡ node (root 12) bare
-unfolding file root one ones row_action
-tree_few = refl
+each : (P : ℕ → Type 0) (n : ℕ) → Each P n → (k : ℕ) → k < n → P k
+each P zero f k h = absurd (omega (arith, h))
+each P (suc n) f zero h = f.0
+each P (suc n) f (suc k) h = each (λ i. P (suc i)) n f.1 k (omega (arith, h))
 
-tree_many : tree_of (file 13) (layout 1 13 1) ≡ node (root 13) bare
-unfolding file root one ones row_action
-tree_many = refl
+accepted : Each Accepted 14
+unfolding file root one ones right_prefix zero_beyond right_value is_none is_plain right_match meets_ports clash unmet is_empty action_of
+    right_action in_range operator.coded operator.join operator.right_cell commutes associates shown pairs triples first_pair first_triple
+    law_search row_action right_row_match right_row_action count_fault cells_fault atom_fault node_fault section_fault shape_fault sum_fault
+    operator_fault laws_fault whole_stages stages read_as
+accepted = ((refl, refl), ((refl, refl), ((refl, refl), ((refl, refl), ((refl, refl), ((refl, refl), ((refl, refl), ((refl, refl), ((refl, refl), ((refl, refl), ((refl, refl), ((refl, refl), ((refl, refl), ((refl, refl), tt))))))))))))))
 
-rows : (k : ℕ) → tree_of (file k) (layout 1 k 1) ≡ node (root k) bare → compiled_rows (file k) (layout 1 k 1) ≡ replicate (2 ^ k - 1) one
-unfolding compiled_rows root
-rows k e = ap (compile common is_empty operator.join) e ∙ compile_all common is_empty operator.join one ones one_joined one_some (root k) k refl refl
+module _ (k : ℕ) (below : k < 14) where
+  reads : read_of (file k) ≡ Ok (layout 1 k 1)
+  reads = (each Accepted 14 accepted k below).0
+
+  rows : compiled_rows (file k) (layout 1 k 1) ≡ replicate (2 ^ k - 1) one
+  unfolding compiled_rows root
+  rows =
+      ap (compile common is_empty operator.join) (each Accepted 14 accepted k below).1
+      ∙ compile_all common is_empty operator.join one ones one_joined one_some (root k) k refl refl
+
+  count : length (compiled_rows (file k) (layout 1 k 1)) ≡ 2 ^ k - 1
+  count = ap length rows ∙ length-replicate (2 ^ k - 1) one
 
 all_one : (n : ℕ) → All InRange (replicate n one)
 all_one zero = tt
 all_one (suc n) = (one_in_range, all_one n)
-
-count : (k : ℕ) → tree_of (file k) (layout 1 k 1) ≡ node (root k) bare → length (compiled_rows (file k) (layout 1 k 1)) ≡ 2 ^ k - 1
-count k e = ap length (rows k e) ∙ length-replicate (2 ^ k - 1) one
 
 -- any table of so many words, and a scratch as long
 module _ (t : List ℕ) (long : length t ≡ row_length * most_rows) where
@@ -92,18 +98,23 @@ module _ (t : List ℕ) (long : length t ≡ row_length * most_rows) where
   enough : row_length * room (length t) ≤ length t
   enough = rw (long) (omega arith)
 
-  few_in : answer_of (file 12) t t ≡ Ok 4095
-  few_in =
-      let n : length (compiled_rows (file 12) (layout 1 12 1)) ≡ 4095 = count 12 tree_few in
-      (rows-answered (file 12) t t (layout 1 12 1) read_few enough (omega (arith, n, room_is)) (subst (All InRange) (sym (rows 12 tree_few)) (all_one 4095))).0
-      ∙ ap (λ i. Ok i) n
+  few_in : (k : ℕ) → k ≤ 12 → answer_of (file k) t t ≡ Ok (2 ^ k - 1)
+  few_in k h =
+      let b : k < 14 = omega (arith, h) in
+      let most : 2 ^ k ≤ 4096 = pow_mono h in
+      let fits : length (compiled_rows (file k) (layout 1 k 1)) ≤ room (length t) =
+      omega (arith, count k b, room_is, most) in
+      let rates : All InRange (compiled_rows (file k) (layout 1 k 1)) =
+      subst (All InRange) (sym (rows k b)) (all_one (2 ^ k - 1)) in
+      (rows-answered (file k) t t (layout 1 k 1) (reads k b) enough fits rates).0 ∙ ap (λ i. Ok i) (count k b)
 
   many_in : answer_of (file 13) t t ≡ Err (refusal_at NoRoom 0)
   many_in =
-      let n : length (compiled_rows (file 13) (layout 1 13 1)) ≡ 8191 = count 13 tree_many in
-      (room-exactly (file 13) t t (layout 1 13 1) read_many enough).1 (omega (arith, n, room_is))
+      let b : 13 < 14 = omega arith in
+      let n : length (compiled_rows (file 13) (layout 1 13 1)) ≡ 8191 = count 13 b in
+      (room-exactly (file 13) t t (layout 1 13 1) (reads 13 b) enough).1 (omega (arith, n, room_is))
 
-pub few : answer_for 12 ≡ Ok 4095
+pub few : (k : ℕ) → k ≤ 12 → answer_for k ≡ Ok (2 ^ k - 1)
 few = few_in largest (length-replicate {A = ℕ} (row_length * most_rows) 0)
 
 pub many : answer_for 13 ≡ Err (refusal_at NoRoom 0)

@@ -3,7 +3,7 @@
 //! the refusal of 13.
 #![tactic(auto)]
 
-ghost use Rattle.std.specs.Prelude.{◌≡◌, ◌≤◌, Ok, Err, OnOk, codes};
+ghost use Rattle.std.specs.Prelude.{◌≡◌, ◌≤◌, ◌-◌, ◌^◌, Ok, Err, OnOk, codes};
 ghost use Rattle.std.specs.Io.KnownBytes.{Appends};
 ghost use Rattle.refusal.specs.Refusals.{refusal_at};
 ghost use Rattle.refusal.specs.declared.Reason.TheVariants.{NoRoom};
@@ -57,8 +57,8 @@ fn number(atoms: usize) -> usize
 fn answer(atoms: usize) -> Result<usize, Refusal>
     requires { atoms ≤ MANY }
     ensures answer { result ≡ answer_for atoms }
-    ensures few { atoms ≡ FEW → result ≡ Ok 4095 }
-    ensures many { atoms ≡ MANY → result ≡ Err (refusal_at NoRoom 0) }
+    ensures rows { atoms ≤ FEW → result ≡ Ok (2 ^ atoms - 1) }
+    ensures no_room { atoms ≡ MANY → result ≡ Err (refusal_at NoRoom 0) }
 {
     // Arrays, since a heap would add the C library's memory to what is trusted.
     let mut file = [0u32; BEFORE + ATOM_WORDS * MANY + BEHIND];

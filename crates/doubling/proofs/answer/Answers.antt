@@ -1,4 +1,4 @@
--- The compile's answer for the file that the copies made, and what it is for 12 atoms and for 13.
+-- The compile's answer for the file that the copies made, and what it is up to 12 atoms and for 13.
 use Rattle.std.proofs.Common.{◌∙◌, ap, take, ◌+◌, ◌*◌}
 use Rattle.words.specs.Words.{copied}
 use Rattle.compile.specs.Compile.{answer_of}
@@ -13,8 +13,8 @@ returns-clause-answer c =
     let words = ap (take (11 + 11 * k + 6)) (c.copy-2.ensures ∙ ap (copied (11 + 11 * k) (behind k)) c.copy.ensures) in
     c.compile.ensures.answer ∙ ap (λ f. answer_of f largest largest) (words ∙ filled k c.requires)
 
-pub returns-clause-few : goal.returns-clause-few
-returns-clause-few c = λ e. returns-clause-answer c ∙ ap answer_for e ∙ few
+pub returns-clause-rows : goal.returns-clause-rows
+returns-clause-rows c = λ h. returns-clause-answer c ∙ few c.args.atoms h
 
-pub returns-clause-many : goal.returns-clause-many
-returns-clause-many c = λ e. returns-clause-answer c ∙ ap answer_for e ∙ many
+pub returns-clause-no_room : goal.returns-clause-no_room
+returns-clause-no_room c = λ e. returns-clause-answer c ∙ ap answer_for e ∙ many

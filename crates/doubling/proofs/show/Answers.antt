@@ -1,5 +1,5 @@
 -- Both numbers are known, and so is the text that shows them.
-use Rattle.std.proofs.Common.{◌≡◌, ◌∙◌, ap}
+use Rattle.std.proofs.Common.{arith, ◌≡◌, ◌∙◌, ap}
 use Rattle.std.specs.Fmt.{digits}
 use Rattle.doubling.specs.Doubling.{number_of}
 use Rattle.doubling.proofs.Numbers.{few, many}
@@ -8,6 +8,6 @@ use Rattle.doubling.proofs.show.Goals as goal
 pub returns : goal.returns
 unfolding digits
 returns g c =
-    let first : c.number-few.result ≡ 4095 = c.number-few.ensures ∙ ap number_of few in
+    let first : c.number-few.result ≡ 4095 = c.number-few.ensures ∙ ap number_of (few 12 (omega arith)) in
     let second : c.number-many.result ≡ 12 = c.number-many.ensures ∙ ap number_of many in
     rw (first, second) at c.writeln.ensures.bytes
