@@ -56,31 +56,31 @@ one_in_range = refl
 abbrev Accepted : ℕ → Type 0
 Accepted k = (read_of (file k) ≡ Ok (layout 1 k 1)) × (tree_of (file k) (layout 1 k 1) ≡ node (root k) bare)
 
--- a property of each number below n
-abbrev Each : (ℕ → Type 0) → ℕ → Type 0
-Each P zero = Unit {0}
-Each P (suc n) = P 0 × Each (λ i. P (suc i)) n
+-- each number below n has the property
+abbrev EachBelow : (ℕ → Type 0) → ℕ → Type 0
+EachBelow P zero = Unit {0}
+EachBelow P (suc n) = P 0 × EachBelow (λ i. P (suc i)) n
 
-each : (P : ℕ → Type 0) (n : ℕ) → Each P n → (k : ℕ) → k < n → P k
-each P zero f k h = absurd (omega (arith, h))
-each P (suc n) f zero h = f.0
-each P (suc n) f (suc k) h = each (λ i. P (suc i)) n f.1 k (omega (arith, h))
+each_of : (P : ℕ → Type 0) (n : ℕ) → EachBelow P n → (k : ℕ) → k < n → P k
+each_of P zero f k h = absurd (omega (arith, h))
+each_of P (suc n) f zero h = f.0
+each_of P (suc n) f (suc k) h = each_of (λ i. P (suc i)) n f.1 k (omega (arith, h))
 
-accepted : Each Accepted 14
+all_accepted : EachBelow Accepted 14
 unfolding file root one ones right_prefix zero_beyond right_value is_none is_plain right_match meets_ports clash unmet is_empty action_of
     right_action in_range operator.coded operator.join operator.right_cell commutes associates shown pairs triples first_pair first_triple
     law_search row_action right_row_match right_row_action count_fault cells_fault atom_fault node_fault section_fault shape_fault sum_fault
     operator_fault laws_fault whole_stages stages read_as
-accepted = ((refl, refl), ((refl, refl), ((refl, refl), ((refl, refl), ((refl, refl), ((refl, refl), ((refl, refl), ((refl, refl), ((refl, refl), ((refl, refl), ((refl, refl), ((refl, refl), ((refl, refl), ((refl, refl), tt))))))))))))))
+all_accepted = ((refl, refl), ((refl, refl), ((refl, refl), ((refl, refl), ((refl, refl), ((refl, refl), ((refl, refl), ((refl, refl), ((refl, refl), ((refl, refl), ((refl, refl), ((refl, refl), ((refl, refl), ((refl, refl), tt))))))))))))))
 
 module _ (k : ℕ) (below : k < 14) where
   reads : read_of (file k) ≡ Ok (layout 1 k 1)
-  reads = (each Accepted 14 accepted k below).0
+  reads = (each_of Accepted 14 all_accepted k below).0
 
   rows : compiled_rows (file k) (layout 1 k 1) ≡ replicate (2 ^ k - 1) one
   unfolding compiled_rows root
   rows =
-      ap (compile common is_empty operator.join) (each Accepted 14 accepted k below).1
+      ap (compile common is_empty operator.join) (each_of Accepted 14 all_accepted k below).1
       ∙ compile_all common is_empty operator.join one ones one_joined one_some (root k) k refl refl
 
   count : length (compiled_rows (file k) (layout 1 k 1)) ≡ 2 ^ k - 1

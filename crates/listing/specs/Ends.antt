@@ -2,6 +2,7 @@
 --
 --   AppendsStart a b text             a text was written from its start, as far as it came
 --   Lists read write input held now   what a sink holds now, by the input and by whether a read or a write has failed
+--   no_answer                         the exit status where a read or a write failed
 --   status_of read write              the exit status
 use Rattle.std.specs.Prelude.{ℕ, List, take, None, Some, IfSome, IsSome, IsNone}
 use Rattle.std.specs.declared.option.Option.{Option}
@@ -20,8 +21,12 @@ pub record Lists (read write : Option Error) (input held now : Option (List ℕ)
   pub start : IsNone read → IfSome input (λ all. AppendsStart held now (listing_of all))
   pub nothing : IsSome read → Keeps held now
 
--- 0, and 2 where a read or a write failed
+-- the exit status where a read or a write failed; the script `list` has the same
+abbrev pub no_answer : ℕ
+no_answer = 2
+
+-- the exit status, by the errors by which a read and a write failed
 abbrev pub status_of : Option Error → Option Error → ℕ
 status_of None None = 0
-status_of None (Some error) = 2
-status_of (Some error) write = 2
+status_of None (Some error) = no_answer
+status_of (Some error) write = no_answer

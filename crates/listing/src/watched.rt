@@ -1,7 +1,8 @@
 //! Where bytes come from and where they go. Each says itself whether a read or a write has failed, and keeps the error,
 //! so that a body over them that gives up cannot say it. A call that was interrupted has not failed: it is made again.
 
-ghost use Rattle.std.specs.Prelude.{◌≡◌, ◌≢◌, ◌≤◌, ◌<◌, ◌↔◌, ℕ, List, length, take, IfSome, IsSome, IsNone, option_copied};
+ghost use Rattle.std.specs.Prelude.{◌≡◌, ◌≢◌, ◌≤◌, ◌<◌, ◌↔◌, ℕ, List, length, take};
+ghost use Rattle.std.specs.Prelude.{IfSome, IsSome, IsNone, option_copied};
 ghost use Rattle.std.specs.declared.option.Option.{Option};
 ghost use Rattle.std.specs.declared.io.Error.{Error};
 ghost use Rattle.std.specs.declared.io.ErrorKind.TheVariants.{Interrupted};
@@ -60,8 +61,9 @@ pub trait Sink {
         ensures { option_copied result ≡ failure self.now };
 }
 
-/// A reader or a writer, and the error by which it failed. The contracts of std name no error, so one thing is read and
-/// not proved: that the error is one that it gave, or stands for a write of no bytes or for 2^64 interrupted calls.
+/// A reader or a writer, and the error by which it failed. The contracts of std name no error, so one thing is read here
+/// and not proved: that the reader or the writer is called, and that the error is one that it gave, or stands for a
+/// write that took nothing or for interruptions without end.
 #[derive(Drop)]
 pub struct Watched<T> {
     inner: T,
