@@ -8,7 +8,8 @@ ghost use Rattle.action.specs.Action.{largest_rate, kind_of, rate_of, action_of,
 ghost use Rattle.action.specs.declared.Action.TheVariants.{DontCare};
 ghost use Rattle.action.specs.Operator.{kinds, cell_count, cells_of, coded, join, sibling, parent};
 ghost use Rattle.action.specs.Operator.{rate_cells, largest_in, right_cell};
-ghost use Rattle.action.specs.Laws.{first_pair, with_second, first_triple, with_pair, with_third, law_search, actions_of};
+ghost use Rattle.action.specs.Laws.{first_pair, with_second, first_triple, with_pair, with_third, law_search};
+ghost use Rattle.action.specs.Laws.{actions_of};
 
 use std::array;
 use words::word;
@@ -77,7 +78,7 @@ pub enum Action {
 }
 
 impl Action {
-    /// The action of a packet that no row or atom says anything of.
+    /// What a packet gets that meets no row and no atom.
     pub const DONT_CARE: Action = Action::DontCare;
 
     /// The number of its kind.
@@ -111,7 +112,7 @@ impl Action {
             ALLOW => Action::Allow,
             DENY => Action::Deny,
             GMB => Action::Gmb(rate),
-            _ => Action::DontCare,
+            _ => Action::DONT_CARE,
         }
     }
 
@@ -203,10 +204,10 @@ impl Operator {
     pub fn join(&self, left: Action, right: Action) -> Action
         ensures { result ≡ join self.now.cells left right }
     {
-        if left == Action::DontCare {
+        if left == Action::DONT_CARE {
             return right;
         }
-        if right == Action::DontCare {
+        if right == Action::DONT_CARE {
             return left;
         }
         let cell = (left.kind() - 1) * KINDS + (right.kind() - 1);
@@ -271,13 +272,13 @@ impl Operator {
     }
 }
 
-/// The public constants are what the definitions say, since a constant has no contract of its own.
+/// What the public constants are: a constant has no contract of its own.
 pub fn constants()
-    ensures { (Action.DONT_CARE ≡ DontCare)
-        × (Operator.SIBLING.cells ≡ sibling)
-        × (Operator.PARENT.cells ≡ parent)
-        × (LARGEST_RATE ≡ largest_rate)
-        × (CELLS ≡ cell_count) }
+    ensures dont_care { Action.DONT_CARE ≡ DontCare }
+    ensures sibling { Operator.SIBLING.cells ≡ sibling }
+    ensures parent { Operator.PARENT.cells ≡ parent }
+    ensures rate { LARGEST_RATE ≡ largest_rate }
+    ensures cells { CELLS ≡ cell_count }
 {}
 
 /// Whether a cell may have a code.
@@ -312,6 +313,6 @@ fn coded(code: u32, left: Action, right: Action) -> Action
         GIVES_RIGHT => right,
         GIVES_LARGER => Action::Gmb(m.max(n)),
         GIVES_SMALLER => Action::Gmb(m.min(n)),
-        _ => Action::DontCare,
+        _ => Action::DONT_CARE,
     }
 }

@@ -71,7 +71,28 @@ unfolding file root one ones right_prefix zero_beyond right_value is_none is_pla
     right_action in_range operator.coded operator.join operator.right_cell commutes associates shown pairs triples first_pair first_triple
     law_search row_action right_row_match right_row_action count_fault cells_fault atom_fault node_fault section_fault shape_fault sum_fault
     operator_fault laws_fault whole_stages stages read_as
-all_accepted = ((refl, refl), ((refl, refl), ((refl, refl), ((refl, refl), ((refl, refl), ((refl, refl), ((refl, refl), ((refl, refl), ((refl, refl), ((refl, refl), ((refl, refl), ((refl, refl), ((refl, refl), ((refl, refl), tt))))))))))))))
+all_accepted = (
+  (refl, refl),
+  (
+    (refl, refl),
+    (
+      (refl, refl),
+      (
+        (refl, refl),
+        (
+          (refl, refl),
+          (
+            (refl, refl),
+            (
+              (refl, refl),
+              ((refl, refl), ((refl, refl), ((refl, refl), ((refl, refl), ((refl, refl), ((refl, refl), ((refl, refl), tt))))))),
+            ),
+          ),
+        ),
+      ),
+    ),
+  ),
+)
 
 module _ (k : ℕ) (below : k < 14) where
   reads : read_of (file k) ≡ Ok (layout 1 k 1)

@@ -24,8 +24,10 @@ const BEFORE: usize = FIRST_OPERATOR + OPERATOR_WORDS + 1;
 // Those behind the last: the node count and a node.
 const BEHIND: usize = 1 + NODE_WORDS;
 
+// The most atoms whose rows a table has room for.
 const FEW: usize = 12;
 
+// One more.
 const MANY: usize = 13;
 
 fn main(rt: HostRuntime) -> io::Result<()> {

@@ -1,5 +1,5 @@
 //! Where bytes come from and where they go. Each says itself whether a read or a write has failed, and keeps the error,
-//! so that a body over them that gives up cannot say it. A call that was interrupted has not failed: it is made again.
+//! so that a function over them cannot give up and claim it. A call that was interrupted has not failed: it is made again.
 
 ghost use Rattle.std.specs.Prelude.{◌≡◌, ◌≢◌, ◌≤◌, ◌<◌, ◌↔◌, ℕ, List, length, take};
 ghost use Rattle.std.specs.Prelude.{IfSome, IsSome, IsNone, option_copied};
@@ -19,17 +19,18 @@ pub trait Source {
     // The error by which a read failed.
     ghost failure: { Self → Option Error };
 
-    /// Reads bytes to the start of a buffer, none only at the end. `None` where the read failed.
+    /// Reads bytes into the start of a buffer: none only at the end, or where the buffer is empty. `None` where the read
+    /// failed.
     fn get(&mut self, buf: &mut [u8]) -> Option<usize>
-        requires { IsNone (failure self.old) }
+        requires can_read { IsNone (failure self.old) }
         ensures bound { IfSome result (λ n. n ≤ length buf.new) }
         ensures bytes { IfSome result (λ n.
             Consumes (remaining self.old) (remaining self.new) (take n buf.new)) }
         ensures end { IfSome result (λ n.
             n ≡ 0 → 0 < length buf.new → IsAtEnd (remaining self.new)) }
-        ensures lost { IsNone result → Keeps (remaining self.old) (remaining self.new) }
+        ensures kept { IsNone result → Keeps (remaining self.old) (remaining self.new) }
         ensures failed { IsNone result ↔ IsSome (failure self.new) }
-        ensures retried { IfSome (failure self.new) (λ error. error_kind error ≢ Interrupted) };
+        ensures not_interrupted { IfSome (failure self.new) (λ error. error_kind error ≢ Interrupted) };
 
     /// The error by which a read failed.
     fn failure(&self) -> Option<&Error>
@@ -44,26 +45,26 @@ pub trait Sink {
     // The error by which a write failed.
     ghost failure: { Self → Option Error };
 
-    /// Writes bytes from the start of some, one at least. `None` where the write failed.
+    /// Writes some bytes from the start of these, at least one. `None` where the write failed.
     fn put(&mut self, bytes: &[u8]) -> Option<usize>
         requires some { 0 < length bytes.now }
-        requires well { IsNone (failure self.old) }
+        requires can_write { IsNone (failure self.old) }
         ensures bound { IfSome result (λ n. n ≤ length bytes.now) }
         ensures more { IfSome result (λ n. 0 < n) }
         ensures bytes { IfSome result (λ n.
             Appends (contents self.old) (contents self.new) (take n bytes.now)) }
-        ensures lost { IsNone result → Keeps (contents self.old) (contents self.new) }
+        ensures kept { IsNone result → Keeps (contents self.old) (contents self.new) }
         ensures failed { IsNone result ↔ IsSome (failure self.new) }
-        ensures retried { IfSome (failure self.new) (λ error. error_kind error ≢ Interrupted) };
+        ensures not_interrupted { IfSome (failure self.new) (λ error. error_kind error ≢ Interrupted) };
 
     /// The error by which a write failed.
     fn failure(&self) -> Option<&Error>
         ensures { option_copied result ≡ failure self.now };
 }
 
-/// A reader or a writer, and the error by which it failed. The contracts of std name no error, so one thing is read here
-/// and not proved: that the reader or the writer is called, and that the error is one that it gave, or stands for a
-/// write that took nothing or for interruptions without end.
+/// A reader or a writer, and the error by which it failed. The contracts of std name no error, so two things are read
+/// here and not proved: that the reader or the writer is called, and that the error is one that it gave, or stands for
+/// a write that took nothing or for interruptions without end.
 #[derive(Drop)]
 pub struct Watched<T> {
     inner: T,
@@ -88,6 +89,7 @@ impl<R: Read> Source for Watched<R> {
     ghost failure = { λ w. w.failure };
 
     fn get(&mut self, buf: &mut [u8]) -> Option<usize> {
+        // No loop without an end, which would need the handle to wait. No run uses up the turns.
         for _ in 0..u64::MAX {
             match self.inner.read(buf) {
                 Ok(n) => return Some(n),
@@ -113,6 +115,7 @@ impl<W: Write> Sink for Watched<W> {
     ghost failure = { λ w. w.failure };
 
     fn put(&mut self, bytes: &[u8]) -> Option<usize> {
+        // As in a read.
         for _ in 0..u64::MAX {
             match self.inner.write(bytes) {
                 Ok(0) => {

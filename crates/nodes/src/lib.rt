@@ -78,10 +78,10 @@ impl<'a> File<'a> {
     pub fn join_at(self, index: u32, left: Action, right: Action) -> Action
         ensures { result ≡ join (cells_at self.entry.words.now index) left right }
     {
-        if left == Action::DontCare {
+        if left == Action::DONT_CARE {
             return right;
         }
-        if right == Action::DontCare {
+        if right == Action::DONT_CARE {
             return left;
         }
         self.operator_at(index).join(left, right)

@@ -56,7 +56,7 @@ impl Place {
 }
 
 impl Priority {
-    // Stores the priority of the row at a place, over its level; nothing else does.
+    // Stores the priority of the row at a place, over its level; nothing else writes a priority.
     fn put(self, priorities: &mut [u32], at: Place)
         requires { at.0 < length priorities.old }
         ensures { priorities.new ≡ set priorities.old at.0 self.0 }
@@ -180,7 +180,7 @@ fn put_priorities(priorities: &mut [u32], count: u32)
     requires { (j : ℕ) → j < length priorities.old → get_or priorities.old j 0 ≤ count }
     ensures { priorities.new ≡ map (λ l. count - l) priorities.old }
 {
-    // The words before this one are priorities, and the others are still levels. By place: it says whose the priority is.
+    // The words before i are priorities, the others still levels. By place, since a priority is stored at its row's.
     for i in 0..priorities.len() {
         let level = priorities[i];
         Priority(count - level).put(priorities, Place(i));

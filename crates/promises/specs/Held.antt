@@ -1,5 +1,5 @@
--- The statements of the crates below that no other statement of this crate rests on: held here, so that none of them can go unseen; and the numbers and
--- words of the format.
+-- What the statements of this crate rest on, as the crates below state it: held here, so that none of it can go
+-- unseen; and the numbers and words of the format.
 --
 --   RestsOn   each of them; those of theory stand on the contract of `theory::theorems`
 --   Premises  what the premises of theorems ask

@@ -29,11 +29,6 @@ use table::Found;
 use text::LONGEST_LISTING;
 use wire::{give, give_bytes, low};
 
-// The laws' numbers in a reply, whose words have them: they stand here alone.
-const COMMUTATIVITY: u32 = 1;
-
-const ASSOCIATIVITY: u32 = 2;
-
 /// What is written as words.
 pub trait Reply {
     /// Its words.
@@ -285,12 +280,12 @@ fn give_zeros<W: Write>(output: &mut W, count: usize) -> io::Result<()>
     Ok(())
 }
 
-// The number of a broken law.
+// The number of a broken law in a reply; it stands here alone.
 fn law_number(failure: LawFailure) -> u32
     ensures { result ≡ law_number failure }
 {
     match failure {
-        LawFailure::Commutativity(..) => COMMUTATIVITY,
-        LawFailure::Associativity(..) => ASSOCIATIVITY,
+        LawFailure::Commutativity(..) => 1,
+        LawFailure::Associativity(..) => 2,
     }
 }

@@ -81,8 +81,8 @@ pub fn words_of_row(row: Row) -> RowWords
     ensures { result ≡ row_words row }
 {
     // Composed of the match's words and the action's, the compile took up to 1.2 times as long; as it is, that of 12
-    // unconstrained atoms stands at 0.9 to 1.26 of Rust's time by the machine, and the bar is 1.1. No From, since neither
-    // type is this crate's.
+    // unconstrained atoms takes 0.9 to 1.26 of Rust's time, depending on the machine, and the bar is 1.1. No From,
+    // since neither type is this crate's.
     let m = row.matching;
     let kind = row.action.kind();
     let rate = row.action.rate();

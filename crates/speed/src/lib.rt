@@ -38,7 +38,7 @@ pub extern "C" fn speed_tree(file: &[u32], packet: &[u32], given: &mut [u32]) ->
         ≡ with_action given.old (tree_action (tree_action_of file.now packet.now)) }
 {
     let answer = tree_action(file, packet);
-    put_action(given, answer.unwrap_or(Action::DontCare));
+    put_action(given, answer.unwrap_or(Action::DONT_CARE));
     answer_number(answer)
 }
 
@@ -60,7 +60,7 @@ pub extern "C" fn speed_scan(table: &[u32], packet: &[u32], given: &mut [u32]) -
         ≡ with_action given.old (scan_action (scan_of table.now packet.now)) }
 {
     let found = scan(table, packet).unwrap_or(Found {
-        action: Action::DontCare,
+        action: Action::DONT_CARE,
         tried: 0,
     });
     put_action(given, found.action);

@@ -86,7 +86,7 @@ pub fn first_match(table: &[u32], p: Packet) -> Found
         }
     }
     Found {
-        action: Action::DontCare,
+        action: Action::DONT_CARE,
         tried: table.len() / ROW_WORDS,
     }
 }

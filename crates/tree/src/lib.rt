@@ -79,7 +79,7 @@ impl Query<'_> {
     {
         if (count == 0) | (at.nodes_left == 0) {
             return SubtreeAction {
-                action: Action::DontCare,
+                action: Action::DONT_CARE,
                 next: at,
             };
         }
@@ -96,7 +96,7 @@ impl Query<'_> {
         ensures { result
             ≡ own_action (cells_at self.entry.file.words.now inner) atoms.now self.entry.packet }
     {
-        let mut given = Action::DontCare;
+        let mut given = Action::DONT_CARE;
         // given is the action of the atoms gone over, which stand behind those that are left.
         for atom in Rows::of(atoms).rev() {
             given = self.with_atom(inner, atom, given);
