@@ -1,3 +1,3 @@
 mod Filled
 mod Same
-mod Numbers
+mod Rows

@@ -3,8 +3,7 @@
 //! the refusal of 13.
 #![tactic(auto)]
 
-ghost use Rattle.std.specs.Prelude.{◌≡◌, ◌≤◌, ◌-◌, ◌^◌, Ok, Err, OnOk, codes};
-ghost use Rattle.std.specs.Io.KnownBytes.{Appends};
+ghost use Rattle.std.specs.Prelude.{◌≡◌, ◌≤◌, ◌-◌, ◌^◌, ◌∷◌, [], Ok, Err};
 ghost use Rattle.refusal.specs.Refusals.{refusal_at};
 ghost use Rattle.refusal.specs.declared.Reason.TheVariants.{NoRoom};
 ghost use Rattle.doubling.specs.declared.TheConstants.{FEW, MANY};
@@ -15,7 +14,6 @@ use refusal::Refusal;
 use row::{MOST_ROWS, ROW_WORDS};
 use section::{ATOM_WORDS, FIRST_OPERATOR, NODE_WORDS, OPERATOR_WORDS};
 use std::io;
-use std::io::Write;
 use words::copy;
 
 // The words before the first atom: the operator count, an operator and the atom count.
@@ -31,17 +29,15 @@ const FEW: usize = 12;
 const MANY: usize = 13;
 
 fn main(rt: HostRuntime) -> io::Result<()> {
-    show(&mut rt.stdout())
+    let [few, many] = numbers();
+    println!(rt; "{few} {many}")
 }
 
-// Writes both numbers, in a line.
-fn show<W: Write>(output: &mut W) -> io::Result<()>
-    ensures { OnOk result (Appends (W.contents output.old) (W.contents output.new)
-        (codes "4095 12\n")) }
+// The two numbers that are written.
+fn numbers() -> [usize; 2]
+    ensures { result ≡ 4095 ∷ 12 ∷ [] }
 {
-    let few = number(FEW);
-    let many = number(MANY);
-    writeln!(output, "{few} {many}")
+    [number(FEW), number(MANY)]
 }
 
 // The number that tells the answer for the file with so many atoms: the row count, or the refusal's number.

@@ -2,7 +2,7 @@
 //! is said on standard error, and by the exit status 2.
 #![tactic(auto)]
 
-ghost use Rattle.std.specs.Prelude.{◌≡◌, ◌≤◌, ◌↔◌, ◌⊎◌, length, take, IfSome, IsSome, IsNone, option_copied};
+ghost use Rattle.std.specs.Prelude.{◌≡◌, ◌≤◌, ◌↔◌, ◌⊎◌, length, take, IfSome, IsSome, IsNone};
 ghost use Rattle.std.specs.Io.KnownBytes.{Appends, Consumes, IsAtEnd};
 ghost use Rattle.std.specs.Process.{exit_status};
 ghost use Rattle.listing.specs.Ends.{AppendsStart, Lists, status_of};
@@ -11,7 +11,7 @@ ghost use Rattle.listing.specs.Ends.{AppendsStart, Lists, status_of};
 mod tests;
 mod watched;
 
-use std::io::Error;
+use std::io::{Read, Write};
 use std::process::ExitCode;
 use text::{INPUT_ROOM, LONGEST_LISTING, list_whole};
 use watched::{Sink, Source, Watched};
@@ -20,11 +20,27 @@ use watched::{Sink, Source, Watched};
 const NO_ANSWER: u8 = 2;
 
 fn main(rt: HostRuntime) -> ExitCode {
-    list_input(
+    list_watched(
         &rt,
         &mut Watched::new(rt.stdin()),
         &mut Watched::new(rt.stdout()),
     )
+}
+
+// Lists what a reader gives to a writer, and answers the exit status. It says of these two what `list_input` says of any
+// source and sink, so that what a source or a sink calls its bytes are theirs.
+fn list_watched<R: Read, W: Write>(
+    rt: &impl Eprint,
+    input: &mut Watched<R>,
+    output: &mut Watched<W>,
+) -> ExitCode
+    requires can_read { IsNone input.old.failure }
+    requires can_write { IsNone output.old.failure }
+    ensures lists { Lists input.new.failure output.new.failure
+        (R.remaining input.old.inner) (W.contents output.old.inner) (W.contents output.new.inner) }
+    ensures status { exit_status result ≡ status_of input.new.failure output.new.failure }
+{
+    list_input(rt, input, output)
 }
 
 // Lists an input, and answers the exit status.
@@ -36,7 +52,7 @@ fn list_input<S: Source, T: Sink>(rt: &impl Eprint, input: &mut S, output: &mut 
     ensures status { exit_status result ≡ status_of (S.failure input.new) (T.failure output.new) }
 {
     write_listing(input, output);
-    tell(rt, input.failure(), output.failure())
+    tell(rt, input, output)
 }
 
 // Writes the listing of an input, of any length: whole, unless a read or a write fails.
@@ -95,12 +111,11 @@ fn write_full<T: Sink>(output: &mut T, bytes: &[u8])
 }
 
 // Says what failed, and answers the exit status.
-fn tell(rt: &impl Eprint, read: Option<&Error>, write: Option<&Error>) -> ExitCode
-    ensures { exit_status result ≡ status_of (option_copied read.entry)
-        (option_copied write.entry) }
+fn tell<S: Source, T: Sink>(rt: &impl Eprint, input: &S, output: &T) -> ExitCode
+    ensures { exit_status result ≡ status_of (S.failure input.now) (T.failure output.now) }
 {
     // A failed write to standard error is told by the status alone.
-    let _ = match (read, write) {
+    let _ = match (input.failure(), output.failure()) {
         (Some(error), _) => eprintln!(rt; "listing: cannot read standard input: {error}"),
         (None, Some(error)) => eprintln!(rt; "listing: cannot write standard output: {error}"),
         (None, None) => return ExitCode::SUCCESS,

@@ -35,13 +35,19 @@ use Rattle.text.proofs.Right.{table-right}
 use Rattle.row.specs.Row.{rows_in, table_rows}
 use Rattle.table.specs.Table.{RightTable}
 
+-- the matches, actions and operators of a file keep the laws that theory asks
+pub file-laws : Laws meets DontCare operator.join common is_empty
+file-laws = record {
+  meets-common = meets-common;
+  meets-empty = meets-empty;
+  identity-left = λ o a. (identity o a).0;
+  identity-right = λ o a. (identity o a).1;
+}
+
 -- the scan of the rows is the action of the tree
 rows-scan : (f : List ℕ) (l : Layout) (p : Packet) → scan meets DontCare (compiled_rows f l) p ≡ eval_tree (tree_of f l) p
 unfolding compiled_rows
-rows-scan f l p =
-    let laws : Laws meets DontCare operator.join common is_empty =
-    record { meets-common = meets-common; meets-empty = meets-empty; identity-left = λ o a. (identity o a).0; identity-right = λ o a. (identity o a).1 } in
-    scan-compile laws (tree_of f l) p
+rows-scan f l p = scan-compile file-laws (tree_of f l) p
 
 -- what the tree's action is where a file is not refused
 abbrev pub gives : Action → Result Action Refusal

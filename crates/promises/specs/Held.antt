@@ -1,10 +1,11 @@
 -- What the statements of this crate rest on, as the crates below state it: held here, so that none of it can go
 -- unseen; and the numbers and words of the format.
 --
---   RestsOn   each of them; those of theory stand on the contract of `theory::theorems`
+--   RestsOn   each of them; those of theory stand on the contract of `theory::theorems`, and four that nothing else cites
+--             are written out here at the matches, actions and operators of a file
 --   Premises  what the premises of theorems ask
 --   Numbers   the numbers, limits and words of the format
-use Rattle.std.specs.Prelude.{ℕ, ◌*◌, ◌≤◌, ◌<◌, ◌≡◌, Bool, true, false, List, [], ◌∷◌, length, get_or, map, Result, Ok, Err, None}
+use Rattle.std.specs.Prelude.{ℕ, suc, ◌+◌, ◌*◌, ◌≤◌, ◌<◌, ◌≡◌, Bool, true, false, List, [], ◌∷◌, length, get_or, map, Result, Ok, Err, None}
 use Rattle.words.specs.Bytes.{word_bytes, words_in, bytes_of}
 use Rattle.words.specs.Theorems.{WordsRead, BytesRead}
 use Rattle.field.specs.Theorems.{MeetExactly}
@@ -26,13 +27,18 @@ use Rattle.section.specs.Numbers.{node_length, most_operators, most_atoms, most_
 use Rattle.section.specs.Sections.{inner_of, parent_of, sibling_of, own_of, children_of}
 use Rattle.table.specs.Table.{past, right_length, check_of}
 use Rattle.priority.specs.Numbering.{Ready, Shared}
-use Rattle.theory.specs.Rows.{matches_at}
-use Rattle.theory.specs.Number.{FirstPlace, Obeyed}
+use Rattle.theory.specs.declared.Row.{Row}
+use Rattle.theory.specs.Rows.{scan, matches_at}
+use Rattle.theory.specs.Rows as rows
+use Rattle.theory.specs.Tree.{Node, own, compile, bare, ◌▸◌}
+use Rattle.theory.specs.Tree as tree
+use Rattle.theory.specs.Number.{rows_overlap, levels, priorities, FirstPlace, Obeyed}
+use Rattle.flow.specs.declared.Match.{Match}
 use Rattle.compile.specs.Compile.{room}
 use Rattle.sheet.specs.Sheet.{listing_room}
 use Rattle.line.specs.Text.{ascii, decimal, head, refusal, action_text, address}
 use Rattle.text.specs.Listing.{right_input, blank}
-use Rattle.flow.specs.Match.{meets, match_length, match_of, has_ports}
+use Rattle.flow.specs.Match.{meets, common, overlap, is_empty, match_length, match_of, has_ports}
 use Rattle.flow.specs.Match.{in_port_flag, protocol_flag, source_port_flag, destination_port_flag, empty_flag}
 use Rattle.flow.specs.Theorems.{InsideTrans, MetExactly, MatchWordsRead, MatchWrittenRead, PacketWordsRead, PacketReadWords, PacketWrittenRead}
 use Rattle.action.specs.Operator.{cell_count, coded, join, sibling, parent}
@@ -42,6 +48,22 @@ use Rattle.line.specs.Theorems.{DecimalReads}
 use Rattle.text.specs.Theorems.{NeverCut, WrittenWhole, KnownByFirst, ExamplesListed}
 
 pub record RestsOn : Type 0 where
+  -- the scan of a join is the join of the scans
+  pub scan-join : (o : List ℕ) (N N' : List (Row Match Action)) (p : Packet)
+      → scan meets DontCare (rows.join common is_empty (join o) N N') p ≡ join o (scan meets DontCare N p) (scan meets DontCare N' p)
+  -- a join of n and m rows has at most (n + 1)(m + 1) - 1, and no fewer than n + m
+  pub join-size : (o : List ℕ) (N N' : List (Row Match Action))
+      → (suc (length (rows.join common is_empty (join o) N N')) ≤ suc (length N) * suc (length N'))
+      × (length N + length N' ≤ length (rows.join common is_empty (join o) N N'))
+  -- a chain of three nodes is joined from the last up
+  pub node-chain : (a b c : Node (List ℕ) Match Action) (p : Packet)
+      → let action : Node (List ℕ) Match Action → Action = λ n. own meets DontCare join n.inner n.atoms p in
+      scan meets DontCare (compile common is_empty join (tree.node a (tree.node b (tree.node c bare ▸ bare) ▸ bare))) p
+      ≡ join a.parent (action a) (join b.parent (action b) (action c))
+  -- under our priorities, whatever row a switch obeys has the scan's action
+  pub switch-priorities : (d : Row Match Action) (N : List (Row Match Action)) (p : Packet) (i : ℕ)
+      → Obeyed meets d N (λ k. get_or (priorities (levels (rows_overlap overlap d N) (length N))) k 0) p i
+      → (get_or N i d).action ≡ scan meets DontCare N p
   pub words-read : WordsRead
   pub bytes-read : BytesRead
   pub meet-exactly : MeetExactly

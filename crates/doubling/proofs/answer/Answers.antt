@@ -4,7 +4,7 @@ use Rattle.words.specs.Words.{copied}
 use Rattle.compile.specs.Compile.{answer_of}
 use Rattle.doubling.specs.Doubling.{largest, behind, answer_for}
 use Rattle.doubling.proofs.Filled.{filled}
-use Rattle.doubling.proofs.Numbers.{few, many}
+use Rattle.doubling.proofs.Rows.{few, many}
 use Rattle.doubling.proofs.answer.Goals as goal
 
 pub returns-clause-answer : goal.returns-clause-answer
