@@ -27,8 +27,8 @@ fn main(rt: HostRuntime) -> ExitCode {
     )
 }
 
-// Lists what a reader gives to a writer, and answers the exit status. It says of these two what `list_input` says of any
-// source and sink, so that what a source or a sink calls its bytes are theirs.
+// Lists what a reader gives to a writer, and answers the exit status. It says of these two what `list_input` says of
+// any source and sink, so that what a source or a sink calls its bytes are theirs.
 fn list_watched<R: Read, W: Write>(
     rt: &impl Eprint,
     input: &mut Watched<R>,

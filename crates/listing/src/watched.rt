@@ -1,5 +1,6 @@
-//! Where bytes come from and where they go. Each says itself whether a read or a write has failed, and keeps the error,
-//! so that a function over them cannot give up and claim it. A call that was interrupted has not failed: it is made again.
+//! Where bytes come from and where they go. Each says itself whether a read or a write has failed, and keeps the
+//! error, so that a function over them cannot give up and claim it. A call that was interrupted has not failed: it is
+//! made again.
 
 ghost use Rattle.std.specs.Prelude.{◌≡◌, ◌≢◌, ◌≤◌, ◌<◌, ◌↔◌, ℕ, List, length, take};
 ghost use Rattle.std.specs.Prelude.{IfSome, IsSome, IsNone, option_copied};
@@ -19,8 +20,8 @@ pub trait Source {
     // The error by which a read failed.
     ghost failure: { Self → Option Error };
 
-    /// Reads bytes into the start of a buffer: none only at the end, or where the buffer is empty. `None` where the read
-    /// failed.
+    /// Reads bytes into the start of a buffer: none only at the end, or where the buffer is empty. `None` where the
+    /// read failed.
     fn get(&mut self, buf: &mut [u8]) -> Option<usize>
         requires can_read { IsNone (failure self.old) }
         ensures bound { IfSome result (λ n. n ≤ length buf.new) }
