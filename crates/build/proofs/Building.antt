@@ -17,7 +17,6 @@ use Rattle.nodes.specs.declared.Spot.{Spot}
 use Rattle.nodes.proofs.Walk.{tree-here, after-tree, children-more, children-here, after-children, NoChild}
 use Rattle.common.specs.Lays.{Lays}
 use Rattle.common.proofs.Going.{Fitted, made-words, lays-none, lays-case, lays-ends, too_long}
-use Rattle.rows.specs.Places.{part}
 use Rattle.rows.specs.Tables.{join_words, own_words}
 use Rattle.rows.proofs.Grow.{join-flat, join-length, joins}
 use Rattle.build.specs.Build.{compile_tree, compile_trees, own_at, tree_words, children_words, BuildsBy, Builds, NodeBuilt}
@@ -43,18 +42,6 @@ module _ {a : ℕ} {F old new : List ℕ} {P : Spot → Type 0} where
   part-full last o D h q =
       let l : Lays a F old new None = subst (BuildsBy a F old new P) q h.is in
       record { is = too_long last l refl refl (omega (arith, join-holds o F D)) }
-
--- the two answers of `join_built`
-module _ (o : List ℕ) (a b : ℕ) (p : BuiltTable) (old new : List ℕ) {r : Option ℕ} {x : List ℕ} (i : x ≡ o)
-    (l : Lays a (join_words x (part a b old) (part b p.end old)) old new r) where
-  joined : Lays a (join_words o (part a b old) (part b p.end old)) old new r
-  joined = subst (λ y. Lays a (join_words y (part a b old) (part b p.end old)) old new r) i l
-
-  pub joined-none : r ≡ None → JoinBuilt o a b p old new None
-  joined-none e = record { is = lays-case e joined }
-
-  pub joined-some : {e : ℕ} → r ≡ Some e → JoinBuilt o a b p old new (Some (record { end = e; next = p.next }))
-  joined-some w = record { is = (lays-case w joined, refl) }
 
 -- two tables built one behind the other: there is no room for the second, and both are joined
 module _ {a : ℕ} {C D old mid here new : List ℕ} {N P Q : Spot → Type 0} {x m : Option BuiltTable} {p : BuiltTable} (o : List ℕ)

@@ -82,6 +82,14 @@ impl<T> Watched<T> {
             failure: None,
         }
     }
+
+    // Keeps the error by which a call failed.
+    fn fail(&mut self, error: Error) -> Option<usize>
+        ensures { (result ≡ None) × (self.new ≡ record self.old { failure = Some error }) }
+    {
+        self.failure = Some(error);
+        None
+    }
 }
 
 impl<R: Read> Source for Watched<R> {
@@ -95,14 +103,10 @@ impl<R: Read> Source for Watched<R> {
             match self.inner.read(buf) {
                 Ok(n) => return Some(n),
                 Err(error) if error.kind() == ErrorKind::Interrupted => {}
-                Err(error) => {
-                    self.failure = Some(error);
-                    return None;
-                }
+                Err(error) => return self.fail(error),
             }
         }
-        self.failure = Some(ErrorKind::TimedOut.into());
-        None
+        self.fail(ErrorKind::TimedOut.into())
     }
 
     fn failure(&self) -> Option<&Error> {
@@ -119,20 +123,13 @@ impl<W: Write> Sink for Watched<W> {
         // As in a read.
         for _ in 0..u64::MAX {
             match self.inner.write(bytes) {
-                Ok(0) => {
-                    self.failure = Some(ErrorKind::WriteZero.into());
-                    return None;
-                }
+                Ok(0) => return self.fail(ErrorKind::WriteZero.into()),
                 Ok(n) => return Some(n),
                 Err(error) if error.kind() == ErrorKind::Interrupted => {}
-                Err(error) => {
-                    self.failure = Some(error);
-                    return None;
-                }
+                Err(error) => return self.fail(error),
             }
         }
-        self.failure = Some(ErrorKind::TimedOut.into());
-        None
+        self.fail(ErrorKind::TimedOut.into())
     }
 
     fn failure(&self) -> Option<&Error> {
