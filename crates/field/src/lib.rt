@@ -1,7 +1,7 @@
 //! One field of a match: a prefix of an address, or a value that may be constrained.
 #![tactic(auto)]
 
-ghost use Rattle.std.specs.Prelude.{◌≡◌, ◌-◌};
+ghost use Rattle.std.specs.Prelude.{◌≡◌};
 ghost use Rattle.field.specs.Prefix.{address_bits, in_prefix, right_prefix, prefixes_meet, covers};
 ghost use Rattle.field.specs.Longer.{longer};
 ghost use Rattle.field.specs.Value.{meets_value, values_meet, value_inside, common_value, right_value};
@@ -18,11 +18,11 @@ pub struct Prefix {
 }
 
 impl Prefix {
-    /// Whether an address lies in the prefix.
+    /// Whether an address lies in the prefix: whether the first bit in which the two differ stands beyond the length.
     pub fn contains(self, x: u32) -> bool
         ensures { result ≡ in_prefix address_bits self.address self.length x }
     {
-        u64::from(self.address ^ x) >> self.bits_beyond() == 0
+        u32::min(self.length, ADDRESS_BITS) <= u32::leading_zeros(self.address ^ x)
     }
 
     /// Whether the prefix is right: a length of at most 32, and 0 in the bits beyond it, so that the address has no
@@ -61,18 +61,6 @@ impl Prefix {
             other
         } else {
             self
-        }
-    }
-
-    // How many bits of an address stand beyond the length.
-    fn bits_beyond(self) -> u32
-        ensures { result ≡ address_bits - self.length }
-    {
-        // By saturating_sub, a scan took up to 1.7 times as long, 1.3 of Rust's time, where the bar is 1.1.
-        if self.length < ADDRESS_BITS {
-            ADDRESS_BITS - self.length
-        } else {
-            0
         }
     }
 }

@@ -5,6 +5,7 @@
 ghost use Rattle.promises.specs.Demands.{Demand1, Demand2, Demand3, SwitchObeysTree};
 ghost use Rattle.promises.specs.Hidden.{HiddenRows};
 ghost use Rattle.promises.specs.Ports.{PortsOnly};
+ghost use Rattle.promises.specs.Prefixes.{PrefixTest};
 ghost use Rattle.promises.specs.Prints.{EveryListing};
 ghost use Rattle.promises.specs.Cases.{WorkedCases};
 ghost use Rattle.promises.specs.Held.{Numbers, Premises, RestsOn};
@@ -47,6 +48,11 @@ pub fn hidden_rows()
 /// Ports only where there are ports.
 pub fn ports_only()
     ensures { PortsOnly }
+{}
+
+/// The prefix test by bit counts.
+pub fn prefix_test()
+    ensures { PrefixTest }
 {}
 
 /// Every input has its listing.

@@ -1,8 +1,8 @@
--- The bits in which the two differ are 0 from the place on where they must agree.
-use Rattle.field.specs.Prefix.{in_prefix}
-use Rattle.field.proofs.Prefixes.{xor-test}
+-- The law on the first bit in which two numbers differ, at 32 bits.
+use Rattle.std.proofs.Common.{arith}
+use Rattle.field.specs.Prefix.{address_bits}
+use Rattle.field.proofs.Prefixes.{zeros-test}
 use Rattle.field.proofs.Prefix.contains.Goals as goal
 
 pub returns : goal.returns
-unfolding in_prefix
-returns c = rw (← c.bits_beyond.ensures, c.from.ensures) (xor-test c.args.self.address c.args.x c.bits_beyond.result)
+returns c = rw (c.min.ensures) (zeros-test address_bits c.args.self.address c.args.self.length c.args.x (omega arith) (omega arith))
