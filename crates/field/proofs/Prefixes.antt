@@ -3,7 +3,7 @@ use mathlib.Core.Path.{◌≡◌, refl, sym, ap, ◌∙◌, subst}
 use mathlib.Core.Bool.{Bool, true, false, cond, ◌&&◌, and_comm}
 use Prim.Native.Nat.{ℕ, zero, suc, ◌+◌, ◌-◌, ◌*◌, ◌/◌, ◌%◌, ◌^◌, ◌≤◌, ◌<◌, min}
 use native.Mathlib.Omega.{arith}
-use native.Mathlib.Nat.{le_of_lt, add-mul-div_right, div-eq_of_lt, div-lt_iff_lt-mul, one-mul, lt_of_lt_of_le, le_of_suc-le-suc, lt_of_not-le, pow-suc}
+use native.Mathlib.Nat.{le_of_lt, add-mul-div_right, div-eq_of_lt, div-lt_iff_lt-mul, lt_of_lt_of_le, lt_of_not-le, pow-suc}
 use Rattle.std.proofs.Math.Nat.{min-eq_left, min-eq_right}
 use lib.Dec.{eqb, leb}
 use lib.Pow.{pow_mono, shr-shr, shr_lt, high, pow-add, pow_pos, pow-lt, mod-pow-add}
@@ -35,41 +35,40 @@ unfolding in_prefix
 in-moves w p m q n x h e =
     ap (λ (k : ℕ). eqb (leading w n q) k) (sym (leading-fewer w n m p x (omega arith) (eqb-true (leading w m p) (leading w m x) e)))
 
--- numbers that differ in no bit are equal
+-- the bits in which two numbers differ are 0 from a place on exactly where the numbers agree from there on
 xor-zero : (a b : ℕ) → bit_xor a b ≡ 0 → a ≡ b
 xor-zero a b e = omega (arith, e, xor_add_and a b, and_le_l a b, and_le_r a b)
 
--- two numbers agree above their s low bits exactly where they differ in those alone
-xor_low : (s a b : ℕ) → bit_xor a b < 2 ^ s → a / 2 ^ s ≡ b / 2 ^ s
-xor_low s a b h = xor-zero (a / 2 ^ s) (b / 2 ^ s) (sym (xor_shr a b s) ∙ div-eq_of_lt h)
+xor-test : (a b s : ℕ) → eqb (bit_xor a b / 2 ^ s) 0 ≡ eqb (a / 2 ^ s) (b / 2 ^ s)
+xor-test a b s =
+    rw (xor_shr a b s)
+    (same_test (eqb (bit_xor (a / 2 ^ s) (b / 2 ^ s)) 0) (eqb (a / 2 ^ s) (b / 2 ^ s))
+    (λ e. eq-eqb (a / 2 ^ s) (b / 2 ^ s) (xor-zero (a / 2 ^ s) (b / 2 ^ s) (eqb-true (bit_xor (a / 2 ^ s) (b / 2 ^ s)) 0 e)))
+    (λ e. eq-eqb (bit_xor (a / 2 ^ s) (b / 2 ^ s)) 0 (rw (eqb-true (a / 2 ^ s) (b / 2 ^ s) e) (xor_self (b / 2 ^ s)))))
 
-low_xor : (s a b : ℕ) → a / 2 ^ s ≡ b / 2 ^ s → bit_xor a b < 2 ^ s
-low_xor s a b e =
-    let z : bit_xor a b / 2 ^ s ≡ 0 = xor_shr a b s ∙ ap (λ (k : ℕ). bit_xor (a / 2 ^ s) k) (sym e) ∙ xor_self (a / 2 ^ s) in
-    let l : bit_xor a b / 2 ^ s < 1 = omega arith in
-    subst (λ (k : ℕ). bit_xor a b < k) (one-mul (2 ^ s)) ((div-lt_iff_lt-mul (pow_pos s)).0 l)
+-- a number of w bits begins with n zeros, or with w where n is more, exactly where nothing is left of it by 2 ^ (w - n)
+begins-in : (w n a : ℕ) → a < 2 ^ w → min n w ≤ count_leading_zeros w a → a / 2 ^ (w - n) ≡ 0
+begins-in w n a h l = let t = leading_length w a h in div-eq_of_lt (lt_of_lt_of_le t.2 (pow_mono (omega (arith, t.1))))
 
--- a number of w bits is below 2 ^ (w - n) exactly where it begins with n zeros, or with w where n is more
-zeros_below : (w n a : ℕ) → a < 2 ^ w → min n w ≤ count_leading_zeros w a → a < 2 ^ (w - n)
-zeros_below w n a h l = let t = leading_length w a h in lt_of_lt_of_le t.2 (pow_mono (omega (arith, t.1)))
-
-below_zeros : (w n a : ℕ) → a < 2 ^ w → a < 2 ^ (w - n) → min n w ≤ count_leading_zeros w a
-below_zeros w n a h l =
+nothing_left : (w n a : ℕ) → a < 2 ^ w → a / 2 ^ (w - n) ≡ 0 → min n w ≤ count_leading_zeros w a
+nothing_left w n a h z =
     let t = leading_length w a h in
-    let short : t.0 ≤ w - n =
-    le_of_suc-le-suc (lt_of_not-le (λ (g : suc (w - n) ≤ t.0).
-    let p : 2 ^ suc (w - n) ≤ 2 ^ t.0 = pow_mono g in
-    omega (arith, p, pow-suc 2 (w - n), t.3, l))) in
+    let low : a < 1 * 2 ^ (w - n) = (div-lt_iff_lt-mul (pow_pos (w - n))).0 (omega arith) in
+    let short : t.0 < suc (w - n) =
+    lt_of_not-le (λ (g : suc (w - n) ≤ t.0).
+    let more : 2 ^ suc (w - n) ≤ 2 ^ t.0 = pow_mono g in
+    omega (arith, more, pow-suc 2 (w - n), t.3, low)) in
     omega (arith, t.1)
 
--- THE FIRST BIT IN WHICH TWO NUMBERS DIFFER: x lies in p, n exactly where what the two differ in begins with n zeros
+-- THE FIRST BIT IN WHICH TWO NUMBERS DIFFER: x lies in p, n exactly where the bits in which they differ begin with n zeros
 pub zeros-test : (w p n x : ℕ) → p < 2 ^ w → x < 2 ^ w → leb (min n w) (count_leading_zeros w (bit_xor p x)) ≡ in_prefix w p n x
 unfolding in_prefix
 zeros-test w p n x hp hx =
     let d : bit_xor p x < 2 ^ w = xor_lt w p x hp hx in
-    same_test (leb (min n w) (count_leading_zeros w (bit_xor p x))) (eqb (leading w n p) (leading w n x))
-    (λ e. eq-eqb _ _ (xor_low (w - n) p x (zeros_below w n (bit_xor p x) d (leb-true _ _ e))))
-    (λ e. le-leb _ _ (below_zeros w n (bit_xor p x) d (low_xor (w - n) p x (eqb-true _ _ e))))
+    same_test (leb (min n w) (count_leading_zeros w (bit_xor p x))) (eqb (bit_xor p x / 2 ^ (w - n)) 0)
+    (λ e. eq-eqb _ _ (begins-in w n (bit_xor p x) d (leb-true _ _ e)))
+    (λ e. le-leb _ _ (nothing_left w n (bit_xor p x) d (eqb-true _ _ e)))
+    ∙ xor-test p x (w - n)
 
 eqb_swap : (a b : ℕ) → eqb a b ≡ eqb b a
 eqb_swap a b = same_test (eqb a b) (eqb b a) (λ e. eq-eqb b a (sym (eqb-true a b e))) (λ e. eq-eqb a b (sym (eqb-true b a e)))

@@ -2,7 +2,7 @@
 -- computation. Assumes nothing.
 use Prim.Native.Nat.{ℕ, suc, ◌-◌, ◌/◌, ◌^◌, ◌≤◌, ◌<◌, min}
 use mathlib.Core.Path.{◌≡◌, refl, sym, ap, ◌∙◌}
-use mathlib.Core.Bool.{true, false}
+use mathlib.Core.Bool.{true}
 use mathlib.Core.Logic.{◌↔◌}
 use native.Mathlib.Omega.{arith}
 use native.Mathlib.Nat.{div-one}
@@ -14,7 +14,7 @@ use Rattle.std.proofs.lemmas.Nat.{leading_le}
 use Rattle.logic.proofs.Tests.{by-test}
 use Rattle.field.specs.Prefix.{leading, in_prefix}
 use Rattle.field.proofs.Prefixes.{leading-fewer, zeros-test, in_both, meet-exactly, covers-exactly}
-use Rattle.promises.specs.Prefixes.{FirstDifference, ByFirstDifference, SamePromise, prefix_cases, PrefixTest}
+use Rattle.promises.specs.Prefixes.{FirstDifference, SamePromise, prefix_cases, PrefixTest}
 use Rattle.promises.specs.Cases.{Hold}
 
 -- the test is whether the first n bits agree
