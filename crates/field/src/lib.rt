@@ -18,7 +18,8 @@ pub struct Prefix {
 }
 
 impl Prefix {
-    /// Whether an address lies in the prefix: whether the first bit in which the two differ stands beyond the length.
+    /// Whether an address lies in the prefix: the first bit in which the two differ, if there is one, stands beyond the
+    /// length.
     pub fn contains(self, x: u32) -> bool
         ensures { result ≡ in_prefix address_bits self.address self.length x }
     {

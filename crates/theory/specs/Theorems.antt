@@ -19,6 +19,7 @@
 --   NoneHidden, HiddenAgain                of what stays no row lies inside an earlier one, and all stay once more
 --   HiddenStep                             one row more, asking only the rows that stay
 --   HiddenLess, HiddenEvery                no more rows than before, each with what every row has
+--   Theorems                               all of these that a contract can hold, at any types
 use Rattle.std.specs.Prelude.{ℕ, suc, ◌+◌, ◌*◌, ◌≤◌, ◌<◌, ◌≡◌, Bool, true, false, cond, not, ◌&&◌, List, [], ◌∷◌, ◌++◌, map, ◌↔◌, ltb, get_or, length, take}
 use Rattle.logic.specs.Lists.{All}
 use Rattle.theory.specs.declared.Row.{Row}
