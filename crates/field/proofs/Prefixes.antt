@@ -16,7 +16,7 @@ use Rattle.field.specs.Theorems.{InBoth, SharedAddress, MeetExactly, Contains, C
 use Rattle.logic.specs.Tests.{Joins, Keeps}
 use Rattle.logic.proofs.Tests.{by-test, and_left, and_right, and_both, and-under, same_test}
 
--- numbers that agree in n bits agree in any fewer; all w bits are no fewer than any number of them
+-- numbers that agree in n bits agree in any fewer, and numbers that agree in all w bits agree in any number of them
 pub leading-fewer : (w m n a b : ℕ) → min m w ≤ n → leading w n a ≡ leading w n b → leading w m a ≡ leading w m b
 leading-fewer w m n a b h e =
     let d : ℕ = (w - m) - (w - n) in
@@ -60,7 +60,8 @@ nothing_left w n a h z =
     omega (arith, more, pow-suc 2 (w - n), t.3, low)) in
     omega (arith, t.1)
 
--- THE FIRST BIT IN WHICH TWO NUMBERS DIFFER: x lies in p, n exactly where the bits in which they differ begin with n zeros
+-- THE FIRST BIT IN WHICH TWO NUMBERS DIFFER: x lies in p, n exactly where the bits in which they differ begin with n
+-- zeros, or with w where n is more
 pub zeros-test : (w p n x : ℕ) → p < 2 ^ w → x < 2 ^ w → leb (min n w) (count_leading_zeros w (bit_xor p x)) ≡ in_prefix w p n x
 unfolding in_prefix
 zeros-test w p n x hp hx =

@@ -1,7 +1,8 @@
 -- The prefix test by bit counts, sentence by sentence as it was asked for. It is said of `in_prefix`, which the contract
--- of field's `Prefix::contains` cites for addresses of 32 bits, over addresses of every width.
+-- of field's `Prefix::contains` cites for addresses of 32 bits, over addresses of every width. How a function works is its
+-- body, and no contract fixes that: what is said here is that the count gives the first bit, and what this bit tells.
 --
---   FirstDifference w p x k   p and x differ first in bit k, counted from the top by 0, or k is w and they differ in none
+--   FirstDifference w p x k   p and x differ first in bit k, counted from the top, from 0, or k is w and they differ in none
 --   ByFirstDifference         what that bit tells, and how it is found
 --   SamePromise               what the test promises
 --   prefix_cases              worked cases: prefixes and addresses, and what they give
@@ -22,15 +23,15 @@ pub record ByFirstDifference : Type 0 where
   -- "Have the test work from the first bit in which two addresses differ,": an address lies in a prefix exactly where
   -- that bit stands behind the bits that the length asks for
   pub tells : (w p n x k : ℕ) → FirstDifference w p x k → (in_prefix w p n x ≡ true) ↔ (min n w ≤ k)
-  -- "by the language's own bit counts, with no list of masks.": before that bit are as many as the zeros with which the
-  -- bits that differ begin
+  -- "by the language's own bit counts,": as many bits stand before it as the xor of the two has leading zeros. Of the
+  -- words "with no list of masks" nothing can be said here
   pub counted : (w p x : ℕ) → p < 2 ^ w → x < 2 ^ w → FirstDifference w p x (count_leading_zeros w (bit_xor p x))
 
 -- "Nothing it promises changes."
 pub record SamePromise : Type 0 where
   -- the two agree in their first n bits
   pub holds : (w p n x : ℕ) → (in_prefix w p n x ≡ true) ↔ (leading w n p ≡ leading w n x)
-  -- length 0 holds every address, all w bits hold one, and a length beyond w is w
+  -- length 0 holds every address, length w its own alone, and a length beyond w what length w holds
   pub star : (w p x : ℕ) → p < 2 ^ w → x < 2 ^ w → in_prefix w p 0 x ≡ true
   pub constant : (w p x : ℕ) → (in_prefix w p w x ≡ true) ↔ (p ≡ x)
   pub beyond : (w p n x : ℕ) → w ≤ n → in_prefix w p n x ≡ in_prefix w p w x
@@ -39,10 +40,11 @@ pub record SamePromise : Type 0 where
   pub meet : MeetExactly
   pub cover : CoversExactly
 
--- whether an address lies in the first n bits of another
+-- cases, numbered by their lengths: x lies in p, n
 abbrev pub held : ℕ → ℕ → ℕ → Case
 held p n x = k n (in_prefix address_bits p n x) true
 
+-- and x does not
 abbrev pub outside : ℕ → ℕ → ℕ → Case
 outside p n x = k n (in_prefix address_bits p n x) false
 
