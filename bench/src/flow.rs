@@ -130,7 +130,7 @@ pub fn right_packet(words: &[u32]) -> Option<&Packet> {
 }
 
 fn in_prefix(p: u32, length: u32, x: u32) -> bool {
-    u64::from(p ^ x) >> (ADDRESS_BITS - length.min(ADDRESS_BITS)) == 0
+    length.min(ADDRESS_BITS) <= (p ^ x).leading_zeros()
 }
 
 fn prefixes_meet(a: &Row, b: &Row, at: usize, length: usize) -> bool {
