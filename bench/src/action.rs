@@ -14,16 +14,19 @@ pub type Cells = [u32; CELLS];
 pub const SIBLING: Cells = [1, 2, 4, 2, 2, 2, 3, 2, 5];
 pub const PARENT: Cells = [1, 2, 4, 1, 2, 4, 3, 2, 5];
 
+/// As sibling, but two rates are added up.
+pub const ADDING: Cells = [1, 2, 4, 2, 2, 2, 3, 2, 7];
+
 /// The numbers of the kinds.
 pub const ALLOW: u32 = 1;
 pub const DENY: u32 = 2;
 pub const GMB: u32 = 3;
 
-const MOST_RATE: u32 = 100_000_000;
+pub const MOST_RATE: u32 = 100_000_000;
 
 /// The last code of every cell, and of the cell where both sides are GMBs.
 const LAST_CODE: u32 = 4;
-const LAST_RATE_CODE: u32 = 6;
+const LAST_RATE_CODE: u32 = 7;
 
 #[derive(Clone, Copy, Debug, PartialEq)]
 pub enum Action {
@@ -35,7 +38,7 @@ pub enum Action {
 
 use Action::*;
 
-const SHOWING: [Action; 5] = [Allow, Deny, Gmb(1), Gmb(2), Gmb(3)];
+const SHOWING: [Action; 5] = [Allow, Deny, Gmb(1), Gmb(2), Gmb(4)];
 
 pub fn row_action(row: &Row) -> Action {
     match row[KIND] {
@@ -79,6 +82,7 @@ pub fn join(cells: &Cells, left: Action, right: Action) -> Action {
         4 => right,
         5 => Gmb(m.max(n)),
         6 => Gmb(m.min(n)),
+        7 => Gmb(m.saturating_add(n).min(MOST_RATE)),
         _ => DontCare,
     }
 }

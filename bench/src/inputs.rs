@@ -1,6 +1,6 @@
 //! The inputs: the same in every run.
 
-use crate::action::{self, ALLOW, GMB};
+use crate::action::{self, ALLOW, Cells, GMB, MOST_RATE};
 use crate::flow::{
     DESTINATION, DESTINATION_PORT, FLAGS, IN_PORT, KIND, PACKET_WORDS, PREFIXES, PROTOCOL, Packet, RATE, ROW_WORDS,
     Row, SOURCE, SOURCE_PORT, TCP, UDP, VALUES,
@@ -67,6 +67,12 @@ pub fn overlapping(count: usize) -> Vec<Row> {
     (1..=count as u32).map(|rate| Made::open().action(GMB, rate)).collect()
 }
 
+/// Rows that all overlap, with rates of which most pairs add up to more than the largest.
+pub fn reservations(count: usize) -> Vec<Row> {
+    let share = MOST_RATE / count as u32;
+    (1..=count as u32).map(|i| Made::open().action(GMB, i * share)).collect()
+}
+
 /// The protocols of the mixed rows. A ping has no ports: its rows constrain none.
 const PROTOCOLS: [u32; 3] = [PING, TCP, UDP];
 const PING: u32 = 1;
@@ -116,9 +122,15 @@ pub const PACKET: Packet = {
     packet
 };
 
-/// A policy file: the two named operators, the atoms dealt out to the nodes, and a root with chains of nodes.
+/// A policy file under the two named operators.
 pub fn file(atoms: &[Row], nodes: usize) -> Vec<u32> {
-    let operators = [action::SIBLING, action::PARENT];
+    file_under(action::SIBLING, atoms, nodes)
+}
+
+/// A policy file: this operator inside nodes and between siblings, parent from node to child, the atoms dealt out to
+/// the nodes, and a root with chains of nodes.
+pub fn file_under(sibling: Cells, atoms: &[Row], nodes: usize) -> Vec<u32> {
+    let operators = [sibling, action::PARENT];
     let mut words = HEADER.to_vec();
     words.push(operators.len() as u32);
     words.extend(operators.iter().flatten());

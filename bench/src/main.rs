@@ -53,6 +53,13 @@ fn files() {
         read(&size, &file);
         tree(&size, &file);
     }
+    read("12 that add up, 1 node", &adding());
+    tree("12 that add up, 1 node", &adding());
+}
+
+/// A policy file of reservations that add up.
+fn adding() -> Vec<u32> {
+    inputs::file_under(action::ADDING, &inputs::reservations(12), 1)
 }
 
 fn compiles() {
@@ -67,6 +74,7 @@ fn compiles() {
         );
     }
     compile("12 unconstrained, 2 nodes", &inputs::file(&inputs::overlapping(12), 2));
+    compile("12 that add up, 1 node", &adding());
     for (atoms, nodes) in [(16, 1), (64, 16)] {
         compile(
             &format!("{atoms} mixed, {nodes} nodes"),

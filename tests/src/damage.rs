@@ -7,7 +7,7 @@ use crate::model::edition::{
 };
 use crate::model::fields::{Kind, Packet, KINDS, MOST_PORT, MOST_PROTOCOL};
 use crate::model::matches::WORD_BITS;
-use crate::model::operator::{GIVE_LARGER, GIVE_SMALLER};
+use crate::model::operator::{GIVE_LARGER, GIVE_SMALLER, GIVE_SUM};
 use crate::model::record::{RawRow, EMPTY};
 use crate::policies::Draft;
 use crate::random::Random;
@@ -67,8 +67,9 @@ fn damage_record(random: &mut Random, stock: &Stock, world: &World, draft: &mut 
 }
 
 fn wrong_code(random: &mut Random) -> u32 {
-    let last = GIVE_SMALLER;
-    random.pick(&[0, GIVE_LARGER, last, last + 1, last + 2, 16, u32::MAX])
+    let of_rates = [GIVE_LARGER, GIVE_SMALLER, GIVE_SUM];
+    let beyond = [0, GIVE_SUM + 1, GIVE_SUM + 2, 16, u32::MAX];
+    random.pick(&[&of_rates[..], &beyond].concat())
 }
 
 fn change_by_one(random: &mut Random, word: &mut u32) {

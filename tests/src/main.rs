@@ -15,6 +15,7 @@ mod program;
 mod properties;
 mod random;
 mod stock;
+mod sums;
 mod tables;
 mod tally;
 mod work;
@@ -130,7 +131,8 @@ fn test(program: &Program, options: &Options) -> bool {
     true
 }
 
-/// The model alone: the known cases, the properties and the laws at other rates.
+/// The model alone: the known cases, the properties, how many operators keep the laws,
+/// and these at other rates.
 fn test_model(options: &Options) -> bool {
     let seeds = seeds(options);
     let plan = Plan::without_cases(&seeds);
@@ -138,6 +140,10 @@ fn test_model(options: &Options) -> bool {
     print!("{}", tally.report());
     if let Some(difference) = difference {
         return report(&difference, &options.out);
+    }
+    if let Some(fault) = laws::count_fault() {
+        println!("FAILED: {fault}");
+        return false;
     }
     for seed in seeds {
         if let Some(cells) = laws::unlawful_elsewhere(seed) {

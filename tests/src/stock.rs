@@ -1,8 +1,9 @@
 //! Operators of right codes, sorted by the laws they keep. While they are few
 //! enough all are tried; of more a sample is drawn.
 
+use crate::model::action::GMB;
 use crate::model::edition::Edition;
-use crate::model::operator::{Cells, Law, Operator, GIVE_LEFT, GIVE_RIGHT};
+use crate::model::operator::{Cells, Law, Operator, GIVE_LEFT, GIVE_RIGHT, GIVE_SUM};
 use crate::random::Random;
 
 /// Up to so many operators are tried one by one.
@@ -12,6 +13,8 @@ const SAMPLE_BESIDE: usize = 1_000;
 const SAMPLE_INSTEAD: usize = 60_000;
 /// Symmetric operators that are drawn and sorted in place of all.
 pub const SYMMETRIC: usize = 20_000;
+/// Chance in percent that an operator of a policy is made to add rates.
+const MADE_TO_ADD: usize = 40;
 
 /// How many operators of this edition have only right codes.
 fn count(edition: Edition) -> usize {
@@ -83,14 +86,19 @@ impl Stock {
         }
     }
 
+    /// An operator of right codes; many add rates.
     pub fn any(&self, random: &mut Random) -> Cells {
-        match random.below(10) {
+        let mut cells = match random.below(10) {
             0 | 1 => self.edition.sibling(),
             2 => self.edition.parent(),
             3..=5 => random.pick(&self.lawful),
             6 => random.pick(&self.commutative),
             _ => self.right(random),
+        };
+        if random.percent(MADE_TO_ADD) {
+            cells[self.edition.cell(GMB, GMB)] = GIVE_SUM;
         }
+        cells
     }
 
     /// One of a sample: symmetric, of any right codes, or lawful but for one cell.

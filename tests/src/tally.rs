@@ -11,10 +11,12 @@ use crate::model::edition::{NEWEST, ROW_WORDS};
 use crate::model::numbers::{BROKEN_LAW, LAST, NOT_A_TABLE, RATE_OUTSIDE, WRONG_ROW};
 use crate::model::record::RawRow;
 use crate::ports::{contradictory_atoms, contradicts};
+use crate::sums::{sums_shown, SUMS};
 
 /// Every refusal that can be reached must be met this often; the two of a table
 /// by each function that reads one. So must matches that contradict themselves: in
-/// atoms, in rows by each of these functions, and in rows at each kind of place.
+/// atoms, in rows by each of these functions, and in rows at each kind of place; and
+/// each kind of sums.
 const LEAST: usize = 100;
 const OF_TABLES: [usize; 2] = [NOT_A_TABLE as usize, WRONG_ROW as usize];
 const READ_TABLES: [&str; 3] = ["scan", "number", "hidden"];
@@ -44,6 +46,8 @@ pub struct Tally {
     /// refused, by call and by the kind of their place.
     contradictory_atoms: usize,
     contradictory_rows: [[usize; PLACES.len()]; FUNCTIONS],
+    /// Tree's actions that rest on a sum of this kind.
+    sums: [usize; SUMS.len()],
     pub properties: usize,
 }
 
@@ -72,6 +76,11 @@ impl Tally {
             self.sized[function] += usize::from(size > 0);
             self.largest[function] = self.largest[function].max(size);
             match call {
+                Call::Action { file, packet } => {
+                    for (sums, shown) in self.sums.iter_mut().zip(sums_shown(file, packet)) {
+                        *sums += usize::from(shown);
+                    }
+                }
                 Call::Number { .. } => {
                     self.most_priorities = self.most_priorities.max(answer[PLACED_WORDS]);
                 }
@@ -101,6 +110,9 @@ impl Tally {
         for (law, more) in self.laws.iter_mut().zip(other.laws) {
             *law += more;
         }
+        for (sums, more) in self.sums.iter_mut().zip(other.sums) {
+            *sums += more;
+        }
         self.most_priorities = self.most_priorities.max(other.most_priorities);
         self.stayed += other.stayed;
         self.went += other.went;
@@ -117,7 +129,7 @@ impl Tally {
     }
 
     /// What was met too seldom to say that it was tested: refusals by their numbers,
-    /// and matches that contradict themselves.
+    /// matches that contradict themselves, and sums.
     pub fn too_seldom(&self) -> Vec<String> {
         let all = (1..=NUMBERS).filter(|number| *number != UNREACHABLE);
         let seldom = all.filter(|number| self.met(*number) < LEAST);
@@ -141,6 +153,11 @@ impl Tally {
             let by_function = self.contradictory_rows.iter().map(|places| places[kind]);
             if by_function.sum::<usize>() < LEAST {
                 seldom.push(format!("contradictory rows, {place}"));
+            }
+        }
+        for (kind, sums) in SUMS.iter().zip(&self.sums) {
+            if *sums < LEAST {
+                seldom.push(format!("sums {kind}"));
             }
         }
         seldom
@@ -186,6 +203,11 @@ impl Tally {
                 text += &format!("contradictory rows of {name}:{}\n", times.join(","));
             }
         }
+        let sums = SUMS.iter().zip(&self.sums);
+        let times: Vec<String> = sums
+            .map(|(kind, times)| format!(" {times} {kind}"))
+            .collect();
+        text += &format!("tree's actions that rest on a sum:{}\n", times.join(","));
         text += &format!("{} properties checked\n", self.properties);
         text
     }

@@ -11,6 +11,7 @@ use crate::model::record::RawRow;
 use crate::model::rows::Row;
 use crate::ports::{contradicted, reconciled, WITHOUT_PORTS};
 use crate::random::Random;
+use crate::sums::{lacking, NEAR_THE_CAP};
 
 pub struct World {
     pools: Fields<Vec<u32>>,
@@ -18,6 +19,8 @@ pub struct World {
     rates: Vec<u32>,
     /// Chance in percent that a row constrains a field.
     constrained: usize,
+    /// Chance in percent that an action is a GMB.
+    reserving: usize,
 }
 
 impl World {
@@ -34,6 +37,7 @@ impl World {
             lengths: some_lengths(random),
             rates: some_rates(random),
             constrained: random.pick(&[0, 15, 30, 50, 80]),
+            reserving: some_reserving(random),
         }
     }
 
@@ -52,6 +56,7 @@ impl World {
             lengths: vec![24, 31, 32],
             rates: some_rates(random),
             constrained: random.pick(&[97, 99, 100]),
+            reserving: some_reserving(random),
         }
     }
 
@@ -160,11 +165,13 @@ impl World {
     }
 
     fn action(&self, random: &mut Random) -> Action {
-        match random.below(8) {
+        if random.percent(self.reserving) {
+            return Action::Gmb(random.pick(&self.rates));
+        }
+        match random.below(5) {
             0 => Action::DontCare,
             1 | 2 => Action::Allow,
-            3 | 4 => Action::Deny,
-            _ => Action::Gmb(random.pick(&self.rates)),
+            _ => Action::Deny,
         }
     }
 
@@ -230,8 +237,22 @@ fn some_lengths(random: &mut Random) -> Vec<u32> {
     lengths
 }
 
+/// Actions of all kinds, or nearly all GMBs, so that many rates are joined.
+fn some_reserving(random: &mut Random) -> usize {
+    random.pick(&[35, 95])
+}
+
+/// One rate and what it lacks to the cap, or four and what one and two of them lack. They
+/// are near the cap, small or any.
 fn some_rates(random: &mut Random) -> Vec<u32> {
-    let mut rates = some(random, &[1, 2, 3, 4, 40_000, MOST_RATE - 1, MOST_RATE], 3);
-    rates.push(1 + random.word() % MOST_RATE);
+    let mut drawn = some(random, &NEAR_THE_CAP, 2);
+    drawn.push(random.pick(&[1, 2, 3, 4, 40_000]));
+    drawn.push(1 + random.word() % MOST_RATE);
+    let count = random.pick(&[1, 4]);
+    let mut rates = some(random, &drawn, count);
+    for summed in 1..=count.min(2) {
+        let summed = some(random, &rates[..count], summed);
+        rates.push(lacking(random, &summed));
+    }
     rates
 }

@@ -1,25 +1,29 @@
--- The finite search refuses exactly the operators that break a law, at any rates: what holds along the list carries over by a change of rates.
-use Prim.Native.Nat.{ℕ}
+-- The finite search refuses exactly the operators that break a law, at any rates: what holds along the list carries over by a change of rates, by another one
+-- where the ninth cell adds.
+use Prim.Native.Nat.{ℕ, ◌<◌}
 use native.Mathlib.Omega.{arith}
 use mathlib.Core.Path.{◌≡◌, refl}
 use Rattle.std.specs.Prelude.{Ok, Err}
 use mathlib.Core.Bool.{Bool, true, false}
 use mathlib.Core.List.{List}
-use Rattle.logic.proofs.Tests.{by-test}
+use lib.ListN.{get_or}
+use Rattle.logic.proofs.Tests.{by-test, by_le}
 use Rattle.action.specs.Action.{rate_of, in_range}
-use Rattle.action.specs.Operator.{join}
+use Rattle.action.specs.Operator.{rate_cell, join, RightCodes}
 use Rattle.action.specs.Laws.{◌among◌, Commutative, Associative, same, shown, pairs, triples, commutes, associates, first_pair, first_triple, law_search}
 use Rattle.action.specs.Laws.{Searched, told, Shows}
 use Rattle.action.specs.Theorems.{SearchExact, SearchShows, ShownInRange}
 use Rattle.action.specs.declared.Action.{Action}
-use Rattle.action.specs.declared.Action.TheVariants.{DontCare, Allow, Deny, Gmb}
+use Rattle.action.specs.declared.Action.TheVariants.{DontCare}
 use Rattle.action.specs.declared.LawFailure.{LawFailure}
 use Rattle.action.specs.declared.LawFailure.TheVariants.{Commutativity, Associativity}
 use Rattle.action.proofs.Along.{else-left, else-right, along-ok, ok-along, else-failure, along-failure, all_among}
 use Rattle.action.proofs.Product.{among-product, product-among}
 use Rattle.action.proofs.Joined.{identity}
 use Rattle.action.proofs.Same.{same-eq, eq-same, unequal}
-use Rattle.action.proofs.Rates.{Shown, Spread, spread, shown_of, commutes-rerate, associates-rerate}
+use Rattle.action.proofs.Codes.{adding, by-care, rate-code}
+use Rattle.action.proofs.Rates.{Ninth, Shown, Spread, spread, shown_of, one-shown, two-shown, four-shown, rising-follows, commutes-rerate, associates-rerate}
+use Rattle.action.proofs.Sums.{sums, Summed, summed_of, rated-join, adding-follows, one-two, two-one, two-four, both-four, one-both}
 
 tested : (b : Bool) (f : LawFailure) → told b f ≡ Ok tt → b ≡ true
 tested true f e = refl
@@ -42,41 +46,83 @@ module _ (o : List ℕ) (quiet : law_search o ≡ Ok tt) where
       (along-ok (associates o) triples (else-right (first_pair o) (first_triple o) quiet) (u, (v, w))
       (among-product (u, (v, w)) shown pairs m (among-product (v, w) shown shown n k))))
 
-by-care : {X : Type 0} (a : Action) → (a ≡ DontCare → X) → (¬ (a ≡ DontCare) → X) → X
-by-care DontCare f g = f refl
-by-care Allow f g = g (λ e. let z : ◌≡◌ {A = ℕ} 0 1 = cc in omega arith)
-by-care Deny f g = g (λ e. let z : ◌≡◌ {A = ℕ} 0 1 = cc in omega arith)
-by-care (Gmb n) f g = g (λ e. let z : ◌≡◌ {A = ℕ} 0 1 = cc in omega arith)
+-- the ninth cell adds, or has another code
+by-sum : {X : Type 0} (o : List ℕ) → RightCodes o → (get_or o rate_cell 0 ≡ adding → X) → (get_or o rate_cell 0 < adding → X) → X
+by-sum o r f g =
+    by_le adding (get_or o rate_cell 0)
+    (λ h. let w = rate-code rate_cell (get_or o rate_cell 0) (r.1 rate_cell (omega arith)) (omega (arith, h)) in f (omega (arith, w.1, h)))
+    g
 
--- the search is enough: where nothing is found the laws hold, at all rates
-pub quiet-commutative : (o : List ℕ) → law_search o ≡ Ok tt → (a b : Action) → join o a b ≡ join o b a
-quiet-commutative o quiet a b =
-    by-care a
-    (λ e. rw (e, (identity o b).0, (identity o b).1))
-    (λ na. by-care b
-    (λ e. rw (e, (identity o a).0, (identity o a).1))
-    (λ nb.
-    let s : Spread (rate_of a) (rate_of b) 0 = spread (rate_of a) (rate_of b) 0 in
-    let x : Shown s.f a = shown_of s.f a na s.first in
-    let y : Shown s.f b = shown_of s.f b nb s.second in
-    commutes-rerate s.f s.rising o x.from y.from a b x.becomes y.becomes
-    (commutes-shown o quiet x.from y.from x.listed y.listed)))
+-- THE SEARCH IS ENOUGH: where nothing is found the laws hold, at all rates. Of actions other than don't care by the ninth cell's code
+module _ (o : List ℕ) (r : RightCodes o) (quiet : law_search o ≡ Ok tt) where
+  module _ (x y : Action) (nx : ¬ (x ≡ DontCare)) (ny : ¬ (y ≡ DontCare)) where
+    commutative-sum : get_or o rate_cell 0 ≡ adding → join o x y ≡ join o y x
+    commutative-sum adds =
+        let a = rate_of x in
+        let b = rate_of y in
+        let f : ℕ → ℕ = sums a b 0 in
+        let u : Summed f 1 x = summed_of f 1 x nx one-shown refl in
+        let v : Summed f 2 y = summed_of f 2 y ny two-shown refl in
+        commutes-rerate o r f u.from v.from x y
+        (adding-follows o r adds u.from v.from u.at v.at f (one-two a b 0))
+        (adding-follows o r adds v.from u.from v.at u.at f (two-one a b 0))
+        u.becomes v.becomes
+        (commutes-shown o quiet u.from v.from u.listed v.listed)
 
-pub quiet-associative : (o : List ℕ) → law_search o ≡ Ok tt → (a b c : Action) → join o (join o a b) c ≡ join o a (join o b c)
-quiet-associative o quiet a b c =
-    by-care a
-    (λ e. rw (e, (identity o b).0, (identity o (join o b c)).0))
-    (λ na. by-care b
-    (λ e. rw (e, (identity o a).1, (identity o c).0))
-    (λ nb. by-care c
-    (λ e. rw (e, (identity o b).1, (identity o (join o a b)).1))
-    (λ nc.
-    let s : Spread (rate_of a) (rate_of b) (rate_of c) = spread (rate_of a) (rate_of b) (rate_of c) in
-    let x : Shown s.f a = shown_of s.f a na s.first in
-    let y : Shown s.f b = shown_of s.f b nb s.second in
-    let z : Shown s.f c = shown_of s.f c nc s.third in
-    associates-rerate s.f s.rising o x.from y.from z.from a b c x.becomes y.becomes z.becomes
-    (associates-shown o quiet x.from y.from z.from x.listed y.listed z.listed))))
+    commutative-other : get_or o rate_cell 0 < adding → join o x y ≡ join o y x
+    commutative-other other =
+        let s : Spread (rate_of x) (rate_of y) 0 = spread (rate_of x) (rate_of y) 0 in
+        let u : Shown s.f x = shown_of s.f x nx s.first in
+        let v : Shown s.f y = shown_of s.f y ny s.second in
+        let all : (a b : Action) → Ninth o s.f a b = λ a b m n d e. rising-follows s.f s.rising (get_or o rate_cell 0) m n other in
+        commutes-rerate o r s.f u.from v.from x y (all _ _) (all _ _) u.becomes v.becomes
+        (commutes-shown o quiet u.from v.from u.listed v.listed)
+
+    module _ (z : Action) (nz : ¬ (z ≡ DontCare)) where
+      associative-sum : get_or o rate_cell 0 ≡ adding → join o (join o x y) z ≡ join o x (join o y z)
+      associative-sum adds =
+          let a = rate_of x in
+          let b = rate_of y in
+          let c = rate_of z in
+          let f : ℕ → ℕ = sums a b c in
+          let u : Summed f 1 x = summed_of f 1 x nx one-shown refl in
+          let v : Summed f 2 y = summed_of f 2 y ny two-shown refl in
+          let w : Summed f 4 z = summed_of f 4 z nz four-shown refl in
+          associates-rerate o r f u.from v.from w.from x y z
+          (adding-follows o r adds u.from v.from u.at v.at f (one-two a b c))
+          (adding-follows o r adds (join o u.from v.from) w.from (rated-join o r adds u.from v.from u.at v.at) w.at f (both-four a b c))
+          (adding-follows o r adds v.from w.from v.at w.at f (two-four a b c))
+          (adding-follows o r adds u.from (join o v.from w.from) u.at (rated-join o r adds v.from w.from v.at w.at) f (one-both a b c))
+          u.becomes v.becomes w.becomes
+          (associates-shown o quiet u.from v.from w.from u.listed v.listed w.listed)
+
+      associative-other : get_or o rate_cell 0 < adding → join o (join o x y) z ≡ join o x (join o y z)
+      associative-other other =
+          let s : Spread (rate_of x) (rate_of y) (rate_of z) = spread (rate_of x) (rate_of y) (rate_of z) in
+          let u : Shown s.f x = shown_of s.f x nx s.first in
+          let v : Shown s.f y = shown_of s.f y ny s.second in
+          let w : Shown s.f z = shown_of s.f z nz s.third in
+          let all : (a b : Action) → Ninth o s.f a b = λ a b m n d e. rising-follows s.f s.rising (get_or o rate_cell 0) m n other in
+          associates-rerate o r s.f u.from v.from w.from x y z (all _ _) (all _ _) (all _ _) (all _ _) u.becomes v.becomes w.becomes
+          (associates-shown o quiet u.from v.from w.from u.listed v.listed w.listed)
+
+  pub quiet-commutative : (a b : Action) → join o a b ≡ join o b a
+  quiet-commutative a b =
+      by-care a
+      (λ e. rw (e, (identity o b).0, (identity o b).1))
+      (λ na. by-care b
+      (λ e. rw (e, (identity o a).0, (identity o a).1))
+      (λ nb. by-sum o r (commutative-sum a b na nb) (commutative-other a b na nb)))
+
+  pub quiet-associative : (a b c : Action) → join o (join o a b) c ≡ join o a (join o b c)
+  quiet-associative a b c =
+      by-care a
+      (λ e. rw (e, (identity o b).0, (identity o (join o b c)).0))
+      (λ na. by-care b
+      (λ e. rw (e, (identity o a).1, (identity o c).0))
+      (λ nb. by-care c
+      (λ e. rw (e, (identity o b).1, (identity o (join o a b)).1))
+      (λ nc. by-sum o r (associative-sum a b na nb c nc) (associative-other a b na nb c nc))))
 
 -- and no more than enough: the actions of the list are in range, so where the laws hold there nothing is found
 pub shown-in-range : ShownInRange
@@ -102,10 +148,10 @@ lawful-quiet o commutative associative = rw (ok-along (commutes o) pairs pair) (
         kept _ _ _
         (associative t.0 t.1.0 t.1.1 (shown-in-range _ h.0) (shown-in-range _ k.0) (shown-in-range _ k.1))
 
--- both together, of which neither asks for right codes
+-- both together
 pub search-exact : SearchExact
 search-exact o right = (
-  λ quiet. (λ a b h k. quiet-commutative o quiet a b, λ a b c h k g. quiet-associative o quiet a b c),
+  λ quiet. (λ a b h k. quiet-commutative o right quiet a b, λ a b c h k g. quiet-associative o right quiet a b c),
   λ lawful. lawful-quiet o lawful.0 lawful.1,
 )
 

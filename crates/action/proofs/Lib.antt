@@ -3,6 +3,9 @@ pub mod Joined
 pub mod Along
 pub mod Product
 pub mod Words
+pub mod Codes
 pub mod Rates
+pub mod Sums
 pub mod Same
+pub mod Ranged
 pub mod Exact

@@ -1,22 +1,20 @@
--- Joining follows every change of rates that keeps 0 and the order, and any three rates are such a change of 1, 2 and 3.
-use Prim.Native.Nat.{ℕ, zero, suc, ◌≤◌, min, max}
+-- Joining follows a change of rates wherever the ninth cell does. Where that cell does not add, this is every change that keeps the order, and any three
+-- rates are such a change of 1, 2 and 4.
+use Prim.Native.Nat.{ℕ, zero, suc, ◌≤◌, ◌<◌, min, max}
 use native.Mathlib.Omega.{arith}
-use mathlib.Core.Path.{◌≡◌, refl, sym, ap, ◌∙◌}
+use mathlib.Core.Path.{◌≡◌, refl, ap}
 use mathlib.Core.Bool.{Bool, true, false, cond}
 use mathlib.Core.List.Memᴰ
-use mathlib.Core.List.{List, map}
-use lib.ListN.{get_or, get_or-map}
+use mathlib.Core.List.{List}
+use lib.ListN.{get_or}
 use Rattle.logic.proofs.Tests.{by_le}
 use Rattle.action.specs.Action.{kind_of, is_dont_care, rate_of}
-use Rattle.action.specs.Operator.{cell, codes, coded, join}
+use Rattle.action.specs.Operator.{cell, rate_cell, largest_code, coded, join, RightCodes}
 use Rattle.action.specs.Laws.{◌among◌, shown}
 use Rattle.action.specs.declared.Action.{Action}
 use Rattle.action.specs.declared.Action.TheVariants.{DontCare, Allow, Deny, Gmb}
-
--- a change of rates that keeps 0 and the order
-pub record Rising (f : ℕ → ℕ) : Type 0 where
-  pub keeps : f 0 ≡ 0
-  pub order : (m n : ℕ) → m ≤ n → f m ≤ f n
+use Rattle.action.proofs.Codes.{adding, by-care, by-cell}
+use Rattle.action.proofs.Joined.{identity}
 
 -- an action with its rate changed
 abbrev pub rerate : (ℕ → ℕ) → Action → Action
@@ -31,51 +29,90 @@ kind-rerate f Allow = refl
 kind-rerate f Deny = refl
 kind-rerate f (Gmb n) = refl
 
-module _ (f : ℕ → ℕ) (rising : Rising f) where
-  rate-rerate : (a : Action) → rate_of (rerate f a) ≡ f (rate_of a)
-  rate-rerate DontCare = sym rising.keeps
-  rate-rerate Allow = sym rising.keeps
-  rate-rerate Deny = sym rising.keeps
-  rate-rerate (Gmb n) = refl
+-- what a code gives follows a change of rates
+abbrev pub Follows : (ℕ → ℕ) → ℕ → Action → Action → Type 0
+Follows f c a b = coded c (rerate f a) (rerate f b) ≡ rerate f (coded c a b)
 
-  larger-rerate : (m n : ℕ) → f (max m n) ≡ max (f m) (f n)
-  larger-rerate m n =
-      by_le m n
-      (λ h. let e : max m n ≡ n = omega arith in rw e (omega (arith, rising.order m n h)))
-      (λ h. let e : max m n ≡ m = omega arith in rw e (omega (arith, rising.order n m (omega arith))))
+-- and so does the ninth cell at two actions, if they are GMBs
+abbrev pub Ninth : List ℕ → (ℕ → ℕ) → Action → Action → Type 0
+Ninth o f a b = (m n : ℕ) → a ≡ Gmb m → b ≡ Gmb n → Follows f (get_or o rate_cell 0) (Gmb m) (Gmb n)
 
-  smaller-rerate : (m n : ℕ) → f (min m n) ≡ min (f m) (f n)
-  smaller-rerate m n =
-      by_le m n
-      (λ h. let e : min m n ≡ m = omega arith in rw e (omega (arith, rising.order m n h)))
-      (λ h. let e : min m n ≡ n = omega arith in rw e (omega (arith, rising.order n m (omega arith))))
+-- a plain code gives one of the two whole, or no rate
+plain-follows : (f : ℕ → ℕ) (c : ℕ) (a b : Action) → c ≤ largest_code → Follows f c a b
+unfolding coded
+plain-follows f zero a b h = refl
+plain-follows f (suc zero) a b h = refl
+plain-follows f (suc (suc zero)) a b h = refl
+plain-follows f (suc (suc (suc zero))) a b h = refl
+plain-follows f (suc (suc (suc (suc zero)))) a b h = refl
+plain-follows f (suc (suc (suc (suc (suc c))))) a b h = absurd (omega arith)
 
-  codes-rerate : (a b : Action) → codes (rerate f a) (rerate f b) ≡ map (rerate f) (codes a b)
-  codes-rerate a b = rw (rate-rerate a, rate-rerate b, larger-rerate (rate_of a) (rate_of b), smaller-rerate (rate_of a) (rate_of b))
+module _ (o : List ℕ) (r : RightCodes o) (f : ℕ → ℕ) where
+  cell-follows : (a b : Action) → ¬ (a ≡ DontCare) → ¬ (b ≡ DontCare) → Ninth o f a b → Follows f (get_or o (cell a b) 0) a b
+  cell-follows a b na nb h =
+      by-cell o a b na nb r
+      (plain-follows f (get_or o (cell a b) 0) a b)
+      (λ p q _ _. rw (p, q) (h (rate_of a) (rate_of b) p q))
 
-  coded-rerate : (c : ℕ) (a b : Action) → coded c (rerate f a) (rerate f b) ≡ rerate f (coded c a b)
-  unfolding coded
-  coded-rerate c a b = ap (λ (l : List Action). get_or l c DontCare) (codes-rerate a b) ∙ get_or-map (rerate f) (codes a b) c DontCare
-
-  pub join-rerate : (o : List ℕ) (a b : Action) → join o (rerate f a) (rerate f b) ≡ rerate f (join o a b)
+  pub join-rerate : (a b : Action) → Ninth o f a b → join o (rerate f a) (rerate f b) ≡ rerate f (join o a b)
   unfolding join
-  join-rerate o a b =
-      rw (kind-rerate f a, kind-rerate f b, coded-rerate (get_or o (cell a b) 0) a b)
-      (chosen (is_dont_care a) (is_dont_care b) b a (coded (get_or o (cell a b) 0) a b))
+  join-rerate a b h =
+      by-care a
+      (λ e. rw (e, (identity o b).0, (identity o (rerate f b)).0) refl)
+      (λ na. by-care b
+      (λ e. rw (e, (identity o a).1, (identity o (rerate f a)).1) refl)
+      (λ nb. both na nb))
     where
       chosen : (s t : Bool) (x y z : Action) → cond s (rerate f x) (cond t (rerate f y) (rerate f z)) ≡ rerate f (cond s x (cond t y z))
       chosen true t x y z = refl
       chosen false true x y z = refl
       chosen false false x y z = refl
 
-  -- so a law that holds at some actions holds at the changed ones
-  pub commutes-rerate : (o : List ℕ) (u v a b : Action) → rerate f u ≡ a → rerate f v ≡ b → join o u v ≡ join o v u → join o a b ≡ join o b a
-  commutes-rerate o u v a b p q e = cc (join-rerate o u v, join-rerate o v u)
+      both : ¬ (a ≡ DontCare) → ¬ (b ≡ DontCare) → join o (rerate f a) (rerate f b) ≡ rerate f (join o a b)
+      both na nb =
+          rw (kind-rerate f a, kind-rerate f b, cell-follows a b na nb h)
+          (chosen (is_dont_care a) (is_dont_care b) b a (coded (get_or o (cell a b) 0) a b))
 
-  pub associates-rerate : (o : List ℕ) (u v w a b c : Action) → rerate f u ≡ a → rerate f v ≡ b → rerate f w ≡ c
+  -- so a law that holds at some actions holds at the changed ones
+  pub commutes-rerate : (u v a b : Action) → Ninth o f u v → Ninth o f v u → rerate f u ≡ a → rerate f v ≡ b
+      → join o u v ≡ join o v u → join o a b ≡ join o b a
+  commutes-rerate u v a b h k p q e = cc (join-rerate u v h, join-rerate v u k)
+
+  pub associates-rerate : (u v w a b c : Action)
+      → Ninth o f u v → Ninth o f (join o u v) w → Ninth o f v w → Ninth o f u (join o v w)
+      → rerate f u ≡ a → rerate f v ≡ b → rerate f w ≡ c
       → join o (join o u v) w ≡ join o u (join o v w) → join o (join o a b) c ≡ join o a (join o b c)
-  associates-rerate o u v w a b c p q r e =
-      cc (join-rerate o u v, join-rerate o (join o u v) w, join-rerate o v w, join-rerate o u (join o v w))
+  associates-rerate u v w a b c h i j k p q s e =
+      cc (join-rerate u v h, join-rerate (join o u v) w i, join-rerate v w j, join-rerate u (join o v w) k)
+
+-- a change of rates that keeps the order
+pub record Rising (f : ℕ → ℕ) : Type 0 where
+  pub order : (m n : ℕ) → m ≤ n → f m ≤ f n
+
+module _ (f : ℕ → ℕ) (rising : Rising f) where
+  larger-rerate : (m n : ℕ) → max (f m) (f n) ≡ f (max m n)
+  larger-rerate m n =
+      by_le m n
+      (λ h. let e : max m n ≡ n = omega arith in rw e (omega (arith, rising.order m n h)))
+      (λ h. let e : max m n ≡ m = omega arith in rw e (omega (arith, rising.order n m (omega arith))))
+
+  smaller-rerate : (m n : ℕ) → min (f m) (f n) ≡ f (min m n)
+  smaller-rerate m n =
+      by_le m n
+      (λ h. let e : min m n ≡ m = omega arith in rw e (omega (arith, rising.order m n h)))
+      (λ h. let e : min m n ≡ n = omega arith in rw e (omega (arith, rising.order n m (omega arith))))
+
+  -- a code that does not add follows such a change at all rates
+  pub rising-follows : (c m n : ℕ) → c < adding → Follows f c (Gmb m) (Gmb n)
+  unfolding coded
+  rising-follows zero m n h = refl
+  rising-follows (suc zero) m n h = refl
+  rising-follows (suc (suc zero)) m n h = refl
+  rising-follows (suc (suc (suc zero))) m n h = refl
+  rising-follows (suc (suc (suc (suc zero)))) m n h = refl
+  rising-follows (suc (suc (suc (suc (suc zero))))) m n h = ap Gmb (larger-rerate m n)
+  rising-follows (suc (suc (suc (suc (suc (suc zero)))))) m n h = ap Gmb (smaller-rerate m n)
+  rising-follows (suc (suc (suc (suc (suc (suc (suc c))))))) m n h = absurd (omega arith)
 
 -- an action of the list that a change of rates takes to x
 pub record Shown (f : ℕ → ℕ) (x : Action) : Type 0 where
@@ -96,7 +133,7 @@ shown_of f Allow h s = record { from = Allow; listed = Memᴰ.head refl; becomes
 shown_of f Deny h s = record { from = Deny; listed = Memᴰ.tail (Memᴰ.head refl); becomes = refl }
 shown_of f (Gmb n) h s = record { from = Gmb s.from; listed = s.listed; becomes = ap Gmb s.becomes }
 
--- 1, 2 and 3 taken to three rates
+-- 1, 2 and 4 taken to three rates
 abbrev stairs : ℕ → ℕ → ℕ → ℕ → ℕ
 stairs p q r zero = 0
 stairs p q r (suc zero) = p
@@ -112,7 +149,7 @@ climbs f step m (suc n) h =
     (λ g. let e : m ≡ suc n = omega arith in rw e (omega arith))
 
 stairs-rise : (p q r : ℕ) → p ≤ q → q ≤ r → Rising (stairs p q r)
-stairs-rise p q r h k = record { keeps = refl; order = climbs (stairs p q r) step }
+stairs-rise p q r h k = record { order = climbs (stairs p q r) step }
   where
     step : (n : ℕ) → stairs p q r n ≤ stairs p q r (suc n)
     step zero = omega arith
@@ -128,18 +165,27 @@ pub record Spread (a b c : ℕ) : Type 0 where
   pub second : Reached f b
   pub third : Reached f c
 
+pub one-shown : Gmb 1 among shown
+unfolding shown
+one-shown = Memᴰ.tail (Memᴰ.tail (Memᴰ.head refl))
+
+pub two-shown : Gmb 2 among shown
+unfolding shown
+two-shown = Memᴰ.tail (Memᴰ.tail (Memᴰ.tail (Memᴰ.head refl)))
+
+pub four-shown : Gmb 4 among shown
+unfolding shown
+four-shown = Memᴰ.tail (Memᴰ.tail (Memᴰ.tail (Memᴰ.tail (Memᴰ.head refl))))
+
 module _ (p q r : ℕ) where
   low : Reached (stairs p q r) p
-  unfolding shown
-  low = record { from = 1; listed = Memᴰ.tail (Memᴰ.tail (Memᴰ.head refl)); becomes = refl }
+  low = record { from = 1; listed = one-shown; becomes = refl }
 
   mid : Reached (stairs p q r) q
-  unfolding shown
-  mid = record { from = 2; listed = Memᴰ.tail (Memᴰ.tail (Memᴰ.tail (Memᴰ.head refl))); becomes = refl }
+  mid = record { from = 2; listed = two-shown; becomes = refl }
 
   high : Reached (stairs p q r) r
-  unfolding shown
-  high = record { from = 3; listed = Memᴰ.tail (Memᴰ.tail (Memᴰ.tail (Memᴰ.tail (Memᴰ.head refl)))); becomes = refl }
+  high = record { from = 4; listed = four-shown; becomes = refl }
 
 -- there is one for any three rates: they stand in one of six orders
 pub spread : (a b c : ℕ) → Spread a b c

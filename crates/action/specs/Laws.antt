@@ -66,7 +66,7 @@ associates o t =
 
 -- the showing actions
 unfoldable pub shown : List Action
-shown = Allow ∷ Deny ∷ Gmb 1 ∷ Gmb 2 ∷ Gmb 3 ∷ []
+shown = Allow ∷ Deny ∷ Gmb 1 ∷ Gmb 2 ∷ Gmb 4 ∷ []
 
 -- each entry of one list with each of another, the first slowest
 abbrev pub product : {X Y : Type 0} → List X → List Y → List (X × Y)

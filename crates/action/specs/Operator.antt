@@ -4,6 +4,7 @@
 --   kinds, cell_count   the kinds that have cells, and the cells
 --   cells_of ws         the operator whose cells the first of some words are, by words_from i n ws
 --   cell a b            the cell of two actions
+--   added m n           two rates added up, but no more than the largest rate
 --   coded c a b         what the code c gives for two actions, by the list codes a b
 --   join o a b          two actions joined
 --   sibling, parent     the two operators supplied by name
@@ -12,7 +13,7 @@
 --   right_cell i c      a code that is right in the cell i
 --   RightCodes o        an operator with right codes
 use Rattle.std.specs.Prelude.{ℕ, zero, suc, ◌+◌, ◌-◌, ◌*◌, ◌<◌, max, min, ◌≡◌, Bool, true, cond, ◌&&◌, List, [], ◌∷◌, length, get_or, eqb, leb, ltb}
-use Rattle.action.specs.Action.{kind_of, rate_of, is_dont_care, gmb}
+use Rattle.action.specs.Action.{kind_of, rate_of, is_dont_care, gmb, largest_rate}
 use Rattle.action.specs.declared.Action.{Action}
 use Rattle.action.specs.declared.Action.TheVariants.{DontCare, Allow, Deny, Gmb}
 
@@ -37,10 +38,23 @@ cells_of ws = words_from 0 cell_count ws
 abbrev pub cell : Action → Action → ℕ
 cell a b = (kind_of a - 1) * kinds + (kind_of b - 1)
 
+-- two rates added up, but no more than the largest rate
+abbrev pub added : ℕ → ℕ → ℕ
+added m n = min (m + n) largest_rate
+
 -- what each code gives, by its number: 1 Allow, 2 Deny, 3 the left action, 4 the right, 5 the larger rate, 6 the
--- smaller
+-- smaller, 7 the rates added up
 abbrev pub codes : Action → Action → List Action
-codes a b = DontCare ∷ Allow ∷ Deny ∷ a ∷ b ∷ Gmb (max (rate_of a) (rate_of b)) ∷ Gmb (min (rate_of a) (rate_of b)) ∷ []
+codes a b =
+    DontCare
+    ∷ Allow
+    ∷ Deny
+    ∷ a
+    ∷ b
+    ∷ Gmb (max (rate_of a) (rate_of b))
+    ∷ Gmb (min (rate_of a) (rate_of b))
+    ∷ Gmb (added (rate_of a) (rate_of b))
+    ∷ []
 
 -- what a code gives; an unknown one gives don't care
 unfoldable pub coded : ℕ → Action → Action → Action
@@ -69,7 +83,7 @@ largest_code = 4
 
 -- the largest code that is right in the ninth
 abbrev pub largest_rate_code : ℕ
-largest_rate_code = 6
+largest_rate_code = 7
 
 -- the cells in which both actions have a rate, each with the largest code that is right there
 abbrev pub rate_cells : List (ℕ × ℕ)
@@ -80,7 +94,7 @@ abbrev pub largest_in : List (ℕ × ℕ) → ℕ → ℕ
 largest_in [] i = largest_code
 largest_in (r ∷ rs) i = cond (eqb i r.0) r.1 (largest_in rs i)
 
--- codes 1 to 4 are right in every cell, 5 and 6 only in the ninth
+-- codes 1 to 4 are right in every cell, 5 to 7 only in the ninth
 unfoldable pub right_cell : ℕ → ℕ → Bool
 right_cell i c = (ltb i cell_count && leb 1 c) && leb c (largest_in rate_cells i)
 

@@ -3,6 +3,7 @@
 --   SearchExact        the search finds nothing exactly where both laws hold over all actions in range
 --   SearchShows        the actions that it names come from the list and break the law that it names
 --   ShownInRange       the actions of the list are in range
+--   JoinInRange        joining actions in range never makes one outside it
 --   Identity           don't care is the identity of every operator, on both sides
 --   ActionOfWords      an action is what its two words say
 --   WordsOfAction      two right words are the words of the action that they say
@@ -26,6 +27,11 @@ SearchShows = (o : List ℕ) (f : LawFailure) → law_search o ≡ Err f → Sho
 -- the actions of the list are in range
 abbrev pub ShownInRange : Type 0
 ShownInRange = (a : Action) → a among shown → in_range a ≡ true
+
+-- joining actions in range under right codes never makes one outside it
+abbrev pub JoinInRange : Type 0
+JoinInRange =
+    (o : List ℕ) → RightCodes o → (a b : Action) → in_range a ≡ true → in_range b ≡ true → in_range (join o a b) ≡ true
 
 -- don't care is the identity of every operator, whatever its codes
 abbrev pub Identity : Type 0

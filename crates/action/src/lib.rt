@@ -36,8 +36,9 @@ const KINDS: u32 = GMB;
 // The ninth cell, in which both actions have a rate.
 const RATE_CELL: usize = CELLS - 1;
 
-// What a cell's code gives: an action of its own, one of the two that meet, or a GMB of the larger or the smaller rate.
-// Codes are numbers: a word that is no code counts as don't care, and still is a word of the operator.
+// What a cell's code gives: an action of its own, one of the two that meet, or a GMB of the larger rate, the smaller or
+// the sum of the two, which is capped. Codes are numbers: a word that is no code counts as don't care, and still is a
+// word of the operator.
 const GIVES_ALLOW: u32 = 1;
 
 const GIVES_DENY: u32 = 2;
@@ -50,11 +51,13 @@ const GIVES_LARGER: u32 = 5;
 
 const GIVES_SMALLER: u32 = 6;
 
+const GIVES_SUM: u32 = 7;
+
 // The largest code that is right in every cell.
 const LARGEST_CODE: u32 = GIVES_RIGHT;
 
 // The largest code that is right in the ninth cell.
-const LARGEST_RATE_CODE: u32 = GIVES_SMALLER;
+const LARGEST_RATE_CODE: u32 = GIVES_SUM;
 
 // The actions that the search takes, in list order.
 static SAMPLES: [Action; 5] = [
@@ -62,7 +65,7 @@ static SAMPLES: [Action; 5] = [
     Action::Deny,
     Action::Gmb(1),
     Action::Gmb(2),
-    Action::Gmb(3),
+    Action::Gmb(4),
 ];
 
 /// The words of an action: its kind and its rate.
@@ -313,6 +316,7 @@ fn coded(code: u32, left: Action, right: Action) -> Action
         GIVES_RIGHT => right,
         GIVES_LARGER => Action::Gmb(m.max(n)),
         GIVES_SMALLER => Action::Gmb(m.min(n)),
+        GIVES_SUM => Action::Gmb(m.saturating_add(n).min(LARGEST_RATE)),
         _ => Action::DONT_CARE,
     }
 }

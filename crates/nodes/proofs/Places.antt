@@ -79,7 +79,7 @@ atoms-from f from n e =
     none (suc k) = refl
 
 -- a word of a record is a word of the list
-record-at : (n k : ℕ) (ws : List ℕ) (i j : ℕ) → i < n → j < k → get_or (get_or (records n k ws) i []) j 0 ≡ get_or ws (k * i + j) 0
+pub record-at : (n k : ℕ) (ws : List ℕ) (i j : ℕ) → i < n → j < k → get_or (get_or (records n k ws) i []) j 0 ≡ get_or ws (k * i + j) 0
 record-at zero k ws i j h l = absurd (omega arith)
 record-at (suc n) k ws zero j h l = let e : k * 0 + j ≡ j = omega arith in rw e (get_or-take k ws j 0 l)
 record-at (suc n) k ws (suc i) j h l =

@@ -79,13 +79,13 @@ file_cases =
     ∷ k 2 (fault (read_of (one_operator ++ (1025 ∷ [])))) (2, 10)
     ∷ k 2 (fault (read_of (no_atoms ++ (0 ∷ [])))) (2, 11)
     ∷ k 2 (fault (read_of (no_atoms ++ (257 ∷ [])))) (2, 11)
-    -- 3: the cell's word: codes 1..4, in the ninth cell 1..6
+    -- 3: the cell's word: codes 1..4, in the ninth cell 1..7
     ∷ k 3 (fault (read_of (celled 0 2 4 2 2 2 3 2 5))) (3, 1)
     ∷ k 3 (fault (read_of (celled 5 2 4 2 2 2 3 2 5))) (3, 1)
     ∷ k 3 (fault (read_of (celled 1 2 4 2 2 2 3 6 5))) (3, 8)
     ∷ k 3 (fault (read_of (celled 1 2 4 2 2 2 3 2 0))) (3, 9)
-    ∷ k 3 (fault (read_of (celled 1 2 4 2 2 2 3 2 7))) (3, 9)
-    ∷ k 0 (fault (read_of (celled 1 2 4 2 2 2 3 2 6))) (0, 0)
+    ∷ k 3 (fault (read_of (celled 1 2 4 2 2 2 3 2 8))) (3, 9)
+    ∷ k 0 (fault (read_of (celled 1 2 4 2 2 2 3 2 7))) (0, 0)
     ∷ k 3 (fault (read_of ((2 ∷ sibling) ++ (0 ∷ sibling)))) (3, 10)
     -- 4 and 5: the atom's first word; of one atom the match is tested first, of two the first atom
     ∷ k 4 (fault (read_of (atoms 1 (atom 32 1 0)))) (4, 11)

@@ -164,8 +164,8 @@ pub record Numbers : Type 0 where
   pub codes :
       let l : Action = Gmb 10 in
       let r : Action = Gmb 30 in
-      (coded 1 l r ∷ coded 2 l r ∷ coded 3 l r ∷ coded 4 l r ∷ coded 5 l r ∷ coded 6 l r ∷ coded 5 r l ∷ coded 6 r l ∷ [])
-      ≡ Allow ∷ Deny ∷ l ∷ r ∷ r ∷ l ∷ r ∷ l ∷ []
+      (coded 1 l r ∷ coded 2 l r ∷ coded 3 l r ∷ coded 4 l r ∷ coded 5 l r ∷ coded 6 l r ∷ coded 5 r l ∷ coded 6 r l ∷ coded 7 l r ∷ coded 7 r l ∷ [])
+      ≡ Allow ∷ Deny ∷ l ∷ r ∷ r ∷ l ∷ r ∷ l ∷ Gmb 40 ∷ Gmb 40 ∷ []
   pub identity : (o : List ℕ) (n : ℕ)
       → (map (join o DontCare) (DontCare ∷ Allow ∷ Deny ∷ Gmb n ∷ []) ≡ DontCare ∷ Allow ∷ Deny ∷ Gmb n ∷ [])
       × (map (λ a. join o a DontCare) (Allow ∷ Deny ∷ Gmb n ∷ []) ≡ Allow ∷ Deny ∷ Gmb n ∷ [])
@@ -174,7 +174,7 @@ pub record Numbers : Type 0 where
       (sibling ≡ 1 ∷ 2 ∷ 4 ∷ 2 ∷ 2 ∷ 2 ∷ 3 ∷ 2 ∷ 5 ∷ []) × (parent ≡ 1 ∷ 2 ∷ 4 ∷ 1 ∷ 2 ∷ 4 ∷ 3 ∷ 2 ∷ 5 ∷ [])
   pub failures : (a b c : Action)
       → (actions_of (Commutativity a b) ≡ a ∷ b ∷ DontCare ∷ []) × (actions_of (Associativity a b c) ≡ a ∷ b ∷ c ∷ [])
-  pub showing : shown ≡ Allow ∷ Deny ∷ Gmb 1 ∷ Gmb 2 ∷ Gmb 3 ∷ []
+  pub showing : shown ≡ Allow ∷ Deny ∷ Gmb 1 ∷ Gmb 2 ∷ Gmb 4 ∷ []
   -- what a refusal tells, and a success
   pub told : (why : Reason) (at : ℕ)
       → let x : Result ℕ Refusal = Err (refusal_at why at) in

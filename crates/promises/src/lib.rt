@@ -6,6 +6,7 @@ ghost use Rattle.promises.specs.Demands.{Demand1, Demand2, Demand3, SwitchObeysT
 ghost use Rattle.promises.specs.Hidden.{HiddenRows};
 ghost use Rattle.promises.specs.Ports.{PortsOnly};
 ghost use Rattle.promises.specs.Prefixes.{PrefixTest};
+ghost use Rattle.promises.specs.Reservations.{ReservationsAddUp};
 ghost use Rattle.promises.specs.Prints.{EveryListing};
 ghost use Rattle.promises.specs.Cases.{WorkedCases};
 ghost use Rattle.promises.specs.Held.{Numbers, Premises, RestsOn};
@@ -53,6 +54,11 @@ pub fn ports_only()
 /// The prefix test by bit counts.
 pub fn prefix_test()
     ensures { PrefixTest }
+{}
+
+/// Reservations that add up.
+pub fn reservations_add_up()
+    ensures { ReservationsAddUp }
 {}
 
 /// Every input has its listing.

@@ -3,16 +3,19 @@
 mod hidden;
 mod limits;
 mod ports;
+mod sums;
 mod worked;
 
-use crate::calls::{words_of_bytes, Call, PLACED_WORDS, REFUSAL_WORDS};
+use crate::calls::{words_of_bytes, Call, PLACED_WORDS, READ_COUNTS, REFUSAL_WORDS};
 use crate::model::action::Action;
-use crate::model::edition::{Edition, NEWEST};
+use crate::model::edition::{Edition, NEWEST, ROW_WORDS};
 use crate::model::fields::Packet;
 use crate::model::matches::{Match, Prefix};
+use crate::model::numbers::BROKEN_LAW;
 use crate::model::operator::Cells;
 use crate::model::record::{Node, RawRow};
 use crate::policies::Draft;
+use crate::tables::table_words;
 
 pub struct Known {
     pub name: &'static str,
@@ -25,6 +28,7 @@ pub fn known() -> Vec<Known> {
     cases.extend(limits::cases());
     cases.extend(hidden::cases());
     cases.extend(ports::cases());
+    cases.extend(sums::cases());
     cases
 }
 
@@ -43,6 +47,17 @@ fn refused(number: u32, place: u32, value_words: usize) -> Vec<u32> {
     [&[number, place][..], &vec![0; zeros]].concat()
 }
 
+/// An operator that is refused on reading: the law that it breaks, and what shows it.
+fn broken(operator: u32, law: u32, actions: [Action; 3]) -> Vec<u32> {
+    let actions = actions.map(Action::words).concat();
+    [
+        &[BROKEN_LAW, operator, law][..],
+        &actions,
+        &[0; READ_COUNTS],
+    ]
+    .concat()
+}
+
 /// The tree's action for a packet.
 fn action(name: &'static str, file: Vec<u32>, packet: Packet, action: Action) -> Known {
     let packet = packet.words(NEWEST);
@@ -51,6 +66,20 @@ fn action(name: &'static str, file: Vec<u32>, packet: Packet, action: Action) ->
         Call::Action { file, packet },
         success(&action.words()),
     )
+}
+
+/// A compile with one row more of room than the rows need.
+fn compile(name: &'static str, file: Vec<u32>, rows: &[RawRow]) -> Known {
+    let room = ROW_WORDS * (rows.len() + 1);
+    let mut table = table_words(rows);
+    table.resize(room, 0);
+    let answer = [&[rows.len() as u32][..], &table, &vec![0; room]].concat();
+    let call = Call::Compile {
+        file,
+        table: vec![9; room],
+        scratch: vec![8; room],
+    };
+    case(name, call, success(&answer))
 }
 
 /// A node with these operators: inner and sibling the first, parent the second or the first.

@@ -1,7 +1,9 @@
 //! Known cases of ports, which packets of protocols 6 and 17 have and no others.
 
 use super::hidden::pass;
-use super::{action, case, chain_of_nodes, listing, one_node, open, refused, success, Known};
+use super::{
+    action, case, chain_of_nodes, compile, listing, one_node, open, refused, success, Known,
+};
 use crate::calls::{to_bytes, Call, READ_COUNTS};
 use crate::model::action::Action::{self, Allow, Deny, DontCare};
 use crate::model::action::ACTION_WORDS;
@@ -107,20 +109,6 @@ fn scan(name: &'static str, rows: &[RawRow], packet: Packet, found: (Action, u32
         packet: packet.words(NEWEST),
     };
     case(name, call, vec![0, 0, kind, rate, tried])
-}
-
-/// A compile with one row more of room than the rows need.
-fn compile(name: &'static str, file: Vec<u32>, rows: &[RawRow]) -> Known {
-    let room = ROW_WORDS * (rows.len() + 1);
-    let mut table = table_words(rows);
-    table.resize(room, 0);
-    let answer = [&[rows.len() as u32][..], &table, &vec![0; room]].concat();
-    let call = Call::Compile {
-        file,
-        table: vec![9; room],
-        scratch: vec![8; room],
-    };
-    case(name, call, success(&answer))
 }
 
 /// A numbering in buffers of a word more than there are rows.

@@ -1,12 +1,14 @@
 //! The worked cases of the scope.
 
-use super::{action, case, chain_of_nodes, listing, one_node, open, refused, success, to, Known};
+use super::{
+    action, broken, case, chain_of_nodes, listing, one_node, open, refused, success, to, Known,
+};
 use crate::calls::{to_bytes, Call, READ_COUNTS};
 use crate::model::action::Action::{self, Allow, Deny, DontCare, Gmb};
 use crate::model::edition::{Edition, NEWEST, ROW_WORDS};
 use crate::model::fields::Packet;
 use crate::model::matches::{Match, Prefix};
-use crate::model::numbers::{BROKEN_LAW, ENDS_EARLY};
+use crate::model::numbers::ENDS_EARLY;
 use crate::model::record::RawRow;
 use crate::policies::Draft;
 use crate::tables::table_words;
@@ -228,10 +230,6 @@ fn laws() -> Vec<Known> {
     inside.nodes[0].inner = 1;
     let inside = inside.words();
     let unlawful = chain_of_nodes(NEWEST, &[UNLAWFUL.to_vec()], &[&[]]).words();
-    let broken = |place, law, actions: [Action; 3]| {
-        let actions = actions.map(Action::words).concat();
-        [&[BROKEN_LAW, place, law][..], &actions, &[0; READ_COUNTS]].concat()
-    };
     let listed = to_bytes(&inside);
     let (k10, k11) = (Call::Read { file: inside }, Call::Read { file: unlawful });
     vec![

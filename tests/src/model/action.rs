@@ -6,6 +6,7 @@ use super::Wrong;
 /// Kind and rate.
 pub const ACTION_WORDS: usize = 2;
 
+/// The largest rate, which no sum goes beyond: the cap.
 pub const MOST_RATE: u32 = 100_000_000;
 
 /// The numbers of the kinds.

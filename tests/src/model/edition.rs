@@ -7,7 +7,7 @@ use std::ops::RangeInclusive;
 use super::action::Action::{self, Allow, Deny, Gmb};
 use super::action::{ACTION_WORDS, GMB};
 use super::fields::{Fields, Kind, FIELD_COUNT, KINDS};
-use super::operator::{Cells, GIVE_ALLOW, GIVE_RIGHT, GIVE_SMALLER};
+use super::operator::{Cells, GIVE_ALLOW, GIVE_RIGHT, GIVE_SUM};
 
 #[derive(Clone, Copy, PartialEq, Eq, Debug)]
 pub enum Edition {
@@ -88,7 +88,7 @@ impl Edition {
     /// The codes that may stand in a cell.
     pub fn codes(self, cell: usize) -> RangeInclusive<u32> {
         match self {
-            Edition::First if cell == self.cell(GMB, GMB) => GIVE_ALLOW..=GIVE_SMALLER,
+            Edition::First if cell == self.cell(GMB, GMB) => GIVE_ALLOW..=GIVE_SUM,
             Edition::First => GIVE_ALLOW..=GIVE_RIGHT,
         }
     }
@@ -96,7 +96,7 @@ impl Edition {
     /// The actions that failures of a law are looked for in.
     pub fn showing(self) -> &'static [Action] {
         match self {
-            Edition::First => &[Allow, Deny, Gmb(1), Gmb(2), Gmb(3)],
+            Edition::First => &[Allow, Deny, Gmb(1), Gmb(2), Gmb(4)],
         }
     }
 

@@ -1,15 +1,17 @@
 //! Operators and their laws.
 
-use super::action::Action::{self, Allow, Deny, DontCare};
+use super::action::Action::{self, Allow, Deny, DontCare, Gmb};
+use super::action::{GMB, MOST_RATE};
 use super::edition::Edition;
 
-/// The codes of cells, by what they give. The last two are of rates.
+/// The codes of cells, by what they give. The last three are of rates.
 pub const GIVE_ALLOW: u32 = 1;
 pub const GIVE_DENY: u32 = 2;
 pub const GIVE_LEFT: u32 = 3;
 pub const GIVE_RIGHT: u32 = 4;
 pub const GIVE_LARGER: u32 = 5;
 pub const GIVE_SMALLER: u32 = 6;
+pub const GIVE_SUM: u32 = 7;
 
 /// The codes of an operator's cells, the left action's kind slowest.
 pub type Cells = Vec<u32>;
@@ -47,6 +49,9 @@ impl Operator {
         if right == DontCare {
             return left;
         }
+        if let Some(sum) = self.uncut_sum(left, right) {
+            return Gmb(sum.min(u64::from(MOST_RATE)) as u32);
+        }
         let ([kind, rate], [other_kind, other_rate]) = (left.words(), right.words());
         match self.cells[self.edition.cell(kind, other_kind)] {
             GIVE_ALLOW => Allow,
@@ -57,6 +62,15 @@ impl Operator {
             GIVE_SMALLER => left.with_rate(rate.min(other_rate)),
             code => unreachable!("cell code {code} was let through"),
         }
+    }
+
+    /// The sum of two rates where the cell gives it, not cut off at the cap.
+    pub fn uncut_sum(&self, left: Action, right: Action) -> Option<u64> {
+        let (Gmb(rate), Gmb(other_rate)) = (left, right) else {
+            return None;
+        };
+        let sums = self.cells[self.edition.cell(GMB, GMB)] == GIVE_SUM;
+        sums.then_some(u64::from(rate) + u64::from(other_rate))
     }
 
     /// The first failure: all pairs for commutativity, then all triples for associativity.

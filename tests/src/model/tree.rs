@@ -21,17 +21,27 @@ impl Tree {
     }
 
     pub fn action(&self, packet: &Packet) -> Action {
+        self.folded(packet, &mut Operator::join)
+    }
+
+    /// The tree's action, each two actions joined by this function.
+    pub fn folded(
+        &self,
+        packet: &Packet,
+        join: &mut impl FnMut(&Operator, Action, Action) -> Action,
+    ) -> Action {
         let mut own = Action::DontCare;
         for atom in self.atoms.iter().rev() {
             if atom.matching.is_some_and(|m| m.meets(packet)) {
-                own = self.inner.join(atom.action, own);
+                own = join(&self.inner, atom.action, own);
             }
         }
         let mut below = Action::DontCare;
         for child in self.children.iter().rev() {
-            below = self.sibling.join(child.action(packet), below);
+            let action = child.folded(packet, join);
+            below = join(&self.sibling, action, below);
         }
-        self.parent.join(own, below)
+        join(&self.parent, own, below)
     }
 }
 
