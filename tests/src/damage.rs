@@ -68,8 +68,8 @@ fn damage_record(random: &mut Random, stock: &Stock, world: &World, draft: &mut 
 
 fn wrong_code(random: &mut Random) -> u32 {
     let of_rates = [GIVE_LARGER, GIVE_SMALLER, GIVE_SUM];
-    let beyond = [0, GIVE_SUM + 1, GIVE_SUM + 2, 16, u32::MAX];
-    random.pick(&[&of_rates[..], &beyond].concat())
+    let others = [0, GIVE_SUM + 1, GIVE_SUM + 2, 16, u32::MAX];
+    random.pick(&[&of_rates[..], &others].concat())
 }
 
 fn change_by_one(random: &mut Random, word: &mut u32) {

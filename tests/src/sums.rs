@@ -18,7 +18,7 @@ pub const NEAR_THE_CAP: [u32; 7] = [1, 2, HALF - 1, HALF, HALF + 1, MOST_RATE - 
 /// Kinds of sums, by how they lie to the cap.
 pub const SUMS: [&str; 3] = ["below the cap", "exactly at it", "cut off at it"];
 /// Up to so many sums of a tree's action are tried.
-const MOST_TRIED: usize = 16;
+const MOST_SUMS: usize = 16;
 
 /// What these rates lack to the cap, or half the time a rate next to it.
 pub fn lacking(random: &mut Random, rates: &[u32]) -> u32 {
@@ -41,7 +41,7 @@ pub fn sums_shown(file: &[u32], packet: &[u32]) -> [bool; SUMS.len()] {
         sums.extend(operator.uncut_sum(left, right));
         operator.join(left, right)
     });
-    for (place, sum) in sums.iter().enumerate().rev().take(MOST_TRIED) {
+    for (place, sum) in sums.iter().enumerate().rev().take(MOST_SUMS) {
         let (kind, other) = match sum.cmp(&u64::from(MOST_RATE)) {
             Ordering::Less => (0, sum - 1),
             Ordering::Equal => (1, sum - 1),

@@ -250,8 +250,8 @@ fn some_rates(random: &mut Random) -> Vec<u32> {
     drawn.push(1 + random.word() % MOST_RATE);
     let count = random.pick(&[1, 4]);
     let mut rates = some(random, &drawn, count);
-    for summed in 1..=count.min(2) {
-        let summed = some(random, &rates[..count], summed);
+    for terms in 1..=count.min(2) {
+        let summed = some(random, &rates[..count], terms);
         rates.push(lacking(random, &summed));
     }
     rates

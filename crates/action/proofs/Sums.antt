@@ -1,5 +1,5 @@
--- Where the ninth cell adds, joining follows the change of the sums of some of 1, 2 and 4 to the sums of the same of three rates: not at all rates, but at
--- those that a pair or a triple of the list makes, since each of the three is added once at most.
+-- Where the ninth cell adds, joining follows the change of the sums of some of 1, 2 and 4 to the sums of the same of three rates: not at all rates, but
+-- where each of 1, 2 and 4 is added once at most, as it is when these stand for three rates.
 use Prim.Native.Nat.{ℕ, zero, suc, ◌≤◌}
 use native.Mathlib.Omega.{arith}
 use mathlib.Core.Path.{◌≡◌, refl, sym, ap, ◌∙◌}

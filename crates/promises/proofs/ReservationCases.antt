@@ -33,4 +33,4 @@ unfolding in_prefix right_prefix zero_beyond prefixes_meet covers meets_value va
     tree.tree_action_of right_length check_rows check_of scan_of kept_words kept_of table_kept over levels_of number_of priorities_after chain_after
     compiled_rows answer_of table_after scratch_after digits decimal number value address match_text action_text line head refusal right_input table_text
     shown_text file_text listing_of
-reserved-cases = (refl, (refl, (refl, (refl, (refl, (refl, (refl, (refl, (refl, (refl, (refl, (refl, (refl, (refl, (refl, (refl, (refl, (refl, (refl, (refl, (refl, (refl, (refl, (refl, (refl, (refl, (refl, (refl, (refl, (refl, (refl, (refl, (refl, (refl, (refl, (refl, tt))))))))))))))))))))))))))))))))))))
+reserved-cases = (refl, (refl, (refl, (refl, (refl, (refl, (refl, (refl, (refl, (refl, (refl, (refl, (refl, (refl, (refl, (refl, (refl, (refl, (refl, (refl, (refl, (refl, (refl, (refl, (refl, (refl, (refl, (refl, (refl, (refl, (refl, (refl, (refl, (refl, (refl, (refl, (refl, (refl, (refl, (refl, tt))))))))))))))))))))))))))))))))))))))))

@@ -1,6 +1,6 @@
 -- Reservations that add up, sentence by sentence as it was asked for. It is said of the definitions that the contracts
--- cite; that the laws of an operator are searched as before, and what refuses a file, are the same statements over the
--- same names, which have the new meaning.
+-- cite. What the search for a broken law finds, and what refuses a file, are the same statements as before, over names
+-- that have the new meaning.
 --
 --   NinthAdds o       the ninth cell of an operator, that of two GMBs, has code 7
 --   Sum               what it gives for two rates
@@ -89,13 +89,14 @@ team_rates (t ▸ ts) p = rate_of (given t p) + team_rates ts p
 
 -- "Two teams of one studio each reserve 10 Mbit/s and expect 20 between them."
 pub record BetweenThem : Type 0 where
-  -- under a sibling operator that adds, a studio's teams, however many, have between them the sum of what each reserves,
-  -- but at most 100,000,000; the studio's own action stands on its left under the parent operator, as before
+  -- under a sibling operator that adds, a studio's teams, however many, have between them the sum of what each
+  -- reserves, but at most 100,000,000, where each reserves at a rate in range or says nothing; the studio's own action
+  -- stands on its left under the parent operator, as before
   pub teams : (n : Node (List ℕ) Match Action) → NinthAdds n.sibling
       → (ts : Forest (Node (List ℕ) Match Action)) (p : Packet) → EachReserves ts p
       → eval meets DontCare join (node n ts) p
       ≡ join n.parent (own meets DontCare join n.inner n.atoms p) (reserved (team_rates ts p))
-  -- and so have the atoms of one node that a packet meets, under an inner operator that adds
+  -- and so have the atoms of one node that a packet meets, under an inner operator that adds, where each of these does
   pub atoms : (i : List ℕ) → NinthAdds i → (xs : List (Row Match Action)) (p : Packet)
       → All (λ x. meets x.matching p ≡ true → Reserves x.action) xs
       → own meets DontCare join i xs p ≡ reserved (own_rates xs p)
@@ -104,7 +105,8 @@ pub record BetweenThem : Type 0 where
 abbrev pub Allowed : ℕ → ℕ → Type 0
 Allowed i c = (1 ≤ c) × ((c ≤ 4) ⊎ ((i ≡ 8) × (c ≤ 7)))
 
--- a word of a file, whose first word is the number of its operators, is the cell of one, and its code may not stand there
+-- a word of a file, whose first word is the number of its operators, is the cell of one, and its code may not stand
+-- there
 pub record WrongCode (f : List ℕ) (at : ℕ) : Type 0 where
   pub operator : ℕ
   pub named : operator < get_or f 0 0
@@ -127,7 +129,7 @@ pub record Codes : Type 0 where
       → ¬ (read_of f ≡ Err (refusal_at WrongCell (9 * suc operator)))
 
 pub record Search : Type 0 where
-  -- "The law search must still refuse exactly the lawless operators,": of those with codes that may stand in their cells
+  -- "The law search must still refuse exactly the lawless operators,": of those whose codes may stand in their cells
   pub exact : SearchExact
   pub shows : SearchShows
   -- "so the last entry of its list becomes GMB(4)": no answer tells which rate stands there, so it is said of the list
@@ -141,13 +143,17 @@ pub record Search : Type 0 where
 abbrev pub adding : List ℕ
 adding = 1 ∷ 2 ∷ 4 ∷ 2 ∷ 2 ∷ 2 ∷ 3 ∷ 2 ∷ 7 ∷ []
 
--- examples/teams.policy: a studio denies 10.7.0.0/16, and between its teams rates are added. The one reserves 10 Mbit/s
--- to the server 10.7.3.9, the other 10 Mbit/s to 10.7.3.8/29, in which it lies
-abbrev pub teams : List ℕ
-teams =
-    (3 ∷ sibling) ++ parent ++ adding
-    ++ (3 ∷ row (dotted 10 7 0 0) 16 2 0) ++ row (dotted 10 7 3 9) 32 3 10000 ++ row (dotted 10 7 3 8) 29 3 10000
+-- a studio denies 10.7.0.0/16, and its teams are joined under an operator. One team reserves a rate to the server
+-- 10.7.3.9, the other the same rate to 10.7.3.8/29, in which it lies
+abbrev pub teams_under : List ℕ → ℕ → List ℕ
+teams_under operator rate =
+    (3 ∷ sibling) ++ parent ++ operator
+    ++ (3 ∷ row (dotted 10 7 0 0) 16 2 0) ++ row (dotted 10 7 3 9) 32 3 rate ++ row (dotted 10 7 3 8) 29 3 rate
     ++ (3 ∷ 0 ∷ 1 ∷ 2 ∷ 1 ∷ 2 ∷ 0 ∷ 1 ∷ 0 ∷ 1 ∷ 0 ∷ 0 ∷ 1 ∷ 0 ∷ 1 ∷ 0 ∷ [])
+
+-- examples/teams.policy: rates are added between the teams, and each reserves 10 Mbit/s
+abbrev pub teams : List ℕ
+teams = teams_under adding 10000
 
 -- three atoms of one node for every packet, each with a rate
 abbrev pub thrice : ℕ → List ℕ
@@ -162,13 +168,17 @@ lawless = 1 ∷ 2 ∷ 4 ∷ 1 ∷ 2 ∷ 4 ∷ 3 ∷ 2 ∷ 7 ∷ []
 abbrev pub below : List ℕ
 below = (2 ∷ adding) ++ lawless ++ (0 ∷ 1 ∷ 0 ∷ 1 ∷ 0 ∷ 0 ∷ 0 ∷ [])
 
+-- Cases are numbered 1 for what is expected, 2 for the sum, and by the refusal that they are about, 0 for none
 abbrev pub reserved_cases : List Case
 reserved_cases =
-    -- 1: two teams, and three atoms of one node
+    -- two teams, as without the sum too, and three atoms of one node
     k 1 (tree_action_of teams (to (dotted 10 7 3 9))) (Ok (Gmb 20000))
     ∷ k 1 (scan_of (left_in 7 teams) (to (dotted 10 7 3 9))) (Ok (record { action = Gmb 20000; tried = 1 }))
     ∷ k 1 (tree_action_of teams (to (dotted 10 7 3 10))) (Ok (Gmb 10000))
+    ∷ k 1 (scan_of (left_in 7 teams) (to (dotted 10 7 3 10))) (Ok (record { action = Gmb 10000; tried = 3 }))
     ∷ k 1 (tree_action_of teams (to (dotted 10 7 3 16))) (Ok Deny)
+    ∷ k 1 (scan_of (left_in 7 teams) (to (dotted 10 7 3 16))) (Ok (record { action = Deny; tried = 4 }))
+    ∷ k 1 (tree_action_of (teams_under sibling 10000) (to (dotted 10 7 3 9))) (Ok (Gmb 10000))
     ∷ k 1 (listing_of (flat bytes_of teams))
     (flat ascii
     ("rows 3 priorities 3\n"
@@ -178,7 +188,7 @@ reserved_cases =
     ∷ []))
     ∷ k 1 (tree_action_of (thrice 10000) (to 0)) (Ok (Gmb 30000))
     ∷ k 1 (scan_of (left_in 7 (thrice 10000)) (to 0)) (Ok (record { action = Gmb 30000; tried = 1 }))
-    -- 2: the sum, the cap and one below it; rates that no file may have; the other actions
+    -- the sum, the cap and one below it; rates that no file may have; the other actions
     ∷ k 2 (join adding (Gmb 10000) (Gmb 10000)) (Gmb 20000)
     ∷ k 2 (join adding (Gmb 1) (Gmb 2)) (Gmb 3)
     ∷ k 2 (join adding (Gmb 50000000) (Gmb 49999999)) (Gmb 99999999)
@@ -194,9 +204,10 @@ reserved_cases =
     ∷ k 2 (join adding DontCare (Gmb 10000)) (Gmb 10000)
     ∷ k 2 (join adding (Gmb 10000) Allow) (Gmb 10000)
     ∷ k 2 (join adding (Gmb 10000) Deny) Deny
+    ∷ k 2 (tree_action_of (teams_under adding 60000000) (to (dotted 10 7 3 9))) (Ok (Gmb 100000000))
     ∷ k 2 (tree_action_of (thrice 60000000) (to 0)) (Ok (Gmb 100000000))
     ∷ k 2 (scan_of (left_in 7 (thrice 60000000)) (to 0)) (Ok (record { action = Gmb 100000000; tried = 1 }))
-    -- 3: the cell's word, in each cell but the ninth
+    -- 7 in each cell but the ninth, and 8 in the ninth: the cell's word
     ∷ k 3 (fault (read_of (celled 7 2 4 2 2 2 3 2 7))) (3, 1)
     ∷ k 3 (fault (read_of (celled 1 7 4 2 2 2 3 2 7))) (3, 2)
     ∷ k 3 (fault (read_of (celled 1 2 7 2 2 2 3 2 7))) (3, 3)
@@ -207,7 +218,7 @@ reserved_cases =
     ∷ k 3 (fault (read_of (celled 1 2 4 2 2 2 3 7 7))) (3, 8)
     ∷ k 3 (fault (read_of (celled 1 2 4 2 2 2 3 2 8))) (3, 9)
     ∷ k 0 (fault (read_of (celled 1 2 4 2 2 2 3 2 7))) (0, 0)
-    -- 10: other cells may break a law; as parent operator it may
+    -- other cells break a law beside a 7; where a node names the operator as parent alone, the file is accepted
     ∷ k 10 (read_of (lone lawless)) (Err (refusal_at (LawBroken (Commutativity Allow Deny)) 0))
     ∷ k 0 (fault (read_of below)) (0, 0)
     ∷ []

@@ -106,13 +106,14 @@ fn inside(actions: &[Action]) -> Vec<u32> {
     chain_of_nodes(NEWEST, &[ADDING.to_vec()], &[&atoms]).words()
 }
 
-/// The same of nodes with one atom each: below one another, and side by side.
+/// The same of nodes with one atom each, below one another.
 fn chained(actions: &[Action]) -> Draft {
     let atoms: Vec<RawRow> = actions.iter().copied().map(open).collect();
     let nodes: Vec<&[RawRow]> = atoms.chunks(1).collect();
     chain_of_nodes(NEWEST, &[ADDING.to_vec()], &nodes)
 }
 
+/// The same, side by side below a node without atoms.
 fn side_by_side(actions: &[Action]) -> Vec<u32> {
     let mut draft = chained(actions);
     for node in &mut draft.nodes {
@@ -151,7 +152,11 @@ fn at_the_cap() -> Vec<Known> {
     of("the cap twice", &[most, most], most);
     of("60,000,000 three times", &[sixty, sixty, sixty], most);
     let thirds = [33_333_333, 33_333_333, 33_333_333];
-    of("three less than the cap", &rates(thirds), Gmb(CAP - 1));
+    of(
+        "three to one less than the cap",
+        &rates(thirds),
+        Gmb(CAP - 1),
+    );
     of(
         "three to the cap",
         &rates([33_333_333, 33_333_334, 33_333_333]),

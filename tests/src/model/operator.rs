@@ -49,6 +49,7 @@ impl Operator {
         if right == DontCare {
             return left;
         }
+        // The sum, which has no arm below.
         if let Some(sum) = self.uncut_sum(left, right) {
             return Gmb(sum.min(u64::from(MOST_RATE)) as u32);
         }
