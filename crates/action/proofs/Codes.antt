@@ -1,5 +1,5 @@
 -- What right codes are: over 4 in the ninth cell alone, where both actions are GMBs; by the test of a cell.
-use Prim.Native.Nat.{ℕ, ◌≤◌, ◌<◌}
+use Prim.Native.Nat.{ℕ, zero, suc, ◌≤◌, ◌<◌}
 use native.Mathlib.Omega.{arith}
 use mathlib.Core.Path.{◌≡◌, refl, sym, ap, ◌∙◌}
 use mathlib.Core.Bool.{true, ◌&&◌}
@@ -19,6 +19,23 @@ use Rattle.action.proofs.Words.{action-of-words}
 -- the code that adds, the last of the ninth cell
 abbrev pub adding : ℕ
 adding = largest_rate_code
+
+-- a plain code, by each of them; and a code for rates
+pub by-plain : (P : ℕ → Type 0) → P 0 → P 1 → P 2 → P 3 → P 4 → (c : ℕ) → c ≤ largest_code → P c
+by-plain P none allow deny left right zero h = none
+by-plain P none allow deny left right (suc zero) h = allow
+by-plain P none allow deny left right (suc (suc zero)) h = deny
+by-plain P none allow deny left right (suc (suc (suc zero))) h = left
+by-plain P none allow deny left right (suc (suc (suc (suc zero)))) h = right
+by-plain P none allow deny left right (suc (suc (suc (suc (suc c))))) h = absurd (omega arith)
+
+pub by-rates : (P : ℕ → Type 0) → P 5 → P 6 → P 7 → (c : ℕ) → largest_code < c → c ≤ largest_rate_code → P c
+by-rates P larger smaller sum c l h =
+    by_le c 5
+    (λ k. let e : c ≡ 5 = omega arith in rw e larger)
+    (λ k. by_le c 6
+    (λ j. let e : c ≡ 6 = omega arith in rw e smaller)
+    (λ j. let e : c ≡ 7 = omega arith in rw e sum))
 
 -- don't care, or another action
 pub by-care : {X : Type 0} (a : Action) → (a ≡ DontCare → X) → (¬ (a ≡ DontCare) → X) → X

@@ -23,7 +23,7 @@ use Rattle.action.proofs.Joined.{identity}
 use Rattle.action.proofs.Same.{same-eq, eq-same, unequal}
 use Rattle.action.proofs.Codes.{adding, by-care, rate-code}
 use Rattle.action.proofs.Rates.{Ninth, Shown, Spread, spread, shown_of, one-shown, two-shown, four-shown, rising-follows, commutes-rerate, associates-rerate}
-use Rattle.action.proofs.Sums.{sums, Summed, summed_of, rated-join, adding-follows, one-two, two-one, two-four, both-four, one-both}
+use Rattle.action.proofs.Sums.{sums, rated-join, adding-follows, one-two, two-one, two-four, both-four, one-both}
 
 tested : (b : Bool) (f : LawFailure) → told b f ≡ Ok tt → b ≡ true
 tested true f e = refl
@@ -61,8 +61,8 @@ module _ (o : List ℕ) (r : RightCodes o) (quiet : law_search o ≡ Ok tt) wher
         let a = rate_of x in
         let b = rate_of y in
         let f : ℕ → ℕ = sums a b 0 in
-        let u : Summed f 1 x = summed_of f 1 x nx one-shown refl in
-        let v : Summed f 2 y = summed_of f 2 y ny two-shown refl in
+        let u : Shown f 1 x = shown_of f 1 x nx one-shown refl in
+        let v : Shown f 2 y = shown_of f 2 y ny two-shown refl in
         commutes-rerate o r f u.from v.from x y
         (adding-follows o r adds u.from v.from u.at v.at f (one-two a b 0))
         (adding-follows o r adds v.from u.from v.at u.at f (two-one a b 0))
@@ -72,8 +72,8 @@ module _ (o : List ℕ) (r : RightCodes o) (quiet : law_search o ≡ Ok tt) wher
     commutative-other : get_or o rate_cell 0 < adding → join o x y ≡ join o y x
     commutative-other other =
         let s : Spread (rate_of x) (rate_of y) 0 = spread (rate_of x) (rate_of y) 0 in
-        let u : Shown s.f x = shown_of s.f x nx s.first in
-        let v : Shown s.f y = shown_of s.f y ny s.second in
+        let u : Shown s.f s.first.from x = shown_of s.f s.first.from x nx s.first.listed s.first.becomes in
+        let v : Shown s.f s.second.from y = shown_of s.f s.second.from y ny s.second.listed s.second.becomes in
         let all : (a b : Action) → Ninth o s.f a b = λ a b m n d e. rising-follows s.f s.rising (get_or o rate_cell 0) m n other in
         commutes-rerate o r s.f u.from v.from x y (all _ _) (all _ _) u.becomes v.becomes
         (commutes-shown o quiet u.from v.from u.listed v.listed)
@@ -85,9 +85,9 @@ module _ (o : List ℕ) (r : RightCodes o) (quiet : law_search o ≡ Ok tt) wher
           let b = rate_of y in
           let c = rate_of z in
           let f : ℕ → ℕ = sums a b c in
-          let u : Summed f 1 x = summed_of f 1 x nx one-shown refl in
-          let v : Summed f 2 y = summed_of f 2 y ny two-shown refl in
-          let w : Summed f 4 z = summed_of f 4 z nz four-shown refl in
+          let u : Shown f 1 x = shown_of f 1 x nx one-shown refl in
+          let v : Shown f 2 y = shown_of f 2 y ny two-shown refl in
+          let w : Shown f 4 z = shown_of f 4 z nz four-shown refl in
           associates-rerate o r f u.from v.from w.from x y z
           (adding-follows o r adds u.from v.from u.at v.at f (one-two a b c))
           (adding-follows o r adds (join o u.from v.from) w.from (rated-join o r adds u.from v.from u.at v.at) w.at f (both-four a b c))
@@ -99,9 +99,9 @@ module _ (o : List ℕ) (r : RightCodes o) (quiet : law_search o ≡ Ok tt) wher
       associative-other : get_or o rate_cell 0 < adding → join o (join o x y) z ≡ join o x (join o y z)
       associative-other other =
           let s : Spread (rate_of x) (rate_of y) (rate_of z) = spread (rate_of x) (rate_of y) (rate_of z) in
-          let u : Shown s.f x = shown_of s.f x nx s.first in
-          let v : Shown s.f y = shown_of s.f y ny s.second in
-          let w : Shown s.f z = shown_of s.f z nz s.third in
+          let u : Shown s.f s.first.from x = shown_of s.f s.first.from x nx s.first.listed s.first.becomes in
+          let v : Shown s.f s.second.from y = shown_of s.f s.second.from y ny s.second.listed s.second.becomes in
+          let w : Shown s.f s.third.from z = shown_of s.f s.third.from z nz s.third.listed s.third.becomes in
           let all : (a b : Action) → Ninth o s.f a b = λ a b m n d e. rising-follows s.f s.rising (get_or o rate_cell 0) m n other in
           associates-rerate o r s.f u.from v.from w.from x y z (all _ _) (all _ _) (all _ _) (all _ _) u.becomes v.becomes w.becomes
           (associates-shown o quiet u.from v.from w.from u.listed v.listed w.listed)

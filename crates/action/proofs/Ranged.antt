@@ -1,30 +1,25 @@
 -- Joining keeps actions in range, under right codes: a plain code gives one of the two whole or no rate, and in the ninth cell the larger, the smaller and
 -- the sum cut off at the largest are rates again; by the code.
-use Prim.Native.Nat.{ℕ, zero, suc, ◌≤◌, ◌<◌, max, min}
+use Prim.Native.Nat.{ℕ, ◌≤◌, ◌<◌, max, min}
 use native.Mathlib.Omega.{arith}
 use mathlib.Core.Path.{◌≡◌, refl}
 use mathlib.Core.Bool.{true}
 use lib.ListN.{get_or}
 use lib.Dec.{leb}
 use borrow.Author.Tests.{leb-true, le-leb}
-use Rattle.logic.proofs.Tests.{by_le, and_left, and_right, and_both}
+use Rattle.logic.proofs.Tests.{and_left, and_right, and_both}
 use Rattle.action.specs.Action.{rate_of, largest_rate, right_rate, in_range}
 use Rattle.action.specs.Operator.{cell, rate_cell, largest_code, largest_rate_code, added, coded}
 use Rattle.action.specs.Theorems.{JoinInRange}
 use Rattle.action.specs.declared.Action.{Action}
 use Rattle.action.specs.declared.Action.TheVariants.{Gmb}
 use Rattle.action.proofs.Joined.{identity}
-use Rattle.action.proofs.Codes.{by-care, by-cell, join-cell}
+use Rattle.action.proofs.Codes.{by-plain, by-rates, by-care, by-cell, join-cell}
 
--- what a code up to 4 gives is in range
+-- what a plain code gives is in range
 coded-range : (c : ℕ) (a b : Action) → in_range a ≡ true → in_range b ≡ true → c ≤ largest_code → in_range (coded c a b) ≡ true
 unfolding coded in_range
-coded-range zero a b p q h = refl
-coded-range (suc zero) a b p q h = refl
-coded-range (suc (suc zero)) a b p q h = refl
-coded-range (suc (suc (suc zero))) a b p q h = p
-coded-range (suc (suc (suc (suc zero)))) a b p q h = q
-coded-range (suc (suc (suc (suc (suc c))))) a b p q h = absurd (omega arith)
+coded-range c a b p q h = by-plain (λ c. in_range (coded c a b) ≡ true) refl refl refl p q c h
 
 rate-in : (m : ℕ) → right_rate m ≡ true → (1 ≤ m) × (m ≤ largest_rate)
 rate-in m e = (leb-true 1 m (and_left _ _ e), leb-true m largest_rate (and_right (leb 1 m) _ e))
@@ -38,13 +33,11 @@ unfolding coded in_range
 rate-range c m n p q l h =
     let a = rate-in m p in
     let b = rate-in n q in
-    by_le c 5
-    (λ k. let e : c ≡ 5 = omega arith in rw e (in-rate (max m n) (omega (arith, a.0, b.0)) (omega (arith, a.1, b.1))))
-    (λ k. by_le c 6
-    (λ j. let e : c ≡ 6 = omega arith in rw e (in-rate (min m n) (omega (arith, a.0, b.0)) (omega (arith, a.1, b.1))))
-    (λ j.
-    let e : c ≡ 7 = omega arith in
-    rw e (in-rate (added m n) (omega (arith, a.0, b.0)) (omega arith))))
+    by-rates (λ c. in_range (coded c (Gmb m) (Gmb n)) ≡ true)
+    (in-rate (max m n) (omega (arith, a.0, b.0)) (omega (arith, a.1, b.1)))
+    (in-rate (min m n) (omega (arith, a.0, b.0)) (omega (arith, a.1, b.1)))
+    (in-rate (added m n) (omega (arith, a.0, b.0)) (omega arith))
+    c l h
 
 -- JOINING RATES IN RANGE NEVER MAKES ONE OUTSIDE IT
 pub join-range : JoinInRange

@@ -2,7 +2,7 @@
 -- rates are such a change of 1, 2 and 4.
 use Prim.Native.Nat.{ℕ, zero, suc, ◌≤◌, ◌<◌, min, max}
 use native.Mathlib.Omega.{arith}
-use mathlib.Core.Path.{◌≡◌, refl, ap}
+use mathlib.Core.Path.{◌≡◌, refl, sym, ap}
 use mathlib.Core.Bool.{Bool, true, false, cond}
 use mathlib.Core.List.Memᴰ
 use mathlib.Core.List.{List}
@@ -13,7 +13,7 @@ use Rattle.action.specs.Operator.{cell, rate_cell, largest_code, coded, join, Ri
 use Rattle.action.specs.Laws.{◌among◌, shown}
 use Rattle.action.specs.declared.Action.{Action}
 use Rattle.action.specs.declared.Action.TheVariants.{DontCare, Allow, Deny, Gmb}
-use Rattle.action.proofs.Codes.{adding, by-care, by-cell}
+use Rattle.action.proofs.Codes.{adding, by-plain, by-rates, by-care, by-cell}
 use Rattle.action.proofs.Joined.{identity}
 
 -- an action with its rate changed
@@ -40,12 +40,7 @@ Ninth o f a b = (m n : ℕ) → a ≡ Gmb m → b ≡ Gmb n → Follows f (get_o
 -- a plain code gives one of the two whole, or no rate
 plain-follows : (f : ℕ → ℕ) (c : ℕ) (a b : Action) → c ≤ largest_code → Follows f c a b
 unfolding coded
-plain-follows f zero a b h = refl
-plain-follows f (suc zero) a b h = refl
-plain-follows f (suc (suc zero)) a b h = refl
-plain-follows f (suc (suc (suc zero))) a b h = refl
-plain-follows f (suc (suc (suc (suc zero)))) a b h = refl
-plain-follows f (suc (suc (suc (suc (suc c))))) a b h = absurd (omega arith)
+plain-follows f c a b h = by-plain (λ c. Follows f c a b) refl refl refl refl refl c h
 
 module _ (o : List ℕ) (r : RightCodes o) (f : ℕ → ℕ) where
   cell-follows : (a b : Action) → ¬ (a ≡ DontCare) → ¬ (b ≡ DontCare) → Ninth o f a b → Follows f (get_or o (cell a b) 0) a b
@@ -86,39 +81,32 @@ module _ (o : List ℕ) (r : RightCodes o) (f : ℕ → ℕ) where
       cc (join-rerate u v h, join-rerate (join o u v) w i, join-rerate v w j, join-rerate u (join o v w) k)
 
 -- a change of rates that keeps the order
-pub record Rising (f : ℕ → ℕ) : Type 0 where
-  pub order : (m n : ℕ) → m ≤ n → f m ≤ f n
+abbrev pub Rising : (ℕ → ℕ) → Type 0
+Rising f = (m n : ℕ) → m ≤ n → f m ≤ f n
 
 module _ (f : ℕ → ℕ) (rising : Rising f) where
   larger-rerate : (m n : ℕ) → max (f m) (f n) ≡ f (max m n)
   larger-rerate m n =
       by_le m n
-      (λ h. let e : max m n ≡ n = omega arith in rw e (omega (arith, rising.order m n h)))
-      (λ h. let e : max m n ≡ m = omega arith in rw e (omega (arith, rising.order n m (omega arith))))
+      (λ h. let e : max m n ≡ n = omega arith in rw e (omega (arith, rising m n h)))
+      (λ h. let e : max m n ≡ m = omega arith in rw e (omega (arith, rising n m (omega arith))))
 
   smaller-rerate : (m n : ℕ) → min (f m) (f n) ≡ f (min m n)
   smaller-rerate m n =
       by_le m n
-      (λ h. let e : min m n ≡ m = omega arith in rw e (omega (arith, rising.order m n h)))
-      (λ h. let e : min m n ≡ n = omega arith in rw e (omega (arith, rising.order n m (omega arith))))
+      (λ h. let e : min m n ≡ m = omega arith in rw e (omega (arith, rising m n h)))
+      (λ h. let e : min m n ≡ n = omega arith in rw e (omega (arith, rising n m (omega arith))))
 
   -- a code that does not add follows such a change at all rates
   pub rising-follows : (c m n : ℕ) → c < adding → Follows f c (Gmb m) (Gmb n)
   unfolding coded
-  rising-follows zero m n h = refl
-  rising-follows (suc zero) m n h = refl
-  rising-follows (suc (suc zero)) m n h = refl
-  rising-follows (suc (suc (suc zero))) m n h = refl
-  rising-follows (suc (suc (suc (suc zero)))) m n h = refl
-  rising-follows (suc (suc (suc (suc (suc zero))))) m n h = ap Gmb (larger-rerate m n)
-  rising-follows (suc (suc (suc (suc (suc (suc zero)))))) m n h = ap Gmb (smaller-rerate m n)
-  rising-follows (suc (suc (suc (suc (suc (suc (suc c))))))) m n h = absurd (omega arith)
-
--- an action of the list that a change of rates takes to x
-pub record Shown (f : ℕ → ℕ) (x : Action) : Type 0 where
-  pub from : Action
-  pub listed : from among shown
-  pub becomes : rerate f from ≡ x
+  rising-follows c m n h =
+      by_le c largest_code (plain-follows f c (Gmb m) (Gmb n)) (λ l.
+      by-rates (λ c. c < adding → Follows f c (Gmb m) (Gmb n))
+      (λ k. ap Gmb (larger-rerate m n))
+      (λ k. ap Gmb (smaller-rerate m n))
+      (λ k. absurd (omega (arith, k)))
+      c l (omega (arith, h)) h)
 
 -- a rate of the list that a change of rates takes to n
 pub record Reached (f : ℕ → ℕ) (n : ℕ) : Type 0 where
@@ -126,12 +114,34 @@ pub record Reached (f : ℕ → ℕ) (n : ℕ) : Type 0 where
   pub listed : Gmb from among shown
   pub becomes : f from ≡ n
 
-pub shown_of : (f : ℕ → ℕ) (x : Action) → ¬ (x ≡ DontCare) → Reached f (rate_of x) → Shown f x
+-- those of the list
+pub one-shown : Gmb 1 among shown
 unfolding shown
-shown_of f DontCare h s = absurd (h refl)
-shown_of f Allow h s = record { from = Allow; listed = Memᴰ.head refl; becomes = refl }
-shown_of f Deny h s = record { from = Deny; listed = Memᴰ.tail (Memᴰ.head refl); becomes = refl }
-shown_of f (Gmb n) h s = record { from = Gmb s.from; listed = s.listed; becomes = ap Gmb s.becomes }
+one-shown = Memᴰ.tail (Memᴰ.tail (Memᴰ.head refl))
+
+pub two-shown : Gmb 2 among shown
+unfolding shown
+two-shown = Memᴰ.tail (Memᴰ.tail (Memᴰ.tail (Memᴰ.head refl)))
+
+pub four-shown : Gmb 4 among shown
+unfolding shown
+four-shown = Memᴰ.tail (Memᴰ.tail (Memᴰ.tail (Memᴰ.tail (Memᴰ.head refl))))
+
+-- an action of the list that a change of rates takes to x, with the rate k where it is a GMB
+pub record Shown (f : ℕ → ℕ) (k : ℕ) (x : Action) : Type 0 where
+  pub from : Action
+  pub listed : from among shown
+  pub becomes : rerate f from ≡ x
+  pub at : (m : ℕ) → from ≡ Gmb m → m ≡ k
+
+pub shown_of : (f : ℕ → ℕ) (k : ℕ) (x : Action) → ¬ (x ≡ DontCare) → Gmb k among shown → f k ≡ rate_of x → Shown f k x
+unfolding shown
+shown_of f k DontCare h s e = absurd (h refl)
+shown_of f k Allow h s e =
+    record { from = Allow; listed = Memᴰ.head refl; becomes = refl; at = λ m d. let z : ◌≡◌ {A = ℕ} 1 3 = ap kind_of d in absurd (omega arith) }
+shown_of f k Deny h s e =
+    record { from = Deny; listed = Memᴰ.tail (Memᴰ.head refl); becomes = refl; at = λ m d. let z : ◌≡◌ {A = ℕ} 2 3 = ap kind_of d in absurd (omega arith) }
+shown_of f k (Gmb n) h s e = record { from = Gmb k; listed = s; becomes = ap Gmb e; at = λ m d. sym (ap rate_of d) }
 
 -- 1, 2 and 4 taken to three rates
 abbrev stairs : ℕ → ℕ → ℕ → ℕ → ℕ
@@ -149,7 +159,7 @@ climbs f step m (suc n) h =
     (λ g. let e : m ≡ suc n = omega arith in rw e (omega arith))
 
 stairs-rise : (p q r : ℕ) → p ≤ q → q ≤ r → Rising (stairs p q r)
-stairs-rise p q r h k = record { order = climbs (stairs p q r) step }
+stairs-rise p q r h k = climbs (stairs p q r) step
   where
     step : (n : ℕ) → stairs p q r n ≤ stairs p q r (suc n)
     step zero = omega arith
@@ -164,18 +174,6 @@ pub record Spread (a b c : ℕ) : Type 0 where
   pub first : Reached f a
   pub second : Reached f b
   pub third : Reached f c
-
-pub one-shown : Gmb 1 among shown
-unfolding shown
-one-shown = Memᴰ.tail (Memᴰ.tail (Memᴰ.head refl))
-
-pub two-shown : Gmb 2 among shown
-unfolding shown
-two-shown = Memᴰ.tail (Memᴰ.tail (Memᴰ.tail (Memᴰ.head refl)))
-
-pub four-shown : Gmb 4 among shown
-unfolding shown
-four-shown = Memᴰ.tail (Memᴰ.tail (Memᴰ.tail (Memᴰ.tail (Memᴰ.head refl))))
 
 module _ (p q r : ℕ) where
   low : Reached (stairs p q r) p

@@ -4,17 +4,15 @@ use Prim.Native.Nat.{ℕ, zero, suc, ◌≤◌}
 use native.Mathlib.Omega.{arith}
 use mathlib.Core.Path.{◌≡◌, refl, sym, ap, ◌∙◌}
 use mathlib.Core.Logic.{◌⊎◌, inl, inr, ⊎_elim}
-use mathlib.Core.List.Memᴰ
 use mathlib.Core.List.{List}
 use lib.ListN.{get_or}
 use Rattle.action.specs.Action.{kind_of, rate_of}
 use Rattle.action.specs.Operator.{cell, rate_cell, largest_code, added, coded, join, RightCodes}
-use Rattle.action.specs.Laws.{◌among◌, shown}
 use Rattle.action.specs.declared.Action.{Action}
-use Rattle.action.specs.declared.Action.TheVariants.{DontCare, Allow, Deny, Gmb}
-use Rattle.action.proofs.Codes.{adding, by-care, by-cell, join-cell}
+use Rattle.action.specs.declared.Action.TheVariants.{Gmb}
+use Rattle.action.proofs.Codes.{adding, by-plain, by-care, by-cell, join-cell}
 use Rattle.action.proofs.Joined.{identity}
-use Rattle.action.proofs.Rates.{rerate, Ninth}
+use Rattle.action.proofs.Rates.{Ninth}
 
 -- the sums of some of three rates, which are told by the sum of the same of 1, 2 and 4
 abbrev pub sums : ℕ → ℕ → ℕ → ℕ → ℕ
@@ -39,41 +37,28 @@ At k m = m ≡ k
 abbrev pub Added : (ℕ → Type 0) → (ℕ → Type 0) → ℕ → Type 0
 Added S T k = S k ⊎ (T k ⊎ ((m : ℕ) × ((n : ℕ) × (S m × (T n × (k ≡ added m n))))))
 
--- an action of the list that a change of rates takes to x, with the rate k where it is a GMB
-pub record Summed (f : ℕ → ℕ) (k : ℕ) (x : Action) : Type 0 where
-  pub from : Action
-  pub listed : from among shown
-  pub becomes : rerate f from ≡ x
-  pub at : Rated (At k) from
-
-pub summed_of : (f : ℕ → ℕ) (k : ℕ) (x : Action) → ¬ (x ≡ DontCare) → Gmb k among shown → f k ≡ rate_of x → Summed f k x
-unfolding shown
-summed_of f k DontCare h s e = absurd (h refl)
-summed_of f k Allow h s e =
-    record { from = Allow; listed = Memᴰ.head refl; becomes = refl; at = λ m d. let z : ◌≡◌ {A = ℕ} 1 3 = ap kind_of d in absurd (omega arith) }
-summed_of f k Deny h s e =
-    record { from = Deny; listed = Memᴰ.tail (Memᴰ.head refl); becomes = refl; at = λ m d. let z : ◌≡◌ {A = ℕ} 2 3 = ap kind_of d in absurd (omega arith) }
-summed_of f k (Gmb n) h s e = record { from = Gmb k; listed = s; becomes = ap Gmb e; at = λ m d. sym (ap rate_of d) }
-
 module _ (o : List ℕ) (r : RightCodes o) (adds : get_or o rate_cell 0 ≡ adding) where
-  -- a GMB that is made is one of the two, or what they come to
-  abbrev Made : Action → Action → ℕ → Type 0
-  Made a b k = (a ≡ Gmb k) ⊎ ((b ≡ Gmb k) ⊎ ((m : ℕ) × ((n : ℕ) × ((a ≡ Gmb m) × ((b ≡ Gmb n) × (k ≡ added m n))))))
+  -- the rate that an action has as a GMB
+  abbrev Is : Action → ℕ → Type 0
+  Is a m = a ≡ Gmb m
 
-  plain-made : (c : ℕ) (a b : Action) (k : ℕ) → c ≤ largest_code → coded c a b ≡ Gmb k → Made a b k
+  plain-made : (c : ℕ) (a b : Action) → c ≤ largest_code → Rated (Added (Is a) (Is b)) (coded c a b)
   unfolding coded
-  plain-made zero a b k h e = let z : ◌≡◌ {A = ℕ} 0 3 = ap kind_of e in absurd (omega arith)
-  plain-made (suc zero) a b k h e = let z : ◌≡◌ {A = ℕ} 1 3 = ap kind_of e in absurd (omega arith)
-  plain-made (suc (suc zero)) a b k h e = let z : ◌≡◌ {A = ℕ} 2 3 = ap kind_of e in absurd (omega arith)
-  plain-made (suc (suc (suc zero))) a b k h e = inl e
-  plain-made (suc (suc (suc (suc zero)))) a b k h e = inr (inl e)
-  plain-made (suc (suc (suc (suc (suc c))))) a b k h e = absurd (omega arith)
+  plain-made c a b h =
+      by-plain (λ c. Rated (Added (Is a) (Is b)) (coded c a b))
+      (λ k e. let z : ◌≡◌ {A = ℕ} 0 3 = ap kind_of e in absurd (omega arith))
+      (λ k e. let z : ◌≡◌ {A = ℕ} 1 3 = ap kind_of e in absurd (omega arith))
+      (λ k e. let z : ◌≡◌ {A = ℕ} 2 3 = ap kind_of e in absurd (omega arith))
+      (λ k e. inl e)
+      (λ k e. inr (inl e))
+      c h
 
   sum-made : (m n k : ℕ) → coded adding (Gmb m) (Gmb n) ≡ Gmb k → k ≡ added m n
   unfolding coded
   sum-made m n k e = sym (ap rate_of e)
 
-  made : (a b : Action) (k : ℕ) → join o a b ≡ Gmb k → Made a b k
+  -- a GMB that is made is one of the two, or what they come to
+  made : (a b : Action) → Rated (Added (Is a) (Is b)) (join o a b)
   made a b k e =
       by-care a
       (λ p. inr (inl (sym (identity o b).0 ∙ ap (λ (x : Action). join o x b) (sym p) ∙ e)))
@@ -82,7 +67,7 @@ module _ (o : List ℕ) (r : RightCodes o) (adds : get_or o rate_cell 0 ≡ addi
       (λ nb.
       let d : coded (get_or o (cell a b) 0) a b ≡ Gmb k = sym (join-cell o a b na nb) ∙ e in
       by-cell o a b na nb r
-      (λ h. plain-made (get_or o (cell a b) 0) a b k h d)
+      (λ h. plain-made (get_or o (cell a b) 0) a b h k d)
       (λ p q _ _. inr (inr (rate_of a, (rate_of b, (p, (q, both p q d))))))))
     where
       both : a ≡ Gmb (rate_of a) → b ≡ Gmb (rate_of b) → coded (get_or o (cell a b) 0) a b ≡ Gmb k → k ≡ added (rate_of a) (rate_of b)

@@ -1,4 +1,4 @@
--- The worked cases and those of ports, by computation.
+-- The worked cases, those of ports and those of reservations that add up, by computation.
 use mathlib.Core.Path.{refl}
 use Rattle.field.specs.Prefix.{in_prefix, right_prefix, zero_beyond, prefixes_meet, covers}
 use Rattle.field.specs.Value.{meets_value, values_meet, value_inside, right_value}
@@ -24,9 +24,10 @@ use Rattle.sheet.specs.Sheet.{table_text}
 use Rattle.text.specs.Listing.{right_input, shown_text, file_text, listing_of}
 use Rattle.promises.specs.Cases.{Hold, WorkedCases}
 use Rattle.promises.specs.Ports.{port_cases}
+use Rattle.promises.specs.Reservations.{reserved_cases}
 
--- both lists of cases, since they are worked out by the same definitions
-all-cases : WorkedCases × Hold port_cases
+-- all three lists of cases, since they are worked out by the same definitions
+all-cases : WorkedCases × (Hold port_cases × Hold reserved_cases)
 unfolding in_prefix right_prefix zero_beyond prefixes_meet covers meets_value values_meet value_inside right_value laid rows_of right_packet right_packet_words
     meets_ports clash unmet is_empty is_none is_plain right_match meets overlap common both inside action_of right_action in_range coded join right_cell
     commutes associates shown pairs triples first_pair first_triple law_search row_action right_row_match right_row_action right_row count_fault cells_fault
@@ -72,11 +73,17 @@ all-cases = (
       ),
     ),
   ),
-  (refl, (refl, (refl, (refl, (refl, (refl, (refl, (refl, (refl, (refl, (refl, (refl, (refl, (refl, tt)))))))))))))),
+  (
+    (refl, (refl, (refl, (refl, (refl, (refl, (refl, (refl, (refl, (refl, (refl, (refl, (refl, (refl, tt)))))))))))))),
+    (refl, (refl, (refl, (refl, (refl, (refl, (refl, (refl, (refl, (refl, (refl, (refl, (refl, (refl, (refl, (refl, (refl, (refl, (refl, (refl, (refl, (refl, (refl, (refl, (refl, (refl, (refl, (refl, (refl, (refl, (refl, (refl, (refl, (refl, (refl, (refl, (refl, (refl, (refl, (refl, tt)))))))))))))))))))))))))))))))))))))))),
+  ),
 )
 
 pub worked-cases : WorkedCases
 worked-cases = all-cases.0
 
 pub port-cases : Hold port_cases
-port-cases = all-cases.1
+port-cases = all-cases.1.0
+
+pub reserved-cases : Hold reserved_cases
+reserved-cases = all-cases.1.1

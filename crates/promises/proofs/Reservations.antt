@@ -38,7 +38,7 @@ use Rattle.policy.proofs.Accepted.{accepted-exactly}
 use Rattle.policy.proofs.Order.{file-order}
 use Rattle.nodes.proofs.Places.{record-at}
 use Rattle.promises.specs.Reservations.{NinthAdds, Reserves, reserved, own_rates, given, EachReserves, team_rates, Allowed, WrongCode, ReservationsAddUp}
-use Rattle.promises.proofs.ReservationCases.{reserved-cases}
+use Rattle.promises.proofs.Cases.{reserved-cases}
 
 -- what some rates reserve
 some : (n : ℕ) → 1 ≤ n → reserved n ≡ Gmb (min n 100000000)
