@@ -1,6 +1,6 @@
 //! The compile, within the lent buffers.
 
-use crate::action::{self, Cells, join, right_action, row_action};
+use crate::action::{self, Cells, join, row_action};
 use crate::flow::{self, KIND, ROW_WORDS, Row, is_empty, overlap};
 use crate::numbers;
 use crate::policy::{self, CHILDREN, INNER, OWN, PARENT, Policy, Refusal, SIBLING};
@@ -27,10 +27,6 @@ pub fn compile(file: &[u32], table: &mut [u32], scratch: &mut [u32]) -> Result<u
         table.fill(0);
         return Err(policy::refusal(numbers::ROOM, 0));
     };
-    if !table.as_chunks().0[..rows].iter().all(right_action) {
-        table.fill(0);
-        return Err(policy::refusal(numbers::RATE, 0));
-    }
     table[ROW_WORDS * rows..].fill(0);
     Ok(rows)
 }

@@ -13,7 +13,6 @@ pub const LAW: u32 = 10;
 pub const PACKET: u32 = 11;
 pub const ROOM: u32 = 12;
 pub const SCRATCH: u32 = 13;
-pub const RATE: u32 = 14;
 pub const TABLE: u32 = 15;
 pub const ROW: u32 = 16;
 pub const BUFFER: u32 = 17;

@@ -8,20 +8,19 @@ use crate::calls::{
 };
 use crate::model::action::DONT_CARE;
 use crate::model::edition::{NEWEST, ROW_WORDS};
-use crate::model::numbers::{BROKEN_LAW, LAST, NOT_A_TABLE, RATE_OUTSIDE, WRONG_ROW};
+use crate::model::numbers::{BROKEN_LAW, NOT_A_TABLE, REFUSALS, WRONG_ROW};
 use crate::model::record::RawRow;
 use crate::ports::{contradictory_atoms, contradicts};
 use crate::sums::{sums_shown, SUMS};
 
-/// Every refusal that can be reached must be met this often; the two of a table
-/// by each function that reads one. So must matches that contradict themselves: in
-/// atoms, in rows by each of these functions, and in rows at each kind of place; and
-/// each kind of sums.
+/// Every refusal must be met this often; the two of a table by each function that
+/// reads one. So must matches that contradict themselves: in atoms, in rows by each of
+/// these functions, and in rows at each kind of place; and each kind of sums.
 const LEAST: usize = 100;
 const OF_TABLES: [usize; 2] = [NOT_A_TABLE as usize, WRONG_ROW as usize];
 const READ_TABLES: [&str; 3] = ["scan", "number", "hidden"];
-const NUMBERS: usize = LAST as usize;
-const UNREACHABLE: usize = RATE_OUTSIDE as usize;
+/// The last number.
+const NUMBERS: usize = REFUSALS[REFUSALS.len() - 1] as usize;
 /// No law, commutativity and associativity.
 const LAWS: usize = 3;
 /// Kinds of places in a table.
@@ -124,15 +123,17 @@ impl Tally {
         self.numbers.iter().flatten().sum()
     }
 
-    fn met(&self, number: usize) -> usize {
+    fn met(&self, number: u32) -> usize {
+        let number = number as usize;
         self.numbers.iter().map(|function| function[number]).sum()
     }
 
     /// What was met too seldom to say that it was tested: refusals by their numbers,
     /// matches that contradict themselves, and sums.
     pub fn too_seldom(&self) -> Vec<String> {
-        let all = (1..=NUMBERS).filter(|number| *number != UNREACHABLE);
-        let seldom = all.filter(|number| self.met(*number) < LEAST);
+        let seldom = REFUSALS
+            .into_iter()
+            .filter(|&number| self.met(number) < LEAST);
         let mut seldom: Vec<String> = seldom.map(|number| number.to_string()).collect();
         for (name, numbers) in NAMES.iter().zip(&self.numbers) {
             for number in OF_TABLES {
@@ -180,11 +181,11 @@ impl Tally {
         text += "refusal    times  different places";
         text += &NAMES.map(|name| format!(" {name:>8}")).concat();
         text += "\n";
-        for number in 1..=NUMBERS {
-            let places = self.places[number].len();
+        for number in REFUSALS {
+            let places = self.places[number as usize].len();
             text += &format!("{number:>7} {:>8} {places:>17}", self.met(number));
             for numbers in &self.numbers {
-                text += &format!(" {:>8}", numbers[number]);
+                text += &format!(" {:>8}", numbers[number as usize]);
             }
             text += "\n";
         }

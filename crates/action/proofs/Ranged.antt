@@ -21,10 +21,10 @@ coded-range : (c : ℕ) (a b : Action) → in_range a ≡ true → in_range b �
 unfolding coded in_range
 coded-range c a b p q h = by-plain (λ c. in_range (coded c a b) ≡ true) refl refl refl p q c h
 
-rate-in : (m : ℕ) → right_rate m ≡ true → (1 ≤ m) × (m ≤ largest_rate)
+pub rate-in : (m : ℕ) → right_rate m ≡ true → (1 ≤ m) × (m ≤ largest_rate)
 rate-in m e = (leb-true 1 m (and_left _ _ e), leb-true m largest_rate (and_right (leb 1 m) _ e))
 
-in-rate : (m : ℕ) → 1 ≤ m → m ≤ largest_rate → right_rate m ≡ true
+pub in-rate : (m : ℕ) → 1 ≤ m → m ≤ largest_rate → right_rate m ≡ true
 in-rate m p q = and_both (le-leb 1 m p) (le-leb m largest_rate q)
 
 -- the larger and the smaller of two rates, and their sum up to the largest

@@ -67,11 +67,6 @@ TreeBuilt f s a old new r = Builds a (tree_words f s) old new (AfterTree f s) r
 abbrev pub ChildrenBuilt : List ℕ → Spot → ℕ → ℕ → ℕ → List ℕ → List ℕ → Option BuiltTable → Type 0
 ChildrenBuilt f s sibling k a old new r = Builds a (children_words f s k sibling) old new (AfterChildren f s k) r
 
--- what was built from a place on ends below a limit
-abbrev pub Within : ℕ → ℕ → Option BuiltTable → Type 0
-Within b limit (Some p) = (b ≤ p.end) × (p.end ≤ limit)
-Within b limit None = Unit {0}
-
 -- a part that was built from b on, joined with what stands from a up to b
 abbrev pub JoinBuilt : List ℕ → ℕ → ℕ → BuiltTable → List ℕ → List ℕ → Option BuiltTable → Type 0
 JoinBuilt o a b p old new r = Builds a (join_words o (part a b old) (part b p.end old)) old new (λ next. next ≡ p.next) r

@@ -1,3 +1,4 @@
-pub mod Rates
-pub mod Settling
+pub mod Ordered
+pub mod Built
+pub mod RightRows
 pub mod Answered

@@ -3,29 +3,23 @@
 --
 --   room words                                          the rows that a buffer has room for
 --   compiled_rows f l                                   the rows of an accepted file
---   fine N                                              the rate of every row lies in its range; fine_words says it of
---                                                       rows in words
 --   Compiled                                            what the compile answers
 --   accepted_answer, accepted_table, accepted_scratch   the answer and the buffers for an accepted file
 --   answer_of, table_after, scratch_after               the same for every file
 --   Compiles                                            all three
 --   compile_count                                       the row count of an answer
-use Rattle.std.specs.Prelude.{ℕ, ◌*◌, ◌-◌, ◌/◌, min, ◌≡◌, Bool, true, cond, ◌&&◌, List, [], ◌∷◌, ◌++◌, ltb, length, take}
-use Rattle.std.specs.Prelude.{Result, Ok, Err, Option, Some, None}
+use Rattle.std.specs.Prelude.{ℕ, ◌*◌, ◌-◌, ◌/◌, min, ◌≡◌, cond, List, ◌++◌, ltb, length, Result, Ok, Err}
 use Rattle.theory.specs.declared.Row.{Row}
 use Rattle.flow.specs.declared.Match.{Match}
-use Rattle.action.specs.Action.{in_range}
 use Rattle.action.specs.declared.Action.{Action}
-use Rattle.words.specs.Records.{rows_of}
-use Rattle.row.specs.Row.{row_length, most_rows, right_row_action, words_of}
+use Rattle.row.specs.Row.{row_length, most_rows, words_of}
 use Rattle.refusal.specs.Refusals.{refusal_at}
-use Rattle.refusal.specs.declared.Reason.TheVariants.{NoRoom, NoScratch, WrongRate}
+use Rattle.refusal.specs.declared.Reason.TheVariants.{NoRoom, NoScratch}
 use Rattle.refusal.specs.declared.Refusal.{Refusal}
 use Rattle.policy.specs.Read.{Reading, read_of}
 use Rattle.policy.specs.File.{tree_of}
 use Rattle.policy.specs.declared.Layout.{Layout}
 use Rattle.build.specs.Build.{compile_tree}
-use Rattle.build.specs.declared.BuiltTable.{BuiltTable}
 use Rattle.words.specs.Words.{zeros}
 
 -- the buffer's words divided by a row's, rounded down, at most 4,096
@@ -36,45 +30,28 @@ room words = min (words / row_length) most_rows
 unfoldable pub compiled_rows : List ℕ → Layout → List (Row Match Action)
 compiled_rows f l = compile_tree (tree_of f l)
 
--- the rate of every row lies in its range
-abbrev pub fine : List (Row Match Action) → Bool
-fine [] = true
-fine (r ∷ N) = in_range r.action && fine N
-
--- the actions of some rows, each given by its words, are right
-abbrev pub all_right : List (List ℕ) → Bool
-all_right [] = true
-all_right (w ∷ ws) = right_row_action w && all_right ws
-
--- the same of the rows that some words hold
-unfoldable pub fine_words : List ℕ → Bool
-fine_words ws = all_right (rows_of row_length (λ w. w) ws)
-
--- one of four, by what is refused: the scratch, the room, a rate, or nothing
-abbrev pub by_case : {X : Type 0} → List (Row Match Action) → List ℕ → List ℕ → X → X → X → X → X
-by_case N t s scratch-short too_many rate-wrong success =
+-- one of three, by what is refused: the scratch, the room, or nothing
+abbrev pub by_case : {X : Type 0} → List (Row Match Action) → List ℕ → List ℕ → X → X → X → X
+by_case N t s scratch-short too_many success =
     cond (ltb (length s) (row_length * room (length t))) scratch-short
-    (cond (ltb (room (length t)) (length N)) too_many
-    (cond (fine N) success rate-wrong))
+    (cond (ltb (room (length t)) (length N)) too_many success)
 
 -- what the compile answers: the row count, or a refusal
 abbrev pub Compiled : Type 0
 Compiled = Result ℕ Refusal
 
--- the answer for an accepted file with the rows N: 13, then 12, then 14, else the row count
+-- the answer for an accepted file with the rows N: 13, then 12, else the row count
 abbrev pub accepted_answer : List (Row Match Action) → List ℕ → List ℕ → Compiled
-accepted_answer N t s =
-    by_case N t s (Err (refusal_at NoScratch 0)) (Err (refusal_at NoRoom 0)) (Err (refusal_at WrongRate 0))
-    (Ok (length N))
+accepted_answer N t s = by_case N t s (Err (refusal_at NoScratch 0)) (Err (refusal_at NoRoom 0)) (Ok (length N))
 
--- the table after it: unchanged after 13, all zero after 12 and 14, else the rows and then zeros
+-- the table after it: unchanged after 13, all zero after 12, else the rows and then zeros
 abbrev pub accepted_table : List (Row Match Action) → List ℕ → List ℕ → List ℕ
 accepted_table N t s =
-    by_case N t s t (zeros (length t)) (zeros (length t)) (words_of N ++ zeros (length t - length (words_of N)))
+    by_case N t s t (zeros (length t)) (words_of N ++ zeros (length t - length (words_of N)))
 
 -- the scratch after it: unchanged after 13, else all zero
 abbrev pub accepted_scratch : List (Row Match Action) → List ℕ → List ℕ → List ℕ
-accepted_scratch N t s = by_case N t s s (zeros (length s)) (zeros (length s)) (zeros (length s))
+accepted_scratch N t s = by_case N t s s (zeros (length s)) (zeros (length s))
 
 -- what reading answered, carried on
 abbrev pub after_reading : {X : Type 0} → Reading → (Refusal → X) → (Layout → X) → X
@@ -98,23 +75,6 @@ pub record Compiles (f t s t' s' : List ℕ) (r : Compiled) : Type 0 where
   pub answer : r ≡ answer_of f t s
   pub table : t' ≡ table_after f t s
   pub scratch : s' ≡ scratch_after f t s
-
--- the same for an accepted file
-pub record AcceptedCompiles (f : List ℕ) (l : Layout) (t s t' s' : List ℕ) (r : Compiled) : Type 0 where
-  pub answer : r ≡ accepted_answer (compiled_rows f l) t s
-  pub table : t' ≡ accepted_table (compiled_rows f l) t s
-  pub scratch : s' ≡ accepted_scratch (compiled_rows f l) t s
-
--- what settling a build leaves: its answer and the table, by the words that were built
-abbrev pub Settled : List ℕ → List ℕ → Compiled → Option BuiltTable → Type 0
-Settled t t' r (Some p) =
-    (r ≡ cond (fine_words (take p.end t)) (Ok (p.end / row_length)) (Err (refusal_at WrongRate 0)))
-    × (t' ≡ cond (fine_words (take p.end t)) (take p.end t ++ zeros (length t - p.end)) (zeros (length t)))
-Settled t t' r None = (r ≡ Err (refusal_at NoRoom 0)) × (t' ≡ zeros (length t))
-
-pub record Settles (t s t' s' : List ℕ) (b : Option BuiltTable) (r : Compiled) : Type 0 where
-  pub is : Settled t t' r b
-  pub scratch : s' ≡ zeros (length s)
 
 -- the row count of an answer: 0 where it is a refusal
 abbrev pub compile_count : Compiled → ℕ

@@ -1,9 +1,8 @@
 -- The compile answers 2 ^ k - 1 rows for the file of k atoms, where k is at most 12, and the refusal 12 for that of 13. The
 -- files are read, and their trees found, by computation; their rows are counted by induction over the atoms.
-use Rattle.std.proofs.Common.{◌≡◌, refl, sym, ap, ◌∙◌, arith, subst, List, Ok, Err, ℕ, zero, suc, ◌*◌, ◌-◌, ◌^◌, ◌≤◌, ◌<◌, length, replicate, false}
+use Rattle.std.proofs.Common.{◌≡◌, refl, sym, ap, ◌∙◌, arith, List, Ok, Err, ℕ, zero, suc, ◌*◌, ◌-◌, ◌^◌, ◌≤◌, ◌<◌, length, replicate, false}
 use Rattle.std.proofs.lemmas.List.{length-replicate}
 use Rattle.std.proofs.Math.Pow.{pow_mono}
-use Rattle.logic.specs.Lists.{All}
 use Rattle.theory.specs.declared.Row.{Row}
 use Rattle.theory.specs.Tree.{node, bare, compile}
 use Rattle.theory.specs.Rows.{common_row}
@@ -15,7 +14,7 @@ use Rattle.action.specs.Action.{action_of, right_action, in_range}
 use Rattle.action.specs.Operator as operator
 use Rattle.action.specs.Laws.{commutes, associates, shown, pairs, triples, first_pair, first_triple, law_search}
 use Rattle.action.specs.declared.Action.{Action}
-use Rattle.row.specs.Row.{row_length, most_rows, row_of, row_action, right_row_match, right_row_action, InRange}
+use Rattle.row.specs.Row.{row_length, most_rows, row_of, row_action, right_row_match, right_row_action}
 use Rattle.words.specs.Words.{zeros}
 use Rattle.section.specs.Sections.{count_fault, cells_fault, atom_fault, node_fault, section_fault}
 use Rattle.whole.specs.Whole.{shape_fault, sum_fault, operator_fault, laws_fault}
@@ -24,7 +23,7 @@ use Rattle.refusal.specs.declared.Reason.TheVariants.{NoRoom}
 use Rattle.policy.specs.Read.{whole_stages, stages, read_as, read_of, layout}
 use Rattle.policy.specs.File.{PolicyNode, tree_of}
 use Rattle.compile.specs.Compile.{room, compiled_rows, answer_of}
-use Rattle.compile.proofs.Answered.{rows-answered, room-exactly}
+use Rattle.compile.proofs.Ordered.{answered-in-order}
 use Rattle.doubling.specs.Doubling.{file, largest, answer_for}
 use Rattle.doubling.proofs.Same.{compile_all}
 
@@ -47,10 +46,6 @@ one_joined = refl
 one_some : is_empty one.matching ≡ false
 unfolding one is_empty unmet clash
 one_some = refl
-
-one_in_range : InRange one
-unfolding one in_range row_action action_of
-one_in_range = refl
 
 -- the file of k atoms is accepted, and is that one node
 abbrev Accepted : ℕ → Type 0
@@ -107,10 +102,6 @@ module _ (k : ℕ) (below : k < 14) where
   count : length (compiled_rows (file k) (layout 1 k 1)) ≡ 2 ^ k - 1
   count = ap length rows ∙ length-replicate (2 ^ k - 1) one
 
-all_one : (n : ℕ) → All InRange (replicate n one)
-all_one zero = tt
-all_one (suc n) = (one_in_range, all_one n)
-
 -- any table of so many words, and a scratch as long
 module _ (t : List ℕ) (long : length t ≡ row_length * most_rows) where
   room_is : room (length t) ≡ most_rows
@@ -125,15 +116,13 @@ module _ (t : List ℕ) (long : length t ≡ row_length * most_rows) where
       let most : 2 ^ k ≤ 4096 = pow_mono h in
       let fits : length (compiled_rows (file k) (layout 1 k 1)) ≤ room (length t) =
       omega (arith, count k b, room_is, most) in
-      let rates : All InRange (compiled_rows (file k) (layout 1 k 1)) =
-      subst (All InRange) (sym (rows k b)) (all_one (2 ^ k - 1)) in
-      (rows-answered (file k) t t (layout 1 k 1) (reads k b) enough fits rates).0 ∙ ap (λ i. Ok i) (count k b)
+      sym ((answered-in-order (file k) t t).rows-answered (layout 1 k 1) (reads k b) enough fits).answer ∙ ap (λ i. Ok i) (count k b)
 
   many_in : answer_of (file 13) t t ≡ Err (refusal_at NoRoom 0)
   many_in =
       let b : 13 < 14 = omega arith in
       let n : length (compiled_rows (file 13) (layout 1 13 1)) ≡ 8191 = count 13 b in
-      (room-exactly (file 13) t t (layout 1 13 1) (reads 13 b) enough).1 (omega (arith, n, room_is))
+      sym ((answered-in-order (file 13) t t).room-short (layout 1 13 1) (reads 13 b) enough (omega (arith, n, room_is))).answer
 
 pub few : (k : ℕ) → k ≤ 12 → answer_for k ≡ Ok (2 ^ k - 1)
 few = few_in largest (length-replicate {A = ℕ} (row_length * most_rows) 0)

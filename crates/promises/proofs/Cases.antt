@@ -1,4 +1,4 @@
--- The worked cases, those of ports and those of reservations that add up, by computation.
+-- The worked cases, those of ports, of reservations that add up and of rates, by computation.
 use mathlib.Core.Path.{refl}
 use Rattle.field.specs.Prefix.{in_prefix, right_prefix, zero_beyond, prefixes_meet, covers}
 use Rattle.field.specs.Value.{meets_value, values_meet, value_inside, right_value}
@@ -25,9 +25,10 @@ use Rattle.text.specs.Listing.{right_input, shown_text, file_text, listing_of}
 use Rattle.promises.specs.Cases.{Hold, WorkedCases}
 use Rattle.promises.specs.Ports.{port_cases}
 use Rattle.promises.specs.Reservations.{reserved_cases}
+use Rattle.promises.specs.Rates.{rate_cases}
 
--- all three lists of cases, since they are worked out by the same definitions
-all-cases : WorkedCases × (Hold port_cases × Hold reserved_cases)
+-- all four lists of cases, since they are worked out by the same definitions
+all-cases : WorkedCases × (Hold port_cases × (Hold reserved_cases × Hold rate_cases))
 unfolding in_prefix right_prefix zero_beyond prefixes_meet covers meets_value values_meet value_inside right_value laid rows_of right_packet right_packet_words
     meets_ports clash unmet is_empty is_none is_plain right_match meets overlap common both inside action_of right_action in_range coded join right_cell
     commutes associates shown pairs triples first_pair first_triple law_search row_action right_row_match right_row_action right_row count_fault cells_fault
@@ -75,7 +76,10 @@ all-cases = (
   ),
   (
     (refl, (refl, (refl, (refl, (refl, (refl, (refl, (refl, (refl, (refl, (refl, (refl, (refl, (refl, tt)))))))))))))),
-    (refl, (refl, (refl, (refl, (refl, (refl, (refl, (refl, (refl, (refl, (refl, (refl, (refl, (refl, (refl, (refl, (refl, (refl, (refl, (refl, (refl, (refl, (refl, (refl, (refl, (refl, (refl, (refl, (refl, (refl, (refl, (refl, (refl, (refl, (refl, (refl, (refl, (refl, (refl, (refl, tt)))))))))))))))))))))))))))))))))))))))),
+    (
+      (refl, (refl, (refl, (refl, (refl, (refl, (refl, (refl, (refl, (refl, (refl, (refl, (refl, (refl, (refl, (refl, (refl, (refl, (refl, (refl, (refl, (refl, (refl, (refl, (refl, (refl, (refl, (refl, (refl, (refl, (refl, (refl, (refl, (refl, (refl, (refl, (refl, (refl, (refl, (refl, tt)))))))))))))))))))))))))))))))))))))))),
+      (refl, (refl, (refl, (refl, (refl, (refl, (refl, (refl, (refl, (refl, tt)))))))))),
+    ),
   ),
 )
 
@@ -86,4 +90,7 @@ pub port-cases : Hold port_cases
 port-cases = all-cases.1.0
 
 pub reserved-cases : Hold reserved_cases
-reserved-cases = all-cases.1.1
+reserved-cases = all-cases.1.1.0
+
+pub rate-cases : Hold rate_cases
+rate-cases = all-cases.1.1.1

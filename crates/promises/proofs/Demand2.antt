@@ -29,9 +29,9 @@ use Rattle.whole.proofs.Named.{named_by, Naming, naming}
 use Rattle.policy.proofs.Accepted.{accepted-exactly, accepted-tree, accepted-atoms}
 use Rattle.policy.proofs.Refused.{refused-law, broken-refused}
 use Rattle.tree.proofs.Eval.{action-eval}
-use Rattle.compile.proofs.Answered.{room-exactly, rows-answered}
+use Rattle.compile.proofs.Ordered.{answered-in-order}
+use Rattle.compile.proofs.Answered.{room-exactly}
 use Rattle.promises.specs.Demands.{BreaksCommutativity, BreaksAssociativity, SomeBroken, Shown, Demand2}
-use Rattle.promises.proofs.Rates.{accepted-ranged}
 use Rattle.promises.proofs.Scanned.{table-scans}
 
 -- actions of the list that break a law are actions with allowed rates that do
@@ -124,7 +124,7 @@ demand-2 = record {
   eval = action-eval;
   atoms = λ f l e. ap all_atoms (accepted-tree f l e).lists ∙ accepted-atoms f l e;
   scan = table-scans;
-  compiles = λ f t s l e enough fits. (rows-answered f t s l e enough fits (accepted-ranged f l e)).0;
+  compiles = λ f t s l e enough fits. sym ((answered-in-order f t s).rows-answered l e enough fits).answer;
   law = λ f a b c o. (
     λ w. (shown f a b c w.refusal o w.refused w.number).some,
     λ w. let x = broken-refused f a b c o (not-laws f a b c w) in record { refusal = x.0; refused = x.1; number = x.2 },

@@ -1,13 +1,11 @@
--- What the listing prints: the listing's scratch is long enough and the rates of an accepted file's rows are right, so neither 13 nor 14 is given.
+-- What the listing prints: the listing's scratch is long enough, so 13 is not given.
 use Prim.Native.Nat.{ℕ, ◌*◌, ◌≤◌}
 use native.Mathlib.Omega.{arith}
 use mathlib.Core.Path.{◌≡◌, refl, sym, subst}
 use mathlib.Core.Bool.{true}
 use mathlib.Core.List.{List}
 use mathlib.Core.Logic.{◌⊎◌, inl, inr, ⊎_elim}
-use lib.Dec.{ltb}
 use lib.ListN.{length, length-replicate}
-use borrow.Author.Tests.{le-ltb}
 use Rattle.std.specs.Prelude.{Result, Ok, Err}
 use Rattle.logic.proofs.Tests.{by-test}
 use Rattle.words.specs.Bytes.{words_in}
@@ -15,24 +13,24 @@ use Rattle.row.specs.Row.{row_length}
 use Rattle.refusal.specs.Refusals.{reason_number, refusal_number}
 use Rattle.refusal.specs.declared.Reason.TheVariants.{NoRoom, WrongInput}
 use Rattle.refusal.specs.declared.Refusal.{Refusal}
-use Rattle.compile.specs.Compile.{room, compiled_rows, answer_of}
+use Rattle.compile.specs.Compile.{room, answer_of}
+use Rattle.compile.proofs.Ordered.{by-order, no_value}
 use Rattle.text.specs.Listing.{right_input, blank, listing_of}
 use Rattle.sheet.specs.Sheet.{listing_room}
 use Rattle.text.proofs.Lists.{lists-rows, lists-refused, refused-input}
 use Rattle.promises.specs.Told.{between}
 use Rattle.promises.specs.Prints.{PrintsRows, PrintsRefusal, EveryListing}
-use Rattle.promises.proofs.Rates.{accepted-fine}
-use Rattle.promises.proofs.Demand1.{file-number, by-reading, same_number, no_rows}
+use Rattle.promises.proofs.Demand1.{file-number, same_number}
 
 -- the numbers of a compile with scratch enough
 scratch-number : (f t s : List ℕ) (r : Refusal) → row_length * room (length t) ≤ length s → answer_of f t s ≡ Err r
     → between 1 10 (refusal_number r) ⊎ (refusal_number r ≡ reason_number NoRoom)
-unfolding answer_of
-scratch-number f t s r h q = by-reading f
-    (λ l e. by-test (ltb (room (length t)) (length (compiled_rows f l)))
-    (λ b. inr (sym (same_number (rw (e, le-ltb _ _ h, b) at q))))
-    (λ b. no_rows (rw (e, le-ltb _ _ h, b, accepted-fine f l e) at q)))
-    (λ r' e. inl (subst (between 1 10) (same_number (rw e at q)) (file-number f r' e)))
+scratch-number f t s r h =
+    by-order f t s (λ x t' s'. x ≡ Err r → between 1 10 (refusal_number r) ⊎ (refusal_number r ≡ reason_number NoRoom))
+    (λ r' e q. inl (subst (between 1 10) (same_number q) (file-number f r' e)))
+    (λ l e short q. absurd (omega (arith, h, short)))
+    (λ l e enough full q. inr (sym (same_number q)))
+    (λ l e enough fits q. no_value q)
 
 -- and so of a compile in the listing's buffers
 listed-number : (f : List ℕ) (r : Refusal) → answer_of f blank blank ≡ Err r → between 1 10 (refusal_number r) ⊎ (refusal_number r ≡ reason_number NoRoom)

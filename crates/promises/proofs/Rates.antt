@@ -1,48 +1,81 @@
--- The rates of an accepted file's rows lie in their range, so 14 is never given: right codes keep actions in range as they are joined, and every row is made by joining atoms.
+-- Rates that stay in their range: by the law of joining, by the rows of an accepted file, and through their scan for what its tree gives. Assumes nothing.
 use Prim.Native.Nat.{ℕ}
-use mathlib.Core.Path.{◌≡◌, sym, ap₂, ◌∙◌}
+use mathlib.Core.Path.{◌≡◌, refl, sym, subst, ◌∙◌}
 use mathlib.Core.Bool.{true}
-use mathlib.Core.List.{List, []}
+use mathlib.Core.List.{List, [], ◌∷◌}
 use lib.ListN.{get_or}
 use Rattle.std.specs.Prelude.{Ok}
-use Rattle.logic.proofs.Lists.{all_then}
-use Rattle.theory.proofs.Every.{compile-every}
-use Rattle.flow.specs.Match.{is_empty, common}
-use Rattle.action.specs.Action.{action_of, right_action, in_range}
-use Rattle.action.specs.Operator.{join, RightCodes}
-use Rattle.action.proofs.Ranged.{join-range}
-use Rattle.action.proofs.Words.{words-of-action, right-words}
-use Rattle.row.specs.Row.{kind_place, rate_place, row_action, right_row_action, InRange}
-use Rattle.policy.specs.Read.{read_of, operator_records, atom_records}
-use Rattle.policy.specs.File.{tree_of}
-use Rattle.policy.specs.WellFormed.{WellFormed}
-use Rattle.policy.specs.declared.Layout.{Layout}
-use Rattle.whole.proofs.Named.{right-codes}
-use Rattle.policy.proofs.Accepted.{accepted-exactly}
-use Rattle.compile.specs.Compile.{compiled_rows, fine}
-use Rattle.compile.proofs.Answered.{every-fine, accepted-good}
 use Rattle.logic.specs.Lists.{All}
+use Rattle.logic.proofs.Lists.{all_then}
+use Rattle.logic.proofs.Tests.{by-test}
+use Rattle.theory.specs.Rows.{scan}
+use Rattle.theory.specs.declared.Row.{Row}
+use Rattle.flow.specs.Match.{meets}
+use Rattle.flow.specs.Packet.{packet_of, right_packet_words}
+use Rattle.flow.specs.declared.Match.{Match}
+use Rattle.flow.specs.declared.Packet.{Packet}
+use Rattle.action.specs.Action.{in_range}
+use Rattle.action.specs.Operator.{join}
+use Rattle.action.specs.declared.Action.{Action}
+use Rattle.action.specs.declared.Action.TheVariants.{DontCare, Allow, Deny, Gmb}
+use Rattle.action.proofs.Ranged.{rate-in, in-rate, join-range}
+use Rattle.row.specs.Row.{RightRow}
+use Rattle.refusal.proofs.Numbers.{numbers-given}
+use Rattle.policy.specs.Read.{read_of}
+use Rattle.policy.specs.declared.Layout.{Layout}
+use Rattle.tree.specs.Action.{tree_action_of}
+use Rattle.tree.proofs.Eval.{action-eval, action-refused, action-packet}
+use Rattle.compile.specs.Compile.{compiled_rows}
+use Rattle.compile.proofs.Ordered.{answered-in-order, by-reading, no_value}
+use Rattle.compile.proofs.RightRows.{rows-right}
+use Rattle.text.proofs.Right.{table-right}
+use Rattle.promises.specs.Rates.{RateInRange, RatesStayInRange}
+use Rattle.promises.proofs.Cases.{rate-cases}
+use Rattle.promises.proofs.Reservations.{allowed}
+use Rattle.promises.proofs.Scanned.{rows-scan}
 
--- a right action of a record is in range
-record-range : (r : List ℕ) → right_row_action r ≡ true → in_range (row_action r) ≡ true
-unfolding right_row_action row_action
-record-range r e =
-    let k : ℕ = get_or r kind_place 0 in
-    let n : ℕ = get_or r rate_place 0 in
-    let w = words-of-action k n e in
-    sym (right-words (action_of k n)) ∙ ap₂ right_action w.0 w.1 ∙ e
+-- an action in range, as its rate says it
+within : (a : Action) → in_range a ≡ true → RateInRange a
+unfolding in_range
+within DontCare e = tt
+within Allow e = tt
+within Deny e = tt
+within (Gmb m) e = rate-in m e
 
--- THE RATES OF AN ACCEPTED FILE'S ROWS LIE IN THEIR RANGE
-pub accepted-ranged : (f : List ℕ) (l : Layout) → read_of f ≡ Ok l → All InRange (compiled_rows f l)
-unfolding compiled_rows
-accepted-ranged f l e =
-    let w : WellFormed f l = (accepted-exactly f l).0 e in
-    let os : List (List ℕ) = operator_records f l.operators in
-    all_then _ InRange (λ r h. h.0) (compiled_rows f l)
-    (compile-every join common is_empty RightCodes InRange (λ o r s k p q. join-range o k r.action s.action p q) (tree_of f l)
-    (accepted-good RightCodes InRange f l e (λ i h. right-codes (get_or os i []) (λ j. w.otherwise.cells i j h))
-    (λ i h. record-range (get_or (atom_records f l.operators l.atoms) i []) (w.otherwise.actions i h))))
+ranged : (a : Action) → RateInRange a → in_range a ≡ true
+unfolding in_range
+ranged DontCare w = refl
+ranged Allow w = refl
+ranged Deny w = refl
+ranged (Gmb m) w = in-rate m w.0 w.1
 
--- so none is refused for one
-pub accepted-fine : (f : List ℕ) (l : Layout) → read_of f ≡ Ok l → fine (compiled_rows f l) ≡ true
-accepted-fine f l e = every-fine (compiled_rows f l) (accepted-ranged f l e)
+rows : (f : List ℕ) (l : Layout) → read_of f ≡ Ok l → All (λ r. RateInRange r.action) (compiled_rows f l)
+rows f l e = all_then RightRow (λ r. RateInRange r.action) (λ r h. within r.action h.action) (compiled_rows f l) (rows-right f l e)
+
+-- the scan of rows in range is in range
+scan-within : (N : List (Row Match Action)) (p : Packet) → All (λ r. RateInRange r.action) N → RateInRange (scan meets DontCare N p)
+scan-within [] p h = tt
+scan-within (r ∷ N) p h = by-test (meets r.matching p) (λ t. rw t h.0) (λ t. rw t (scan-within N p h.1))
+
+actions : (f p : List ℕ) (a : Action) → tree_action_of f p ≡ Ok a → RateInRange a
+actions f p a q =
+    by-reading f
+    (λ l e. by-test (right_packet_words p)
+    (λ t.
+    let same : scan meets DontCare (compiled_rows f l) (packet_of p) ≡ a = rows-scan f l (packet_of p) ∙ cc (action-eval f p l e t, q) in
+    subst RateInRange same (scan-within (compiled_rows f l) (packet_of p) (rows f l e)))
+    (λ t. no_value (sym q ∙ action-packet f p l e t)))
+    (λ r e. no_value (sym q ∙ action-refused f p r e))
+
+pub rates-stay-in-range : RatesStayInRange
+rates-stay-in-range = record {
+  joining = record {
+    joined = λ o many codes a b p q.
+        within (join o a b) (join-range o (many, λ i h. (allowed i (get_or o i 0) h).1 (codes i h)) a b (ranged a p) (ranged b q));
+    rows = rows;
+    actions = actions;
+    checked = table-right;
+  };
+  refusing = record { given = numbers-given; order = answered-in-order };
+  cases = rate-cases;
+}

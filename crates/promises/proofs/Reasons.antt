@@ -8,7 +8,7 @@ use Rattle.std.specs.Prelude.{None}
 use Rattle.refusal.specs.Refusals.{law_broken, reason_number, failure_of, refusal_at, refusal_number}
 use Rattle.refusal.specs.declared.Reason.{Reason}
 use Rattle.refusal.specs.declared.Reason.TheVariants.{ShortFile, WrongCount, WrongCell, WrongMatch, WrongAction, WrongNode, ExtraWords, NoTree, WrongSum, LawBroken}
-use Rattle.refusal.specs.declared.Reason.TheVariants.{WrongPacket, NoRoom, NoScratch, WrongRate, WrongTable, WrongRow, ShortBuffer, WrongInput}
+use Rattle.refusal.specs.declared.Reason.TheVariants.{WrongPacket, NoRoom, NoScratch, WrongTable, WrongRow, ShortBuffer, WrongInput}
 use Rattle.refusal.specs.declared.Refusal.{Refusal}
 use Rattle.section.specs.Due.{RecordDue, cell, match, action, node, SectionDue, no-count, beyond, cut, wrong-record}
 use Rattle.section.specs.declared.Edition.{Edition}
@@ -39,12 +39,12 @@ due-lawless e f why at (no_place g h w) q = omega (arith, q)
 due-lawless e f why at (missing g h p x) q = omega (arith, q)
 due-lawless e f why at (sum g h t n) q = omega (arith, q)
 
--- the reason of a number, but for a broken law
+-- the reason of a number, but for a broken law; a place without a reason of its own has one that is never asked for
 abbrev reason_of : ℕ → Reason
 reason_of n =
     get_or
     (ShortFile ∷ ShortFile ∷ WrongCount ∷ WrongCell ∷ WrongMatch ∷ WrongAction ∷ WrongNode ∷ ExtraWords ∷ NoTree ∷ WrongSum ∷ ShortFile ∷ WrongPacket ∷ NoRoom
-    ∷ NoScratch ∷ WrongRate ∷ WrongTable ∷ WrongRow ∷ ShortBuffer ∷ WrongInput ∷ [])
+    ∷ NoScratch ∷ ShortFile ∷ WrongTable ∷ WrongRow ∷ ShortBuffer ∷ WrongInput ∷ [])
     n ShortFile
 
 reason-told : (why : Reason) → failure_of why ≡ None → reason_of (reason_number why) ≡ why
@@ -61,7 +61,6 @@ reason-told (LawBroken f) e = let z : ◌≡◌ {A = ℕ} 0 1 = cc in absurd (om
 reason-told WrongPacket e = refl
 reason-told NoRoom e = refl
 reason-told NoScratch e = refl
-reason-told WrongRate e = refl
 reason-told WrongTable e = refl
 reason-told WrongRow e = refl
 reason-told ShortBuffer e = refl

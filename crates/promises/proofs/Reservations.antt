@@ -24,7 +24,6 @@ use Rattle.action.specs.declared.Action.{Action}
 use Rattle.action.specs.declared.Action.TheVariants.{DontCare, Allow, Deny, Gmb}
 use Rattle.action.proofs.Exact.{search-exact, search-shows}
 use Rattle.action.proofs.Joined.{identity}
-use Rattle.action.proofs.Ranged.{join-range}
 use Rattle.refusal.specs.Refusals.{refusal_at}
 use Rattle.refusal.specs.declared.Reason.TheVariants.{WrongCell}
 use Rattle.section.specs.Numbers.{latest}
@@ -96,7 +95,7 @@ teams : (n : Node (List ℕ) Match Action) → NinthAdds n.sibling → (ts : For
 teams n adds ts p h = ap (join n.parent (own meets DontCare join n.inner n.atoms p)) (forest n.sibling adds ts p h)
 
 -- WHERE THE CODE MAY STAND
-allowed : (i c : ℕ) → i < 9 → (right_cell i c ≡ true) ↔ Allowed i c
+pub allowed : (i c : ℕ) → i < 9 → (right_cell i c ≡ true) ↔ Allowed i c
 unfolding right_cell
 allowed i c h = (to, from)
   where
@@ -175,7 +174,7 @@ every o = refl
 pub reservations-add-up : ReservationsAddUp
 reservations-add-up = record {
   between = record { teams = teams; atoms = atoms };
-  sum = record { gives = gives; commutative = commutative; associative = associative; in-range = join-range };
+  sum = record { gives = gives; commutative = commutative; associative = associative };
   codes = record { allowed = allowed; kept = kept; wrong = wrong; ninth = ninth };
   search = record { exact = search-exact; shows = search-shows; list = listed; every = every };
   cases = reserved-cases;

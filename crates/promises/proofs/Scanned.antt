@@ -45,7 +45,7 @@ file-laws = record {
 }
 
 -- the scan of the rows is the action of the tree
-rows-scan : (f : List ℕ) (l : Layout) (p : Packet) → scan meets DontCare (compiled_rows f l) p ≡ eval_tree (tree_of f l) p
+pub rows-scan : (f : List ℕ) (l : Layout) (p : Packet) → scan meets DontCare (compiled_rows f l) p ≡ eval_tree (tree_of f l) p
 unfolding compiled_rows
 rows-scan f l p = scan-compile file-laws (tree_of f l) p
 

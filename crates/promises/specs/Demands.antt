@@ -15,7 +15,7 @@ use Rattle.theory.specs.Number.{FirstPlace, distinct, Obeyed}
 use Rattle.action.specs.declared.LawFailure.{LawFailure}
 use Rattle.refusal.specs.Refusals.{law_broken, reason_number, failure_of, refusal_at, refusal_number, answer_number}
 use Rattle.refusal.specs.declared.Reason.{Reason}
-use Rattle.refusal.specs.declared.Reason.TheVariants.{LawBroken, WrongPacket, NoRoom, NoScratch, WrongRate, WrongTable, WrongRow, ShortBuffer}
+use Rattle.refusal.specs.declared.Reason.TheVariants.{LawBroken, WrongPacket, NoRoom, NoScratch, WrongTable, WrongRow, ShortBuffer}
 use Rattle.refusal.specs.declared.Refusal.{Refusal}
 use Rattle.flow.specs.Packet.{packet_of, right_packet_words}
 use Rattle.flow.specs.Match.{meets}
@@ -48,13 +48,17 @@ use Rattle.promises.specs.Told.{between, Fixed}
 -- DEMAND 1. Every file, packet or table handed in, however broken, gets a result or one numbered refusal. Callers check
 -- nothing first. The refusals, their order and the words left in each lent buffer are fixed.
 
+-- the numbers of the compile
+abbrev pub compile_numbers : ℕ → Type 0
+compile_numbers n = between 1 10 n ⊎ between 12 13 n
+
 -- "Every file, packet or table handed in, however broken, gets a result or one numbered refusal": which numbers each
 -- function can give.
 pub record EveryInput : Type 0 where
   pub search : (o : List ℕ) (i : ℕ) → Fixed (between 10 10) (search_told i (law_search o))
   pub read : (f : List ℕ) → Fixed (between 1 10) (read_told (read_of f))
   pub action : (f p : List ℕ) → Fixed (between 1 11) (action_told (tree_action_of f p))
-  pub compile : (f t s : List ℕ) → Fixed (λ n. between 1 10 n ⊎ between 12 14 n) (compile_told (answer_of f t s))
+  pub compile : (f t s : List ℕ) → Fixed compile_numbers (compile_told (answer_of f t s))
   pub check : (ws : List ℕ) → Fixed (between 15 16) (check_told (check_of ws))
   pub scan : (ws p : List ℕ) → Fixed (λ n. (n ≡ 11) ⊎ between 15 16 n) (scan_told (scan_of ws p))
   pub number : (ws : List ℕ) (p c : ℕ) → Fixed (between 15 17) (number_told (number_of ws p c))
@@ -73,7 +77,7 @@ pub record Order : Type 0 where
   pub action-file : (f p : List ℕ) (r : Refusal) → read_of f ≡ Err r → tree_action_of f p ≡ Err r
   pub action-packet : (f p : List ℕ) (l : Layout) → read_of f ≡ Ok l → right_packet_words p ≡ false
       → tree_action_of f p ≡ Err (refusal_at WrongPacket 0)
-  -- the compile: 1..10, 13, then 12 as demand 2 has it; 14 is never given
+  -- the compile: 1..10, 13, then 12 as demand 2 has it
   pub compile-file : (f t s : List ℕ) (r : Refusal) → read_of f ≡ Err r → answer_of f t s ≡ Err r
   pub compile-scratch : (f t s : List ℕ) (l : Layout) → read_of f ≡ Ok l
       → length s < row_length * room (length t) → answer_of f t s ≡ Err (refusal_at NoScratch 0)
@@ -95,12 +99,12 @@ pub record Order : Type 0 where
 
 -- "and the words left in each lent buffer are fixed": what they are after each answer.
 pub record WordsLeft : Type 0 where
-  -- after a refusal both buffers stay, but after 12 or 14 they are all zero
+  -- after a refusal both buffers stay, but after 12 they are all zero
   pub compile-stays : (f t s : List ℕ) (r : Refusal) → answer_of f t s ≡ Err r
-      → ¬ (refusal_number r ≡ reason_number NoRoom) → ¬ (refusal_number r ≡ reason_number WrongRate)
+      → ¬ (refusal_number r ≡ reason_number NoRoom)
       → (table_after f t s ≡ t) × (scratch_after f t s ≡ s)
   pub compile-zeros : (f t s : List ℕ) (r : Refusal) → answer_of f t s ≡ Err r
-      → (refusal_number r ≡ reason_number NoRoom) ⊎ (refusal_number r ≡ reason_number WrongRate)
+      → refusal_number r ≡ reason_number NoRoom
       → (table_after f t s ≡ zeros (length t)) × (scratch_after f t s ≡ zeros (length s))
   -- after a success the table is its rows, then zeros, and scratch is zero
   pub compile-rows : (f t s : List ℕ) (l : Layout) (n : ℕ) → read_of f ≡ Ok l
@@ -187,8 +191,7 @@ pub record Demand2 : Type 0 where
   pub scan : (f t s p : List ℕ) (n : ℕ) → answer_of f t s ≡ Ok n → right_packet_words p ≡ true
       → (answer_number (scan_of (table_rows n (table_after f t s)) p) ≡ 0)
       × (tree_action_of f p ≡ Ok (scan_action (scan_of (table_rows n (table_after f t s)) p)))
-  -- there is such a table wherever scratch and room suffice: the rates of the rows lie in their range, so 14 is never
-  -- given
+  -- there is such a table wherever scratch and room suffice
   pub compiles : (f t s : List ℕ) (l : Layout) → read_of f ≡ Ok l → row_length * room (length t) ≤ length s
       → length (compiled_rows f l) ≤ room (length t)
       → answer_of f t s ≡ Ok (length (compiled_rows f l))

@@ -5,7 +5,7 @@
 --             are written out here at the matches, actions and operators of a file
 --   Premises  what the premises of theorems ask
 --   Numbers   the numbers, limits and words of the format
-use Rattle.std.specs.Prelude.{ℕ, suc, ◌+◌, ◌*◌, ◌≤◌, ◌<◌, ◌≡◌, Bool, true, false, List, [], ◌∷◌, length, get_or, map, Result, Ok, Err, None}
+use Rattle.std.specs.Prelude.{ℕ, suc, ◌+◌, ◌*◌, ◌/◌, ◌≤◌, ◌<◌, ◌≡◌, Bool, true, false, List, [], ◌∷◌, min, length, get_or, map, Result, Ok, Err, None}
 use Rattle.words.specs.Bytes.{word_bytes, words_in, bytes_of}
 use Rattle.words.specs.Theorems.{WordsRead, BytesRead}
 use Rattle.field.specs.Theorems.{MeetExactly}
@@ -21,7 +21,7 @@ use Rattle.refusal.specs.declared.Reason.{Reason}
 use Rattle.refusal.specs.declared.Refusal.{Refusal}
 use Rattle.refusal.specs.declared.Reason.TheVariants.{ShortFile, WrongCount, WrongCell, WrongMatch, WrongAction, WrongNode}
 use Rattle.refusal.specs.declared.Reason.TheVariants.{ExtraWords, NoTree, WrongSum, LawBroken, WrongPacket, NoRoom, NoScratch}
-use Rattle.refusal.specs.declared.Reason.TheVariants.{WrongRate, WrongTable, WrongRow, ShortBuffer, WrongInput}
+use Rattle.refusal.specs.declared.Reason.TheVariants.{WrongTable, WrongRow, ShortBuffer, WrongInput}
 use Rattle.row.specs.Row.{row_length, most_rows, row_of, rows_in}
 use Rattle.section.specs.Numbers.{node_length, most_operators, most_atoms, most_nodes, most_children, deepest, longest_file}
 use Rattle.section.specs.Sections.{inner_of, parent_of, sibling_of, own_of, children_of}
@@ -108,15 +108,14 @@ pub record Numbers : Type 0 where
       (ShortFile ∷ WrongCount ∷ WrongCell ∷ WrongMatch ∷ WrongAction ∷ WrongNode ∷ ExtraWords ∷ NoTree ∷ WrongSum ∷ LawBroken f ∷ [])
       ≡ 1 ∷ 2 ∷ 3 ∷ 4 ∷ 5 ∷ 6 ∷ 7 ∷ 8 ∷ 9 ∷ 10 ∷ []
   pub others :
-      map reason_number (WrongPacket ∷ NoRoom ∷ NoScratch ∷ WrongRate ∷ WrongTable ∷ WrongRow ∷ ShortBuffer ∷ WrongInput ∷ [])
-      ≡ 11 ∷ 12 ∷ 13 ∷ 14 ∷ 15 ∷ 16 ∷ 17 ∷ 18 ∷ []
-  -- limits; those of rows and of bytes hold up to them and not beyond
+      map reason_number (WrongPacket ∷ NoRoom ∷ NoScratch ∷ WrongTable ∷ WrongRow ∷ ShortBuffer ∷ WrongInput ∷ [])
+      ≡ 11 ∷ 12 ∷ 13 ∷ 15 ∷ 16 ∷ 17 ∷ 18 ∷ []
+  -- limits; those of rows in a table and of bytes hold up to them and not beyond
   pub limits :
       (most_operators ∷ most_atoms ∷ most_nodes ∷ most_children ∷ deepest ∷ longest_file ∷ []) ≡ 32 ∷ 1024 ∷ 256 ∷ 255 ∷ 16 ∷ 12835 ∷ []
-  pub rows :
-      (room (row_length * 4095) ∷ room (row_length * 4096) ∷ room (row_length * 4097) ∷ most_rows ∷ listing_room ∷ [])
-      ≡ 4095 ∷ 4096 ∷ 4096 ∷ 4096 ∷ 1024 ∷ []
-  pub rounded : (room 10 ∷ room 11 ∷ room 21 ∷ room 22 ∷ []) ≡ 0 ∷ 1 ∷ 1 ∷ 2 ∷ []
+  pub rows : (most_rows ∷ listing_room ∷ []) ≡ 4096 ∷ 1024 ∷ []
+  -- the rows that so many words have room for
+  pub rooms : (words : ℕ) → room words ≡ min (words / 11) 4096
   pub values : (port_limit ∷ protocol_limit ∷ largest_rate ∷ []) ≡ 65536 ∷ 256 ∷ 100000000 ∷ []
   pub longest_table : (ws : List ℕ) → length ws ≡ 45056 → right_length ws ≡ true
   pub longer_table : (ws : List ℕ) → length ws ≡ 45067 → right_length ws ≡ false

@@ -4,6 +4,7 @@
 --
 --   NinthAdds o       the ninth cell of an operator, that of two GMBs, has code 7
 --   Sum               what it gives for two rates
+--   RightRate m       a rate in range
 --   Reserves a        an action that reserves, or says nothing
 --   reserved n        what rates that come to n in all reserve
 --   BetweenThem       what the teams of one studio have between them, and the atoms of one node
@@ -24,7 +25,7 @@ use Rattle.flow.specs.declared.Packet.{Packet}
 use Rattle.action.specs.Action.{rate_of}
 use Rattle.action.specs.Operator.{join, sibling, parent, right_cell}
 use Rattle.action.specs.Laws.{shown, law_search, commutes, associates, along, product, ◌else◌}
-use Rattle.action.specs.Theorems.{SearchExact, SearchShows, JoinInRange}
+use Rattle.action.specs.Theorems.{SearchExact, SearchShows}
 use Rattle.action.specs.declared.Action.{Action}
 use Rattle.action.specs.declared.Action.TheVariants.{DontCare, Allow, Deny, Gmb}
 use Rattle.action.specs.declared.LawFailure.TheVariants.{Commutativity}
@@ -53,15 +54,17 @@ pub record Sum : Type 0 where
   pub commutative : (o : List ℕ) → NinthAdds o → (m n : ℕ) → join o (Gmb m) (Gmb n) ≡ join o (Gmb n) (Gmb m)
   pub associative : (o : List ℕ) → NinthAdds o → (m n k : ℕ)
       → join o (join o (Gmb m) (Gmb n)) (Gmb k) ≡ join o (Gmb m) (join o (Gmb n) (Gmb k))
-  -- joined under right codes, rates in range stay in it
-  pub in-range : JoinInRange
+
+-- a rate in range
+abbrev pub RightRate : ℕ → Type 0
+RightRate m = (1 ≤ m) × (m ≤ 100000000)
 
 -- don't care, or a GMB whose rate is in range
 abbrev pub Reserves : Action → Type 0
 Reserves DontCare = Unit {0}
 Reserves Allow = ⊥
 Reserves Deny = ⊥
-Reserves (Gmb m) = (1 ≤ m) × (m ≤ 100000000)
+Reserves (Gmb m) = RightRate m
 
 -- what rates that come to n in all reserve: their sum, but at most 100,000,000, and nothing where there are none
 abbrev pub reserved : ℕ → Action

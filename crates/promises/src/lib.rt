@@ -7,6 +7,7 @@ ghost use Rattle.promises.specs.Hidden.{HiddenRows};
 ghost use Rattle.promises.specs.Ports.{PortsOnly};
 ghost use Rattle.promises.specs.Prefixes.{PrefixTest};
 ghost use Rattle.promises.specs.Reservations.{ReservationsAddUp};
+ghost use Rattle.promises.specs.Rates.{RatesStayInRange};
 ghost use Rattle.promises.specs.Prints.{EveryListing};
 ghost use Rattle.promises.specs.Cases.{WorkedCases};
 ghost use Rattle.promises.specs.Held.{Numbers, Premises, RestsOn};
@@ -59,6 +60,11 @@ pub fn prefix_test()
 /// Reservations that add up.
 pub fn reservations_add_up()
     ensures { ReservationsAddUp }
+{}
+
+/// Rates that stay in their range.
+pub fn rates_stay_in_range()
+    ensures { RatesStayInRange }
 {}
 
 /// Every input has its listing.

@@ -13,7 +13,7 @@ use Rattle.action.specs.declared.LawFailure.{LawFailure}
 use Rattle.refusal.specs.declared.Reason.{Reason}
 use Rattle.refusal.specs.declared.Reason.TheVariants.{ShortFile, WrongCount, WrongCell, WrongMatch, WrongAction, WrongNode}
 use Rattle.refusal.specs.declared.Reason.TheVariants.{ExtraWords, NoTree, WrongSum, LawBroken, WrongPacket, NoRoom, NoScratch}
-use Rattle.refusal.specs.declared.Reason.TheVariants.{WrongRate, WrongTable, WrongRow, ShortBuffer, WrongInput}
+use Rattle.refusal.specs.declared.Reason.TheVariants.{WrongTable, WrongRow, ShortBuffer, WrongInput}
 use Rattle.refusal.specs.declared.Refusal.{Refusal}
 
 -- a law is broken
@@ -35,7 +35,6 @@ reason_number (LawBroken f) = law_broken
 reason_number WrongPacket = 11
 reason_number NoRoom = 12
 reason_number NoScratch = 13
-reason_number WrongRate = 14
 reason_number WrongTable = 15
 reason_number WrongRow = 16
 reason_number ShortBuffer = 17

@@ -36,8 +36,6 @@ pub enum Reason {
     NoRoom,
     /// Scratch is too short for the room.
     NoScratch,
-    /// A rate made in joining lies outside its range.
-    WrongRate,
     /// A table is not whole rows, or has too many.
     WrongTable,
     /// A row is wrong, or no packet can meet its match.
@@ -67,7 +65,6 @@ impl Reason {
             Reason::WrongPacket => 11,
             Reason::NoRoom => 12,
             Reason::NoScratch => 13,
-            Reason::WrongRate => 14,
             Reason::WrongTable => 15,
             Reason::WrongRow => 16,
             Reason::ShortBuffer => 17,

@@ -9,7 +9,6 @@
 --   right_row                           a right row: an atom with a right match and a right action, whose match is not
 --                                       empty
 --   RightRow                            the same of a match and an action
---   InRange                             the rate of a row lies in its range
 use Rattle.std.specs.Prelude.{ℕ, ◌+◌, ◌*◌, ◌≡◌, Bool, true, false, not, ◌&&◌, List, [], ◌∷◌, ◌++◌, get_or, take}
 use Rattle.words.specs.Records.{rows_of, flat}
 use Rattle.theory.specs.declared.Row.{Row}
@@ -75,7 +74,3 @@ pub record RightRow (r : Row Match Action) : Type 0 where
   pub matching : right_match r.matching ≡ true
   pub not_empty : is_empty r.matching ≡ false
   pub action : in_range r.action ≡ true
-
--- the rate of a row lies in its range
-abbrev pub InRange : Row Match Action → Type 0
-InRange r = in_range r.action ≡ true

@@ -15,13 +15,12 @@ use Rattle.theory.specs.declared.Row.{Row}
 use Rattle.theory.specs.Number.{FirstPlace}
 use Rattle.flow.specs.Match.{match_of, is_empty, right_match}
 use Rattle.flow.specs.declared.Match.{Match}
-use Rattle.action.specs.Action.{kind_of, rate_of, action_of, right_action}
 use Rattle.action.specs.declared.Action.{Action}
-use Rattle.action.proofs.Words.{words-of-action, right-words}
-use Rattle.row.specs.Row.{row_length, most_rows, kind_place, rate_place, row_of, row_action, row_words, right_row, right_row_match, right_row_action, RightRow}
+use Rattle.action.proofs.Words.{right-words}
+use Rattle.row.specs.Row.{row_length, most_rows, row_of, row_words, right_row, right_row_match, right_row_action, RightRow}
 use Rattle.row.specs.Row.{rows_in, table_rows}
 use Rattle.row.specs.Spelled.{row-some, row-long, row_back}
-use Rattle.row.proofs.RowLaws.{words_count, words_back}
+use Rattle.row.proofs.RowLaws.{words_count, action-read, words_back}
 use Rattle.refusal.specs.Refusals.{refusal_at}
 use Rattle.refusal.specs.declared.Reason.TheVariants.{WrongTable, WrongRow}
 use Rattle.refusal.specs.declared.Refusal.{Refusal}
@@ -58,19 +57,15 @@ match-read ws rows i row e d =
 
 -- a row whose words are right is right, and a right row has right words
 pub row-right : (ws : List ℕ) → right_row ws ≡ true → RightRow (row_of ws)
-unfolding right_row right_row_match right_row_action row_action
+unfolding right_row right_row_match
 row-right ws h =
-    let k : ℕ = get_or ws kind_place 0 in
-    let n : ℕ = get_or ws rate_place 0 in
     let m : Bool = right_match (match_of ws) in
     let some : Bool = not (is_empty (match_of ws)) in
-    let both : (m && some) ≡ true = and_left (m && some) (right_action k n) h in
-    let right : right_action k n ≡ true = and_right (m && some) (right_action k n) h in
-    let w : (kind_of (action_of k n) ≡ k) × (rate_of (action_of k n) ≡ n) = words-of-action k n right in
+    let both : (m && some) ≡ true = and_left (m && some) (right_row_action ws) h in
     record {
       matching = and_left m some both;
       not_empty = not-true (is_empty (match_of ws)) (and_right m some both);
-      action = sym (right-words (action_of k n)) ∙ ap₂ right_action w.0 w.1 ∙ right;
+      action = action-read ws (and_right (m && some) (right_row_action ws) h);
     }
 
 pub words_right : (r : Row Match Action) → RightRow r → right_row (row_words r) ≡ true

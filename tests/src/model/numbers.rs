@@ -13,12 +13,28 @@ pub const BROKEN_LAW: u32 = 10;
 pub const WRONG_PACKET: u32 = 11;
 pub const MORE_ROWS: u32 = 12;
 pub const SHORT_SCRATCH: u32 = 13;
-/// A rate outside its range: no input reaches it.
-pub const RATE_OUTSIDE: u32 = 14;
 pub const NOT_A_TABLE: u32 = 15;
 pub const WRONG_ROW: u32 = 16;
 pub const SHORT_BUFFER: u32 = 17;
 pub const WRONG_BYTES: u32 = 18;
 
-/// The last of them.
-pub const LAST: u32 = WRONG_BYTES;
+/// All of them, in order.
+pub const REFUSALS: [u32; 17] = [
+    ENDS_EARLY,
+    COUNT_BEYOND,
+    WRONG_CELL,
+    WRONG_MATCH,
+    WRONG_ACTION,
+    WRONG_NODE,
+    WORDS_AFTER,
+    NOT_ONE_TREE,
+    ATOMS_LEFT,
+    BROKEN_LAW,
+    WRONG_PACKET,
+    MORE_ROWS,
+    SHORT_SCRATCH,
+    NOT_A_TABLE,
+    WRONG_ROW,
+    SHORT_BUFFER,
+    WRONG_BYTES,
+];
