@@ -7,7 +7,7 @@
 --   right_rate n           a rate that a GMB may have
 --   right_action k n       a kind and a rate that are an action's words
 --   in_range a             an action whose rate, where it has one, is right
-use Rattle.std.specs.Prelude.{ℕ, Bool, true, ◌&&◌, ◌||◌, List, [], ◌∷◌, get_or, eqb, leb, ltb}
+use Rattle.std.specs.Prelude.{ℕ, Bool, true, ◌&&◌, ◌||◌, List, [], ◌∷◌, ◌==◌, nat_le, nat_lt, slice_index_or}
 use Rattle.action.specs.declared.Action.{Action}
 use Rattle.action.specs.declared.Action.TheVariants.{DontCare, Allow, Deny, Gmb}
 
@@ -28,7 +28,7 @@ kind_of (Gmb n) = gmb
 
 -- don't care, by its kind
 abbrev pub is_dont_care : Action → Bool
-is_dont_care a = eqb (kind_of a) (kind_of DontCare)
+is_dont_care a = kind_of a == kind_of DontCare
 
 -- an action's rate, 0 where it has none
 abbrev pub rate_of : Action → ℕ
@@ -43,15 +43,15 @@ actions n = DontCare ∷ Allow ∷ Deny ∷ Gmb n ∷ []
 
 -- the action of a kind and a rate; an unknown kind gives don't care
 unfoldable pub action_of : ℕ → ℕ → Action
-action_of k n = get_or (actions n) k DontCare
+action_of k n = slice_index_or (actions n) k DontCare
 
 -- a rate that a GMB may have
 abbrev pub right_rate : ℕ → Bool
-right_rate n = leb 1 n && leb n largest_rate
+right_rate n = nat_le 1 n && nat_le n largest_rate
 
 -- GMB has a right rate, and for the other kinds the rate is 0
 unfoldable pub right_action : ℕ → ℕ → Bool
-right_action k n = (ltb k gmb && eqb n 0) || (eqb k gmb && right_rate n)
+right_action k n = (nat_lt k gmb && n == 0) || (k == gmb && right_rate n)
 
 -- an action in range
 unfoldable pub in_range : Action → Bool

@@ -14,8 +14,8 @@
 --   with_pair o a                  the first triple of a and some pair; with_third o a b that of a, b and some third
 --   law_search o                   the search: pairs, then triples
 --   x among xs                     an entry of a list
---   Shows o f                      the actions that f names are of the list, and show that the law that it names is broken
-use Rattle.std.specs.Prelude.{ℕ, ◌≡◌, Bool, true, cond, ◌&&◌, eqb, Result, Ok, Err}
+--   Shows o f                      the actions that f names are of the list, and show that its law is broken
+use Rattle.std.specs.Prelude.{ℕ, ◌≡◌, Bool, true, ◌&&◌, Result, Ok, Err, if◌then◌else◌, ◌==◌, ⊤}
 use mathlib.Core.List.{List, [], ◌∷◌, ◌++◌, map, Memᴰ}
 use Rattle.action.specs.Action.{kind_of, rate_of, in_range}
 use Rattle.action.specs.Operator.{join}
@@ -36,11 +36,11 @@ Associative o =
 
 -- equal actions
 abbrev pub same : Action → Action → Bool
-same a b = eqb (kind_of a) (kind_of b) && eqb (rate_of a) (rate_of b)
+same a b = kind_of a == kind_of b && rate_of a == rate_of b
 
 -- what a search finds: nothing, or a failure
 abbrev pub Searched : Type 0
-Searched = Result (Unit {0}) LawFailure
+Searched = Result ⊤ LawFailure
 
 -- the actions that show a failure: don't care is the third where two show it
 abbrev pub actions_of : LawFailure → List Action
@@ -49,7 +49,7 @@ actions_of (Associativity a b c) = a ∷ b ∷ c ∷ []
 
 -- nothing where a law is kept, else its failure
 abbrev pub told : Bool → LawFailure → Searched
-told kept f = cond kept (Ok tt) (Err f)
+told kept f = if kept then Ok tt else Err f
 
 -- nothing, or the failure of commutativity that a pair shows
 unfoldable pub commutes : List ℕ → Action × Action → Searched

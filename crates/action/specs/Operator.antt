@@ -12,7 +12,7 @@
 --   largest_code        the largest code that is right in every cell; largest_in rate_cells i in the cell i
 --   right_cell i c      a code that is right in the cell i
 --   RightCodes o        an operator with right codes
-use Rattle.std.specs.Prelude.{ℕ, zero, suc, ◌+◌, ◌-◌, ◌*◌, ◌<◌, max, min, ◌≡◌, Bool, true, cond, ◌&&◌, List, [], ◌∷◌, length, get_or, eqb, leb, ltb}
+use Rattle.std.specs.Prelude.{ℕ, zero, suc, ◌+◌, ◌-◌, ◌*◌, ◌<◌, max, min, ◌≡◌, Bool, true, ◌&&◌, List, [], ◌∷◌, length, if◌then◌else◌, ◌==◌, nat_le, nat_lt, slice_index, slice_index_or}
 use Rattle.action.specs.Action.{kind_of, rate_of, is_dont_care, gmb, largest_rate}
 use Rattle.action.specs.declared.Action.{Action}
 use Rattle.action.specs.declared.Action.TheVariants.{DontCare, Allow, Deny, Gmb}
@@ -28,7 +28,7 @@ cell_count = kinds * kinds
 -- n words from the i-th on; words that are missing count as 0
 abbrev pub words_from : ℕ → ℕ → List ℕ → List ℕ
 words_from i zero ws = []
-words_from i (suc n) ws = get_or ws i 0 ∷ words_from (suc i) n ws
+words_from i (suc n) ws = slice_index ws i ∷ words_from (suc i) n ws
 
 -- the operator whose cells the first of some words are
 abbrev pub cells_of : List ℕ → List ℕ
@@ -58,12 +58,12 @@ codes a b =
 
 -- what a code gives; an unknown one gives don't care
 unfoldable pub coded : ℕ → Action → Action → Action
-coded c a b = get_or (codes a b) c DontCare
+coded c a b = slice_index_or (codes a b) c DontCare
 
 -- two actions joined: don't care is the identity and has no cell
 unfoldable pub join : List ℕ → Action → Action → Action
 join o a b =
-    cond (is_dont_care a) b (cond (is_dont_care b) a (coded (get_or o (cell a b) 0) a b))
+    if is_dont_care a then b else (if is_dont_care b then a else coded (slice_index o (cell a b)) a b)
 
 -- between siblings: Deny before GMB before Allow, and of two rates the larger
 abbrev pub sibling : List ℕ
@@ -92,12 +92,12 @@ rate_cells = (rate_cell, largest_rate_code) ∷ []
 -- the largest code that is right in a cell, by such a list
 abbrev pub largest_in : List (ℕ × ℕ) → ℕ → ℕ
 largest_in [] i = largest_code
-largest_in (r ∷ rs) i = cond (eqb i r.0) r.1 (largest_in rs i)
+largest_in (r ∷ rs) i = if i == r.0 then r.1 else largest_in rs i
 
 -- codes 1 to 4 are right in every cell, 5 to 7 only in the ninth
 unfoldable pub right_cell : ℕ → ℕ → Bool
-right_cell i c = (ltb i cell_count && leb 1 c) && leb c (largest_in rate_cells i)
+right_cell i c = (nat_lt i cell_count && nat_le 1 c) && nat_le c (largest_in rate_cells i)
 
 -- an operator with right codes
 abbrev pub RightCodes : List ℕ → Type 0
-RightCodes o = (length o ≡ cell_count) × ((i : ℕ) → i < cell_count → right_cell i (get_or o i 0) ≡ true)
+RightCodes o = (length o ≡ cell_count) × ((i : ℕ) → i < cell_count → right_cell i (slice_index o i) ≡ true)

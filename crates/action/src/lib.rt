@@ -86,7 +86,8 @@ impl Action {
 
     /// The number of its kind.
     pub fn kind(self) -> u32
-        ensures { (result ≡ kind_of self) × (result ≤ kinds) }
+        ensures kind { result ≡ kind_of self }
+        ensures bound { result ≤ kinds }
     {
         match self {
             Action::DontCare => DONT_CARE,

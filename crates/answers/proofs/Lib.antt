@@ -1,1 +1,1 @@
-mod Turn
+mod Turns

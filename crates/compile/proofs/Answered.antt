@@ -20,8 +20,8 @@ use Rattle.compile.proofs.RightRows.{rows-right}
 
 pub room-exactly : RoomExactly
 room-exactly f t s l e enough = (
-  λ q. by_le (length (compiled_rows f l)) (room (length t)) (λ fits. no_value (((answered-in-order f t s).rows-answered l e enough fits).answer ∙ q)) (λ h. h),
-  λ h. sym ((answered-in-order f t s).room-short l e enough h).answer,
+  λ q. by_le (length (compiled_rows f l)) (room (length t)) (λ fits. no_value (((answered-in-order f t s).rows_answered l e enough fits).answer ∙ q)) (λ h. h),
+  λ h. sym ((answered-in-order f t s).room_short l e enough h).answer,
 )
 
 pub answers-rows : AnswersRows
@@ -40,7 +40,7 @@ answers-rows f t s n =
       count = sym many;
       fits = omega (arith, fits, many);
       right = rows-right f l e;
-      stands = ap (table_rows n) (sym ((answered-in-order f t s).rows-answered l e enough fits).table)
+      stands = ap (table_rows n) (sym ((answered-in-order f t s).rows_answered l e enough fits).table)
           ∙ ap (λ k. table_rows k (words_of N ++ zs)) (sym many)
           ∙ take_at (words_of N) zs (length N * row_length) (words_count N);
     })

@@ -19,9 +19,9 @@ use Rattle.policy.specs.declared.Layout.{Layout}
 use Rattle.nodes.specs.Nodes.{root_spot}
 use Rattle.nodes.specs.declared.Spot.{Spot}
 use Rattle.nodes.proofs.Walk.{root-tree}
-use Rattle.build.specs.Build.{compile_tree, tree_words, TreeBuilt}
-use Rattle.build.specs.declared.BuiltTable.{BuiltTable}
-use Rattle.common.proofs.Going.{Fitted, made-words, made-full}
+use Rattle.compile.specs.Build.{compile_tree, tree_words, TreeBuilt}
+use Rattle.compile.specs.declared.build.BuiltTable.{BuiltTable}
+use Rattle.compile.proofs.Going.{Fitted, made-words, made-full}
 use Rattle.compile.specs.Compile.{room, compiled_rows, Compiled, Compiles}
 use Rattle.compile.proofs.Ordered.{answered-in-order}
 
@@ -87,7 +87,7 @@ module _ (f : List ℕ) (l : Layout) (e : read_of f ≡ Ok l) (root : Spot) (sta
   room-missed {b} k none a c d =
       let built : TreeBuilt f root 0 (take (row_length * n) t) new None = rw none at k in
       let m : length (take (row_length * n) t) < 0 + length F = made-full 0 F (length (take (row_length * n) t)) built.is.answer in
-      compiles-as ((answered-in-order f t s).room-short l e (omega (arith, rooms, enough)) (omega (arith, rooms, wide, count, m)))
+      compiles-as ((answered-in-order f t s).room_short l e (omega (arith, rooms, enough)) (omega (arith, rooms, wide, count, m)))
       (ap Err a) (c ∙ cleared-all mid ∙ ap zeros whole) (wiped d)
 
   -- the rows stand there
@@ -103,7 +103,7 @@ module _ (f : List ℕ) (l : Layout) (e : read_of f ≡ Ok l) (root : Spot) (sta
       ∙ laid-first-words F (take (row_length * n) t) (drop (row_length * n) t) m.fits ∙ are-rows in
       let many : p.end / row_length ≡ length (compiled_rows f l) = omega (arith, m.end, count) in
       let last : length mid - p.end ≡ length t - length (words_of (compiled_rows f l)) = omega (arith, whole, m.end, ap length are-rows) in
-      compiles-as ((answered-in-order f t s).rows-answered l e (omega (arith, rooms, enough)) (omega (arith, rooms, wide, count, m.fits)))
+      compiles-as ((answered-in-order f t s).rows_answered l e (omega (arith, rooms, enough)) (omega (arith, rooms, wide, count, m.fits)))
       (ap (λ (k : ℕ). Ok k) many) (c ∙ ap₂ (λ y x. y ++ zeros x) front last) (wiped d)
 
 -- the first words of two buffers are as many

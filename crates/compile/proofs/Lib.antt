@@ -1,3 +1,9 @@
+pub mod Going
+pub mod Turns
+pub mod Laid
+pub mod Grow
+pub mod Own
+pub mod Building
 pub mod Ordered
 pub mod Built
 pub mod RightRows

@@ -22,15 +22,15 @@ use Rattle.compile.specs.Theorems.{AnsweredInOrder}
 pub answered-in-order : AnsweredInOrder
 unfolding answer_of table_after scratch_after
 answered-in-order f t s = record {
-  file-refused = λ r e. record { answer = rw e refl; table = rw e refl; scratch = rw e refl };
-  scratch-short = λ l e h.
+  file_refused = λ r e. record { answer = rw e refl; table = rw e refl; scratch = rw e refl };
+  scratch_short = λ l e h.
       let yes-13 : ltb (length s) (row_length * room (length t)) ≡ true = lt-ltb _ _ h in
       record { answer = rw (e, yes-13) refl; table = rw (e, yes-13) refl; scratch = rw (e, yes-13) refl };
-  room-short = λ l e h g.
+  room_short = λ l e h g.
       let no-13 : ltb (length s) (row_length * room (length t)) ≡ false = le-ltb _ _ h in
       let yes-12 : ltb (room (length t)) (length (compiled_rows f l)) ≡ true = lt-ltb _ _ g in
       record { answer = rw (e, no-13, yes-12) refl; table = rw (e, no-13, yes-12) refl; scratch = rw (e, no-13, yes-12) refl };
-  rows-answered = λ l e h g.
+  rows_answered = λ l e h g.
       let no-13 : ltb (length s) (row_length * room (length t)) ≡ false = le-ltb _ _ h in
       let no-12 : ltb (room (length t)) (length (compiled_rows f l)) ≡ false = le-ltb _ _ g in
       record { answer = rw (e, no-13, no-12) refl; table = rw (e, no-13, no-12) refl; scratch = rw (e, no-13, no-12) refl };
@@ -65,7 +65,7 @@ module _ (f t s : List ℕ) (P : Compiled → List ℕ → List ℕ → Type 0) 
       by-reading f
       (λ l e. by_le (row_length * room (length t)) (length s)
       (λ enough. by_le (length (compiled_rows f l)) (room (length t))
-      (λ fits. of-compiles (k.rows-answered l e enough fits) (rows l e enough fits))
-      (λ h. of-compiles (k.room-short l e enough h) (full l e enough h)))
-      (λ h. of-compiles (k.scratch-short l e h) (short l e h)))
-      (λ r e. of-compiles (k.file-refused r e) (refused r e))
+      (λ fits. of-compiles (k.rows_answered l e enough fits) (rows l e enough fits))
+      (λ h. of-compiles (k.room_short l e enough h) (full l e enough h)))
+      (λ h. of-compiles (k.scratch_short l e h) (short l e h)))
+      (λ r e. of-compiles (k.file_refused r e) (refused r e))

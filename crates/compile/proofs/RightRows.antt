@@ -22,11 +22,11 @@ use Rattle.action.specs.declared.Action.{Action}
 use Rattle.action.proofs.Ranged.{join-range}
 use Rattle.row.proofs.RowLaws.{action-read}
 use Rattle.row.specs.Row.{row_of, right_row_match, RightRow}
-use Rattle.section.specs.Numbers.{atom_length, node_length}
-use Rattle.section.specs.Sections.{own_of}
-use Rattle.section.specs.Due.{RightNode}
-use Rattle.whole.specs.Meaning.{operator_at}
-use Rattle.whole.proofs.Named.{right-codes}
+use Rattle.policy.specs.Numbers.{atom_length, node_length}
+use Rattle.policy.specs.Sections.{own_of}
+use Rattle.policy.specs.Due.{RightNode}
+use Rattle.policy.specs.Meaning.{operator_at}
+use Rattle.policy.proofs.Named.{right-codes}
 use Rattle.policy.specs.Read.{read_of, nodes_at, operator_records, atom_records, node_records}
 use Rattle.policy.specs.Read as read
 use Rattle.policy.specs.File.{held, tree_of, atoms_of}
@@ -71,7 +71,7 @@ module _ (f : List ℕ) (l : Layout) (e : read_of f ≡ Ok l) where
       listed-every (GoodNode RightCodes RightAtom) (tree_of f l)
       (subst (All (λ n. GoodNode RightCodes RightAtom n.what)) (sym (accepted-tree f l e).lists)
       (held-good os l.operators (λ i h. right-codes (get_or os i []) (λ j. well.otherwise.cells i j h)) (atoms_of f l) right-atoms ns
-      (λ i h. well.otherwise.right-nodes i (omega arith))))
+      (λ i h. well.otherwise.right_nodes i (omega arith))))
 
 -- EVERY ROW IS RIGHT
 pub rows-right : RowsRight

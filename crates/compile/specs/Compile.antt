@@ -8,7 +8,7 @@
 --   answer_of, table_after, scratch_after               the same for every file
 --   Compiles                                            all three
 --   compile_count                                       the row count of an answer
-use Rattle.std.specs.Prelude.{ℕ, ◌*◌, ◌-◌, ◌/◌, min, ◌≡◌, cond, List, ◌++◌, ltb, length, Result, Ok, Err}
+use Rattle.std.specs.Prelude.{ℕ, ◌*◌, ◌-◌, ◌/◌, min, ◌≡◌, List, ◌++◌, length, Result, Ok, Err, if◌then◌else◌, nat_lt}
 use Rattle.theory.specs.declared.Row.{Row}
 use Rattle.flow.specs.declared.Match.{Match}
 use Rattle.action.specs.declared.Action.{Action}
@@ -19,7 +19,7 @@ use Rattle.refusal.specs.declared.Refusal.{Refusal}
 use Rattle.policy.specs.Read.{Reading, read_of}
 use Rattle.policy.specs.File.{tree_of}
 use Rattle.policy.specs.declared.Layout.{Layout}
-use Rattle.build.specs.Build.{compile_tree}
+use Rattle.compile.specs.Build.{compile_tree}
 use Rattle.words.specs.Words.{zeros}
 
 -- the buffer's words divided by a row's, rounded down, at most 4,096
@@ -32,9 +32,10 @@ compiled_rows f l = compile_tree (tree_of f l)
 
 -- one of three, by what is refused: the scratch, the room, or nothing
 abbrev pub by_case : {X : Type 0} → List (Row Match Action) → List ℕ → List ℕ → X → X → X → X
-by_case N t s scratch-short too_many success =
-    cond (ltb (length s) (row_length * room (length t))) scratch-short
-    (cond (ltb (room (length t)) (length N)) too_many success)
+by_case N t s scratch_short too_many success =
+    if nat_lt (length s) (row_length * room (length t))
+    then scratch_short
+    else (if nat_lt (room (length t)) (length N) then too_many else success)
 
 -- what the compile answers: the row count, or a refusal
 abbrev pub Compiled : Type 0

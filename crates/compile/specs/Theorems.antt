@@ -19,16 +19,16 @@ use Rattle.logic.specs.Lists.{All}
 -- what the compile answers and leaves, by what is refused first
 pub record InOrder (f t s : List ℕ) : Type 0 where
   -- the file, with its own refusal: both buffers stay
-  pub file-refused : (r : Refusal) → read_of f ≡ Err r → Compiles f t s t s (Err r)
+  pub file_refused : (r : Refusal) → read_of f ≡ Err r → Compiles f t s t s (Err r)
   -- of an accepted file the scratch, whatever its rows are: 13, and both buffers stay
-  pub scratch-short : (l : Layout) → read_of f ≡ Ok l → length s < row_length * room (length t)
+  pub scratch_short : (l : Layout) → read_of f ≡ Ok l → length s < row_length * room (length t)
       → Compiles f t s t s (Err (refusal_at NoScratch 0))
   -- with scratch enough the room: 12, and both buffers are zero
-  pub room-short : (l : Layout) → read_of f ≡ Ok l → row_length * room (length t) ≤ length s
+  pub room_short : (l : Layout) → read_of f ≡ Ok l → row_length * room (length t) ≤ length s
       → room (length t) < length (compiled_rows f l)
       → Compiles f t s (zeros (length t)) (zeros (length s)) (Err (refusal_at NoRoom 0))
   -- else nothing: the rows are counted, they stand in the table with zeros behind them, and the scratch is zero
-  pub rows-answered : (l : Layout) → read_of f ≡ Ok l → row_length * room (length t) ≤ length s
+  pub rows_answered : (l : Layout) → read_of f ≡ Ok l → row_length * room (length t) ≤ length s
       → length (compiled_rows f l) ≤ room (length t)
       → Compiles f t s
       (words_of (compiled_rows f l) ++ zeros (length t - length (words_of (compiled_rows f l))))

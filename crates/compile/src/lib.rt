@@ -6,12 +6,16 @@
 ghost use Rattle.std.specs.Prelude.{◌≡◌};
 ghost use Rattle.compile.specs.Compile.{room, Compiles};
 
-use build::subtree;
+use crate::build::subtree;
 use nodes::{File, root};
 use policy::read;
 use refusal::{Reason, Refusal};
 use row::{MOST_ROWS, ROW_WORDS};
 use words::clear_from;
+
+mod build;
+mod common;
+mod rows;
 
 /// Compiles the policy in a file into a table, within the table and the scratch. Answers how many
 /// rows the table has.

@@ -16,8 +16,8 @@ use Rattle.action.specs.Laws.{commutes, associates, shown, pairs, triples, first
 use Rattle.action.specs.declared.Action.{Action}
 use Rattle.row.specs.Row.{row_length, most_rows, row_of, row_action, right_row_match, right_row_action}
 use Rattle.words.specs.Words.{zeros}
-use Rattle.section.specs.Sections.{count_fault, cells_fault, atom_fault, node_fault, section_fault}
-use Rattle.whole.specs.Whole.{shape_fault, sum_fault, operator_fault, laws_fault}
+use Rattle.policy.specs.Sections.{count_fault, cells_fault, atom_fault, node_fault, section_fault}
+use Rattle.policy.specs.Whole.{shape_fault, sum_fault, operator_fault, laws_fault}
 use Rattle.refusal.specs.Refusals.{refusal_at}
 use Rattle.refusal.specs.declared.Reason.TheVariants.{NoRoom}
 use Rattle.policy.specs.Read.{whole_stages, stages, read_as, read_of, layout}
@@ -116,13 +116,13 @@ module _ (t : List ℕ) (long : length t ≡ row_length * most_rows) where
       let most : 2 ^ k ≤ 4096 = pow_mono h in
       let fits : length (compiled_rows (file k) (layout 1 k 1)) ≤ room (length t) =
       omega (arith, count k b, room_is, most) in
-      sym ((answered-in-order (file k) t t).rows-answered (layout 1 k 1) (reads k b) enough fits).answer ∙ ap (λ i. Ok i) (count k b)
+      sym ((answered-in-order (file k) t t).rows_answered (layout 1 k 1) (reads k b) enough fits).answer ∙ ap (λ i. Ok i) (count k b)
 
   many_in : answer_of (file 13) t t ≡ Err (refusal_at NoRoom 0)
   many_in =
       let b : 13 < 14 = omega arith in
       let n : length (compiled_rows (file 13) (layout 1 13 1)) ≡ 8191 = count 13 b in
-      sym ((answered-in-order (file 13) t t).room-short (layout 1 13 1) (reads 13 b) enough (omega (arith, n, room_is))).answer
+      sym ((answered-in-order (file 13) t t).room_short (layout 1 13 1) (reads 13 b) enough (omega (arith, n, room_is))).answer
 
 pub few : (k : ℕ) → k ≤ 12 → answer_for k ≡ Ok (2 ^ k - 1)
 few = few_in largest (length-replicate {A = ℕ} (row_length * most_rows) 0)

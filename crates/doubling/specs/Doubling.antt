@@ -8,7 +8,7 @@
 use Rattle.std.specs.Prelude.{ℕ, ◌*◌, List, [], ◌∷◌, ◌++◌, Ok, Err}
 use Rattle.words.specs.Words.{zeros}
 use Rattle.row.specs.Row.{row_length, most_rows}
-use Rattle.section.specs.Numbers.{atom_length}
+use Rattle.policy.specs.Numbers.{atom_length}
 use Rattle.refusal.specs.Refusals.{refusal_number}
 use Rattle.compile.specs.Compile.{Compiled, answer_of}
 

@@ -10,9 +10,9 @@ ghost use Rattle.doubling.specs.declared.TheConstants.{FEW, MANY};
 ghost use Rattle.doubling.specs.Doubling.{answer_for, number_of};
 
 use compile::compile;
+use policy::{ATOM_WORDS, FIRST_OPERATOR, NODE_WORDS, OPERATOR_WORDS};
 use refusal::Refusal;
 use row::{MOST_ROWS, ROW_WORDS};
-use section::{ATOM_WORDS, FIRST_OPERATOR, NODE_WORDS, OPERATOR_WORDS};
 use std::io;
 use words::copy;
 

@@ -10,7 +10,7 @@
 --   prefixes_meet w p m q n         p, m and q, n have an address in common
 --   covers w p m q n                p, m is no longer than q, n, and holds all of it
 --   longer_address, longer_length   the longer of two prefixes
-use Rattle.std.specs.Prelude.{ℕ, ◌-◌, ◌/◌, ◌%◌, ◌^◌, Bool, cond, ◌&&◌, eqb, leb, ltb}
+use Rattle.std.specs.Prelude.{ℕ, ◌-◌, ◌/◌, ◌%◌, ◌^◌, Bool, ◌&&◌, if◌then◌else◌, ◌==◌, nat_le, nat_lt}
 
 -- the width of an address
 abbrev pub address_bits : ℕ
@@ -22,28 +22,28 @@ leading w n x = x / 2 ^ (w - n)
 
 -- x lies in the prefix p, n: the two agree in their first n bits
 unfoldable pub in_prefix : ℕ → ℕ → ℕ → ℕ → Bool
-in_prefix w p n x = eqb (leading w n p) (leading w n x)
+in_prefix w p n x = leading w n p == leading w n x
 
 -- the bits of p beyond the length are 0
 unfoldable pub zero_beyond : ℕ → ℕ → ℕ → Bool
-zero_beyond w p n = eqb (p % 2 ^ (w - n)) 0
+zero_beyond w p n = p % 2 ^ (w - n) == 0
 
 -- a right prefix
 unfoldable pub right_prefix : ℕ → ℕ → ℕ → Bool
-right_prefix w p n = ltb p (2 ^ w) && leb n w && zero_beyond w p n
+right_prefix w p n = nat_lt p (2 ^ w) && nat_le n w && zero_beyond w p n
 
 -- two prefixes meet: the shorter one holds the longer one's address
 unfoldable pub prefixes_meet : ℕ → ℕ → ℕ → ℕ → ℕ → Bool
-prefixes_meet w p m q n = cond (leb m n) (in_prefix w p m q) (in_prefix w q n p)
+prefixes_meet w p m q n = if nat_le m n then in_prefix w p m q else in_prefix w q n p
 
 -- p, m covers q, n: it is no longer, and holds q
 unfoldable pub covers : ℕ → ℕ → ℕ → ℕ → ℕ → Bool
-covers w p m q n = leb m n && in_prefix w p m q
+covers w p m q n = nat_le m n && in_prefix w p m q
 
 -- the longer prefix's address
 abbrev pub longer_address : ℕ → ℕ → ℕ → ℕ → ℕ
-longer_address p m q n = cond (leb m n) q p
+longer_address p m q n = if nat_le m n then q else p
 
 -- the longer prefix's length
 abbrev pub longer_length : ℕ → ℕ → ℕ
-longer_length m n = cond (leb m n) n m
+longer_length m n = if nat_le m n then n else m

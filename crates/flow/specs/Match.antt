@@ -25,7 +25,7 @@
 --   inside a b              every packet that meets a meets b
 --   SharedPacket a b        a packet in range that meets both
 --   LiesIn a b              every packet in range that meets a meets b
-use Rattle.std.specs.Prelude.{ℕ, ◌+◌, ◌-◌, ◌≡◌, Bool, true, false, cond, not, ◌&&◌, ◌||◌, List, [], ◌∷◌, ◌++◌, eqb, get_or, replicate}
+use Rattle.std.specs.Prelude.{ℕ, ◌+◌, ◌-◌, ◌≡◌, Bool, true, false, not, ◌&&◌, ◌||◌, List, [], ◌∷◌, ◌++◌, replicate, if◌then◌else◌, ◌==◌, slice_index}
 use Rattle.std.specs.Int.Bits.{bit_and, bit_or}
 use Rattle.field.specs.Prefix.{address_bits, in_prefix, right_prefix, prefixes_meet, covers}
 use Rattle.field.specs.Longer.{longer}
@@ -69,13 +69,13 @@ empty_flag = 16
 -- the match that the first nine words are; words that are missing count as 0
 abbrev pub match_of : List ℕ → Match
 match_of l = record {
-  in_port = get_or l 0 0;
-  source = record { address = get_or l 1 0; length = get_or l 6 0 };
-  destination = record { address = get_or l 2 0; length = get_or l 7 0 };
-  protocol = get_or l 3 0;
-  source_port = get_or l 4 0;
-  destination_port = get_or l 5 0;
-  flags = get_or l 8 0;
+  in_port = slice_index l 0;
+  source = record { address = slice_index l 1; length = slice_index l 6 };
+  destination = record { address = slice_index l 2; length = slice_index l 7 };
+  protocol = slice_index l 3;
+  source_port = slice_index l 4;
+  destination_port = slice_index l 5;
+  flags = slice_index l 8;
 }
 
 -- a match's nine words
@@ -98,7 +98,7 @@ none = match_of (replicate (match_length - 1) 0 ++ empty_flag ∷ [])
 
 -- a flag of k is among the flags f
 abbrev pub flagged : ℕ → ℕ → Bool
-flagged k f = not (eqb (bit_and f k) 0)
+flagged k f = not (bit_and f k == 0)
 
 -- a flag of k is among those of m
 abbrev pub constrains : ℕ → Match → Bool
@@ -112,7 +112,7 @@ abbrev pub udp : ℕ
 udp = 17
 
 abbrev pub has_ports : ℕ → Bool
-has_ports q = eqb q tcp || eqb q udp
+has_ports q = q == tcp || q == udp
 
 -- a packet of the protocol q passes the ports of a match, whatever their values: none is constrained, or q has ports
 unfoldable pub meets_ports : Bool → ℕ → Bool
@@ -139,7 +139,7 @@ abbrev pub same_words : Bool → List ℕ → List ℕ → Bool
 same_words t [] [] = t
 same_words t [] (y ∷ G) = false
 same_words t (x ∷ F) [] = false
-same_words t (x ∷ F) (y ∷ G) = same_words (t && eqb x y) F G
+same_words t (x ∷ F) (y ∷ G) = same_words (t && x == y) F G
 
 -- the words are those of none
 unfoldable pub is_none : Match → Bool
@@ -148,7 +148,7 @@ is_none m = same_words true (match_words m) (match_words none)
 -- any other right match: only known flags, values in a packet's ranges and 0 where unconstrained, right prefixes
 unfoldable pub is_plain : Match → Bool
 is_plain m =
-    eqb (bit_and m.flags known_flags) m.flags
+    bit_and m.flags known_flags == m.flags
     && right_value (constrains in_port_flag m) port_limit m.in_port
     && right_value (constrains protocol_flag m) protocol_limit m.protocol
     && right_value (constrains source_port_flag m) port_limit m.source_port
@@ -205,7 +205,7 @@ overlap a b = agree a b && not (is_empty (both a b))
 
 -- the common match: both together where they overlap, else none
 unfoldable pub common : Match → Match → Match
-common a b = cond (overlap a b) (both a b) none
+common a b = if overlap a b then both a b else none
 
 -- a lies inside b, that is, b is met by every packet that meets a: a is empty, or b is not and holds a in each field
 unfoldable pub inside : Match → Match → Bool

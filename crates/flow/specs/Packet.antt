@@ -5,7 +5,7 @@
 --   right_packet              the values are in their ranges
 --   right_packet_words        some words are a packet
 --   packet_in                 the packet that some words are, if they are one
-use Rattle.std.specs.Prelude.{ℕ, ◌^◌, Bool, cond, ◌&&◌, List, [], ◌∷◌, Result, Ok, Err, eqb, ltb, get_or, length}
+use Rattle.std.specs.Prelude.{ℕ, ◌^◌, Bool, ◌&&◌, List, [], ◌∷◌, Result, Ok, Err, length, if◌then◌else◌, ◌==◌, nat_lt, slice_index}
 use Rattle.field.specs.Prefix.{address_bits}
 use Rattle.flow.specs.declared.Packet.{Packet}
 use Rattle.flow.specs.declared.packets.InvalidPacket.{InvalidPacket}
@@ -25,12 +25,12 @@ protocol_limit = 256
 -- the packet that the first six words are; words that are missing count as 0
 abbrev pub packet_of : List ℕ → Packet
 packet_of l = record {
-  in_port = get_or l 0 0;
-  source = get_or l 1 0;
-  destination = get_or l 2 0;
-  protocol = get_or l 3 0;
-  source_port = get_or l 4 0;
-  destination_port = get_or l 5 0;
+  in_port = slice_index l 0;
+  source = slice_index l 1;
+  destination = slice_index l 2;
+  protocol = slice_index l 3;
+  source_port = slice_index l 4;
+  destination_port = slice_index l 5;
 }
 
 -- a packet's six words
@@ -40,17 +40,17 @@ packet_words p = p.in_port ∷ p.source ∷ p.destination ∷ p.protocol ∷ p.s
 -- the values are in their ranges; an address is any word
 unfoldable pub right_packet : Packet → Bool
 right_packet p =
-    ltb p.source (2 ^ address_bits)
-    && ltb p.destination (2 ^ address_bits)
-    && ltb p.in_port port_limit
-    && ltb p.protocol protocol_limit
-    && ltb p.source_port port_limit
-    && ltb p.destination_port port_limit
+    nat_lt p.source (2 ^ address_bits)
+    && nat_lt p.destination (2 ^ address_bits)
+    && nat_lt p.in_port port_limit
+    && nat_lt p.protocol protocol_limit
+    && nat_lt p.source_port port_limit
+    && nat_lt p.destination_port port_limit
 
 -- some words are a packet: exactly six, with values in their ranges
 unfoldable pub right_packet_words : List ℕ → Bool
-right_packet_words l = eqb (length l) packet_length && right_packet (packet_of l)
+right_packet_words l = length l == packet_length && right_packet (packet_of l)
 
 -- the packet that some words are, if they are one
 unfoldable pub packet_in : List ℕ → Result Packet InvalidPacket
-packet_in l = cond (right_packet_words l) (Ok (packet_of l)) (Err (record {}))
+packet_in l = if right_packet_words l then Ok (packet_of l) else Err (record {})

@@ -22,21 +22,21 @@ use Rattle.row.specs.Row.{row_length, row_of}
 use Rattle.flow.specs.declared.Match.{Match}
 use Rattle.action.specs.declared.Action.{Action}
 use Rattle.action.proofs.Cells.{cells-equal}
-use Rattle.section.specs.Numbers.{first_operator, operator_length, atom_length, node_length}
-use Rattle.section.specs.Sections.{inner_of, parent_of, sibling_of, own_of, children_of}
-use Rattle.whole.specs.Whole.{own_atoms}
+use Rattle.policy.specs.Numbers.{first_operator, operator_length, atom_length, node_length}
+use Rattle.policy.specs.Sections.{inner_of, parent_of, sibling_of, own_of, children_of}
+use Rattle.policy.specs.Whole.{own_atoms}
 use Rattle.policy.specs.Read.{nodes_at, end_of, operator_records}
 use Rattle.policy.specs.Read as read
-use Rattle.policy.specs.File.{PolicyNode, node_of, held, atoms_of}
-use Rattle.whole.specs.Meaning.{operator_at}
-use Rattle.section.specs.Due.{RightNode}
+use Rattle.policy.specs.File.{PolicyNode, held_node, held, atoms_of}
+use Rattle.policy.specs.Meaning.{operator_at}
+use Rattle.policy.specs.Due.{RightNode}
 use Rattle.policy.specs.WellFormed.{Otherwise}
 use Rattle.policy.proofs.Accepted.{accepted-exactly}
 use Rattle.logic.proofs.Tests.{by_le}
 use Rattle.nodes.specs.Nodes.{node_place, node_at, from_operator, cells_at, atom_words_at}
 use Rattle.nodes.specs.Walk.{layout_of, list_of, records_of, node_index, Reached, next_spot}
-use Rattle.section.specs.Node.{node_of as spelled}
-use Rattle.section.specs.declared.Node.{Node}
+use Rattle.policy.specs.Node.{node_of as spelled}
+use Rattle.policy.specs.declared.Node.{Node}
 use Rattle.nodes.specs.declared.Spot.{Spot}
 
 -- what a part of some words is, or no words where it is no part of them: all from a place on, and the first n
@@ -118,12 +118,13 @@ module _ {R : Type 0} (k : ℕ) (read : List ℕ → R) (pos : 0 < k) where
 
 -- a node's own atoms start where those of the nodes before it end
 held_at : (os : List (List ℕ)) (xs : List (Row Match Action)) (rs : List (List ℕ)) (i : ℕ) (d : Listed PolicyNode) → i < length rs
-    → get_or (held os xs rs) i d ≡ record { what = node_of os (drop (own_atoms (take i rs)) xs) (get_or rs i []); child_count = children_of (get_or rs i []) }
+    → get_or (held os xs rs) i d ≡ record { what = held_node os (drop (own_atoms (take i rs)) xs) (get_or rs i []); child_count = children_of (get_or rs i []) }
 held_at os xs [] i d h = absurd (omega arith)
 held_at os xs (r ∷ rs) zero d h = refl
 held_at os xs (r ∷ rs) (suc i) d h =
     held_at os (drop (own_of r) xs) rs i d (omega arith)
-    ∙ ap (λ ys. record { what = node_of os ys (get_or rs i []); child_count = children_of (get_or rs i []) }) (drop-drop (own_atoms (take i rs)) (own_of r) xs)
+    ∙ ap (λ ys. record { what = held_node os ys (get_or rs i []); child_count = children_of (get_or rs i []) })
+    (drop-drop (own_atoms (take i rs)) (own_of r) xs)
 
 length-held : (os : List (List ℕ)) (xs : List (Row Match Action)) (rs : List (List ℕ)) → length (held os xs rs) ≡ length rs
 length-held os xs [] = refl
@@ -225,7 +226,7 @@ here f s reached h =
     let k : s.nodes_left ≤ c = reached.left in
     let many : length rs ≡ c = length-records c node_length (drop (nodes_at a b + 1) f) in
     let ends : length f ≡ end_of a b c = w.ends in
-    let right : RightNode a r = w.right-nodes i (omega arith) in
+    let right : RightNode a r = w.right_nodes i (omega arith) in
     let taken : ℕ = own_atoms (take i rs) in
     let n : Node = node_at f s.nodes_left in
     let inner : n.inner ≡ inner_of r = word-here f w s.nodes_left 0 h k (omega arith) in
@@ -234,7 +235,7 @@ here f s reached h =
     let own : n.own ≡ own_of r = word-here f w s.nodes_left 3 h k (omega arith) in
     let children : n.children ≡ children_of r = word-here f w s.nodes_left 4 h k (omega arith) in
     let more : own_atoms (take (suc i) rs) ≡ taken + own_of r = own-more rs i (omega arith) in
-    let all : own_atoms (take (suc i) rs) ≤ b = omega (arith, own-within rs (suc i), w.all-taken) in
+    let all : own_atoms (take (suc i) rs) ≤ b = omega (arith, own-within rs (suc i), w.all_taken) in
     let start : s.next_atom ≡ read.atoms_at a + 1 + atom_length * taken = reached.atom in
     let next : c - (s.nodes_left - 1) ≡ suc i = omega arith in
     let same = same-node

@@ -9,8 +9,8 @@ use lib.ListN.{get_or, drop, drop_of_length-le}
 use borrow.Author.Tests.{eqb-true, eqb-false, le-ltb}
 use Rattle.theory.specs.Tree.{Tree, Forest, node, bare, ◌▸◌}
 use Rattle.theory.specs.Nodes.{take_trees, drop_trees, plant}
-use Rattle.section.specs.Numbers.{most_operators}
-use Rattle.policy.specs.Read.{nodes_at, read_of}
+use Rattle.policy.specs.Numbers.{most_operators}
+use Rattle.policy.specs.Read.{first_atom, nodes_at, read_of}
 use Rattle.policy.specs.Read as read
 use Rattle.policy.specs.File.{PolicyNode, first_tree, tree_of}
 use Rattle.policy.specs.WellFormed.{Otherwise}
@@ -18,7 +18,7 @@ use Rattle.policy.specs.declared.Layout.{Layout}
 use Rattle.std.specs.Prelude.{Ok}
 use Rattle.policy.proofs.Accepted.{accepted-exactly}
 use Rattle.logic.proofs.Tests.{by-test}
-use Rattle.nodes.specs.Nodes.{node_at, first_atom, root_spot}
+use Rattle.nodes.specs.Nodes.{node_at, root_spot}
 use Rattle.nodes.specs.Walk.{layout_of, list_of, node_index, Reached, next_spot, grown, tree_at, children_at, AfterTree, AfterChildren}
 use Rattle.nodes.specs.declared.Spot.{Spot}
 use Rattle.nodes.proofs.Places.{node_here, here, listed-many}

@@ -11,11 +11,11 @@
 --   tree_at, children_at       the first of them, and the first k of them
 --   After                      a place behind some trees
 --   AfterTree, AfterChildren   a place behind the tree at a place, and behind k children
-use Rattle.std.specs.Prelude.{ℕ, ◌+◌, ◌*◌, ◌-◌, ◌≤◌, ◌≡◌, List, Ok, get_or, take, drop}
+use Rattle.std.specs.Prelude.{ℕ, ◌+◌, ◌*◌, ◌-◌, ◌≤◌, ◌≡◌, List, Ok, take, drop, slice_index}
 use Rattle.theory.specs.Tree.{Forest}
 use Rattle.theory.specs.Nodes.{Listed, take_trees, drop_trees, plant}
-use Rattle.section.specs.Numbers.{header_length, atom_length}
-use Rattle.whole.specs.Whole.{own_atoms}
+use Rattle.policy.specs.Numbers.{header_length, atom_length}
+use Rattle.policy.specs.Whole.{own_atoms}
 use Rattle.policy.specs.Read.{nodes_at, node_records, layout, read_of}
 use Rattle.policy.specs.Read as read
 use Rattle.policy.specs.File.{PolicyNode, PolicyTree, file_nodes, first_tree}
@@ -26,9 +26,9 @@ use Rattle.nodes.specs.declared.Spot.{Spot}
 -- the layout that a file's counts say
 abbrev pub layout_of : List ℕ → Layout
 layout_of f =
-    let a : ℕ = get_or f header_length 0 in
-    let b : ℕ = get_or f (read.atoms_at a) 0 in
-    layout a b (get_or f (nodes_at a b) 0)
+    let a : ℕ = slice_index f header_length in
+    let b : ℕ = slice_index f (read.atoms_at a) in
+    layout a b (slice_index f (nodes_at a b))
 
 -- the nodes of a file in order
 abbrev pub list_of : List ℕ → List (Listed PolicyNode)
@@ -54,7 +54,10 @@ pub record Reached (f : List ℕ) (s : Spot) : Type 0 where
 
 -- the place behind a node's own atoms: that of its first child
 abbrev pub next_spot : List ℕ → Spot → Spot
-next_spot f s = record { nodes_left = s.nodes_left - 1; next_atom = s.next_atom + atom_length * (node_at f s.nodes_left).own }
+next_spot f s = record {
+  nodes_left = s.nodes_left - 1;
+  next_atom = s.next_atom + atom_length * (node_at f s.nodes_left).own;
+}
 
 -- the trees that stand from a place on
 unfoldable pub grown : List ℕ → Spot → Forest PolicyNode

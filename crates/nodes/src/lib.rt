@@ -5,16 +5,12 @@
 
 ghost use Rattle.std.specs.Prelude.{◌≡◌, ◌≤◌, ◌<◌, ◌+◌, ◌-◌, ◌*◌, ◌^◌};
 ghost use Rattle.action.specs.Operator.{join};
-ghost use Rattle.section.specs.Numbers.{atom_length};
+ghost use Rattle.policy.specs.Numbers.{atom_length};
 ghost use Rattle.nodes.specs.Nodes.{node_place, node_at, from_operator, cells_at};
-ghost use Rattle.nodes.specs.Nodes.{atom_words_at, first_atom, root_spot};
+ghost use Rattle.nodes.specs.Nodes.{atom_words_at, root_spot};
 
 use action::{Action, Operator};
-use policy::Layout;
-use section::{
-    ATOM_WORDS, FIRST_OPERATOR, HEADER_WORDS, LATEST, MOST_OPERATORS, NODE_WORDS, Node,
-    OPERATOR_WORDS, Section,
-};
+use policy::{ATOM_WORDS, FIRST_OPERATOR, Layout, NODE_WORDS, Node, OPERATOR_WORDS};
 use words::Spelling;
 
 /// A policy file, by its words.
@@ -37,7 +33,7 @@ pub fn root(layout: Layout) -> Spot
 {
     Spot {
         nodes_left: layout.nodes,
-        next_atom: first_atom(layout.operators),
+        next_atom: layout.first_atom(),
     }
 }
 
@@ -103,17 +99,6 @@ impl<'a> File<'a> {
         let at = FIRST_OPERATOR + OPERATOR_WORDS * (index as usize);
         self.words.get(at..).unwrap_or(&[])
     }
-}
-
-// The word where the first atom stands, behind so many operators and the count of the atoms; 0 if
-// no file has so many.
-fn first_atom(operators: usize) -> usize
-    ensures { result ≡ first_atom operators }
-{
-    if MOST_OPERATORS < operators {
-        return 0;
-    }
-    Section::Operators(LATEST).behind(HEADER_WORDS, operators) + 1
 }
 
 // The word where the node stands, or the end of the file.

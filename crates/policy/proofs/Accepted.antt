@@ -8,7 +8,7 @@ use lib.ListN.{get_or, length, take, drop, length-map, take-append-drop, drop_of
 use lib.Seq.{drop-drop}
 use borrow.Author.Tests.{eqb-true, eq-eqb}
 use Rattle.std.specs.Prelude.{Ok, Err}
-use Rattle.section.specs.Sections.{Test}
+use Rattle.policy.specs.Sections.{Test}
 use Rattle.logic.specs.Lists.{All}
 use Rattle.words.proofs.RecordLaws.{length-records}
 use Rattle.theory.specs.declared.Row.{Row}
@@ -18,24 +18,24 @@ use Rattle.row.specs.Row.{row_of}
 use Rattle.flow.specs.declared.Match.{Match}
 use Rattle.action.specs.declared.Action.{Action}
 use Rattle.refusal.specs.declared.Reason.TheVariants.{WrongSum}
-use Rattle.section.specs.Numbers.{latest, header_length_in, operator_length_in, atom_length}
-use Rattle.section.specs.Sections.{header_fault, section_fault, children_of, own_of}
-use Rattle.whole.specs.Whole.{shape, shape_fault, own_atoms, sum_fault, laws_fault}
+use Rattle.policy.specs.Numbers.{latest, header_length_in, operator_length_in, atom_length}
+use Rattle.policy.specs.Sections.{header_fault, section_fault, children_of, own_of}
+use Rattle.policy.specs.Whole.{shape, shape_fault, own_atoms, sum_fault, laws_fault}
 use Rattle.policy.specs.Read.{extra_fault, atoms_at_in, nodes_at_in, end_in, operators_in, nodes_in, atoms_at, operator_records, atom_records, node_records}
 use Rattle.policy.specs.Read.{whole_stages, stages, layout, answer, read_as}
-use Rattle.section.specs.Cells.{operator_rows}
+use Rattle.policy.specs.Cells.{operator_rows}
 use Rattle.policy.specs.File.{held, atoms_of_in, file_nodes_in, atoms_of, file_nodes, first_tree, tree_of, all_atoms}
-use Rattle.whole.specs.Meaning.{OneTree}
+use Rattle.policy.specs.Meaning.{OneTree}
 use Rattle.policy.specs.WellFormed.{OtherwiseIn, WellFormedIn}
 use Rattle.policy.specs.Order.{GoodSections}
 use Rattle.policy.specs.Theorems.{AcceptedAs, AcceptedExactly, AcceptedTree, AcceptedAtoms}
-use Rattle.section.specs.declared.Edition.{Edition}
+use Rattle.policy.specs.declared.Edition.{Edition}
 use Rattle.policy.specs.declared.Layout.{Layout}
-use Rattle.section.specs.declared.Section.TheVariants.{Operators, Atoms, Nodes}
-use Rattle.section.proofs.Records.{unless-true}
-use Rattle.whole.proofs.Trees.{shape-one-tree, one-tree-shape, one-tree-planted}
-use Rattle.section.proofs.Passed.{header-passed, passed-header, good-passed, passed-good}
-use Rattle.whole.proofs.Named.{operators-many, right-operators, laws-kept, kept_laws}
+use Rattle.policy.specs.declared.Section.TheVariants.{Operators, Atoms, Nodes}
+use Rattle.policy.proofs.Records.{unless-true}
+use Rattle.policy.proofs.Trees.{shape-one-tree, one-tree-shape, one-tree-planted}
+use Rattle.policy.proofs.Passed.{header-passed, passed-header, good-passed, passed-good}
+use Rattle.policy.proofs.Named.{operators-many, right-operators, laws-kept, kept_laws}
 use Rattle.logic.proofs.Lists.{all_split}
 use Rattle.policy.proofs.Extra.{passed-extra, extra-passed}
 
@@ -118,10 +118,10 @@ module _ (e : Edition) (f : List ℕ) (a b c : ℕ) where
     cells = λ i j l m. g.operators.right i l j m;
     matches = λ i l. (g.atoms.right i l).0;
     actions = λ i l. (g.atoms.right i l).1;
-    right-nodes = g.nodes.right;
+    right_nodes = g.nodes.right;
     ends = ends;
-    one-tree = tree;
-    all-taken = sum;
+    one_tree = tree;
+    all_taken = sum;
   }
 
   -- what the stages before the laws say
@@ -147,10 +147,10 @@ module _ (e : Edition) (f : List ℕ) (a b c : ℕ) where
     header = passed-header e f o.header;
     operators = good-passed f (header_length_in e) (Operators e) a (record { present = o.operators; right = λ i l j m. o.cells i j l m });
     atoms = good-passed f (atoms_at_in e a) (Atoms e) b (record { present = o.atoms; right = λ i l. (o.matches i l, o.actions i l) });
-    nodes = good-passed f (nodes_at_in e a b) (Nodes a) c (record { present = o.nodes; right = o.right-nodes });
+    nodes = good-passed f (nodes_at_in e a b) (Nodes a) c (record { present = o.nodes; right = o.right_nodes });
     extra = passed-extra f (end_in e a b c) o.ends;
-    tree = sym children-shape ∙ one-tree-shape (file_nodes_in e f (layout a b c)) o.one-tree;
-    sum = rw (eq-eqb (own_atoms (nodes_in e f a b c)) b o.all-taken);
+    tree = sym children-shape ∙ one-tree-shape (file_nodes_in e f (layout a b c)) o.one_tree;
+    sum = rw (eq-eqb (own_atoms (nodes_in e f a b c)) b o.all_taken);
   }
 
 -- ACCEPTED EXACTLY WHEN WELL FORMED
@@ -171,7 +171,7 @@ accepted-as e f l = (well, accepts)
         rw (← p.2) (record {
           otherwise = o;
           lawful = laws-kept a (operator_rows e os) (nodes_in e f a b c) many (right-operators e os a raw o.cells)
-              (λ i h. o.right-nodes i (rw length-records at h)) p.1;
+              (λ i h. o.right_nodes i (rw length-records at h)) p.1;
         })
 
     accepts : WellFormedIn e f l → read_as e f ≡ Ok l
@@ -185,7 +185,7 @@ accepted-as e f l = (well, accepts)
         let o : OtherwiseIn e f a b c = w.otherwise in
         rw (o.operators.count, o.atoms.count, o.nodes.count)
         (passed-answer e f a b c (of-otherwise e f a b c o)
-        (kept_laws a (operator_rows e os) (nodes_in e f a b c) many (right-operators e os a raw o.cells) (λ i h. o.right-nodes i (rw length-records at h))
+        (kept_laws a (operator_rows e os) (nodes_in e f a b c) many (right-operators e os a raw o.cells) (λ i h. o.right_nodes i (rw length-records at h))
         w.lawful))
 
 pub accepted-exactly : AcceptedExactly
@@ -194,7 +194,7 @@ accepted-exactly f l = accepted-as latest f l
 -- ONE TREE, whose nodes in file order are the file's
 pub accepted-tree : AcceptedTree
 accepted-tree f l e =
-    let o : OneTree (file_nodes f l) = ((accepted-exactly f l).0 e).otherwise.one-tree in
+    let o : OneTree (file_nodes f l) = ((accepted-exactly f l).0 e).otherwise.one_tree in
     let p : plant (file_nodes f l) ≡ o.tree ▸ bare = one-tree-planted (file_nodes f l) o in
     let q : tree_of f l ≡ o.tree = ap first_tree p in
     record { planted = rw q p; lists = rw q o.lists; shallow = rw q o.shallow }
@@ -217,6 +217,6 @@ accepted-atoms f l e =
     let rs : List (List ℕ) = node_records f l.operators l.atoms l.nodes in
     let many : length xs ≡ l.atoms =
     length-map (atom_records f l.operators l.atoms) row_of ∙ length-records l.atoms atom_length (drop (atoms_at l.operators + 1) f) in
-    let sum : own_atoms rs ≡ l.atoms = ((accepted-exactly f l).0 e).otherwise.all-taken in
+    let sum : own_atoms rs ≡ l.atoms = ((accepted-exactly f l).0 e).otherwise.all_taken in
     let none : drop (own_atoms rs) xs ≡ [] = drop_of_length-le xs {i = own_atoms rs} (omega arith) in
     sym (append-nil (all_atoms (held os xs rs))) ∙ ap (λ l. all_atoms (held os xs rs) ++ l) (sym none) ∙ taken os xs rs

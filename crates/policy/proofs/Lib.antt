@@ -1,3 +1,14 @@
+pub mod Editions
+pub mod Lengths
+pub mod Each
+pub mod Records
+pub mod Passed
+pub mod Due
+pub mod NodeWords
+pub mod Turns
+pub mod Trees
+pub mod Depths
+pub mod Named
 pub mod Extra
 pub mod Reading
 pub mod Accepted

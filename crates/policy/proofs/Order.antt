@@ -16,26 +16,26 @@ use Rattle.refusal.specs.Refusals.{law_broken, reason_number, refusal_at}
 use Rattle.refusal.specs.declared.Reason.{Reason}
 use Rattle.refusal.specs.declared.Refusal.{Refusal}
 use Rattle.refusal.specs.declared.Reason.TheVariants.{ExtraWords, NoTree, WrongSum}
-use Rattle.section.specs.Numbers.{header_length_in, operator_length_in, node_length}
-use Rattle.section.specs.Cells.{operator_rows}
-use Rattle.section.specs.Sections.{children_of}
-use Rattle.whole.specs.Whole.{shape, shape_fault, own_atoms, sum_fault, laws_fault}
+use Rattle.policy.specs.Numbers.{header_length_in, operator_length_in, node_length}
+use Rattle.policy.specs.Cells.{operator_rows}
+use Rattle.policy.specs.Sections.{children_of}
+use Rattle.policy.specs.Whole.{shape, shape_fault, own_atoms, sum_fault, laws_fault}
 use Rattle.policy.specs.Read.{atoms_at_in, nodes_at_in, end_in, operators_in, nodes_in, whole_stages, stages, layout, answer, read_as}
-use Rattle.whole.specs.Meaning.{operator_at, OneTree, ended, HasPlace}
+use Rattle.policy.specs.Meaning.{operator_at, OneTree, ended, HasPlace}
 use Rattle.policy.specs.File.{file_nodes_in}
-use Rattle.section.specs.Due.{RightNode}
+use Rattle.policy.specs.Due.{RightNode}
 use Rattle.policy.specs.WellFormed.{OtherwiseIn, WellFormedIn}
-use Rattle.policy.specs.Order.{child_counts_in, GoodSections, Due, in-header, in-operators, in-atoms, in-nodes, extra, no_place, missing, sum, FileOrder}
-use Rattle.section.specs.declared.Edition.{Edition}
-use Rattle.section.specs.declared.Section.TheVariants.{Operators, Atoms, Nodes}
-use Rattle.section.proofs.Passed.{passed-header, good-passed}
-use Rattle.whole.proofs.Named.{operators-many, right-operators, laws-kept, kept_laws}
-use Rattle.whole.proofs.Trees.{shape-one-tree, one-tree-shape}
+use Rattle.policy.specs.Order.{child_counts_in, GoodSections, Due, in_header, in_operators, in_atoms, in_nodes, extra, no_place, missing, sum, FileOrder}
+use Rattle.policy.specs.declared.Edition.{Edition}
+use Rattle.policy.specs.declared.Section.TheVariants.{Operators, Atoms, Nodes}
+use Rattle.policy.proofs.Passed.{passed-header, good-passed}
+use Rattle.policy.proofs.Named.{operators-many, right-operators, laws-kept, kept_laws}
+use Rattle.policy.proofs.Trees.{shape-one-tree, one-tree-shape}
 use Rattle.policy.proofs.Accepted.{children-shape, good-otherwise, accepted-as}
 use Rattle.policy.proofs.Refused.{broken-refused-as}
-use Rattle.whole.proofs.Depths.{shape-first, shape-places, has-place}
+use Rattle.policy.proofs.Depths.{shape-first, shape-places, has-place}
 use Rattle.logic.proofs.Tests.{by-test, by_le}
-use Rattle.section.proofs.Due.{first-wrong, passed-or-not, section-due, section-cases, header-due, header-cases}
+use Rattle.policy.proofs.Due.{first-wrong, passed-or-not, section-due, section-cases, header-due, header-cases}
 
 -- what the tests of the whole come to, once all three sections are good
 abbrev with_whole : Edition → List ℕ → ℕ → ℕ → ℕ → ℕ → ℕ → Reading
@@ -74,11 +74,11 @@ module _ (e : Edition) (f : List ℕ) (a b c : ℕ) where
 -- WHAT IS DUE IS GIVEN
 due-read : (e : Edition) (f : List ℕ) {why : Reason} {at : ℕ} → Due e f why at → read_as e f ≡ Err (refusal_at why at)
 unfolding read_as stages
-due-read e f (in-header {why} {at} d) = rw (header-due e f why at d)
-due-read e f (in-operators h d) = rw (passed-header e f h, section-due f (header_length_in e) (Operators e) d)
-due-read e f (in-atoms {a} h g d) =
+due-read e f (in_header {why} {at} d) = rw (header-due e f why at d)
+due-read e f (in_operators h d) = rw (passed-header e f h, section-due f (header_length_in e) (Operators e) d)
+due-read e f (in_atoms {a} h g d) =
     rw g.present.count (rw (passed-header e f h, good-passed f (header_length_in e) (Operators e) a g, section-due f (atoms_at_in e a) (Atoms e) d))
-due-read e f (in-nodes {a} {b} h g k d) =
+due-read e f (in_nodes {a} {b} h g k d) =
     rw (g.present.count, k.present.count)
     (rw (
       passed-header e f h,
@@ -132,13 +132,13 @@ cases e f =
     (λ g. ⊎_elim
     (λ k. ⊎_elim
     (λ m. end-cases e f a b c (record { header = h; operators = g; atoms = k; nodes = m }))
-    (λ d. inr (_, _, in-nodes h g k d.2))
+    (λ d. inr (_, _, in_nodes h g k d.2))
     (section-cases f (nodes_at_in e a b) (Nodes a)))
-    (λ d. inr (_, _, in-atoms h g d.2))
+    (λ d. inr (_, _, in_atoms h g d.2))
     (section-cases f (atoms_at_in e a) (Atoms e)))
-    (λ d. inr (_, _, in-operators h d.2))
+    (λ d. inr (_, _, in_operators h d.2))
     (section-cases f (header_length_in e) (Operators e)))
-    (λ d. inr (_, _, in-header d.2))
+    (λ d. inr (_, _, in_header d.2))
     (header-cases e f)
 
 -- equal answers have equal refusals
@@ -155,7 +155,7 @@ lawless e f a b c why at other o r =
     let counted : length raw ≡ a = length-records a (operator_length_in e) (drop (header_length_in e + 1) f) in
     let many : length os ≡ a = operators-many e raw ∙ counted in
     let codes : (i : ℕ) → i < a → RightCodes (operator_at os i) = right-operators e raw a counted o.cells in
-    let nodes : (i : ℕ) → i < length ns → RightNode a (get_or ns i []) = λ i h. o.right-nodes i (rw length-records at h) in
+    let nodes : (i : ℕ) → i < length ns → RightNode a (get_or ns i []) = λ i h. o.right_nodes i (rw length-records at h) in
     ⊎_elim
     (λ p.
     let w : WellFormedIn e f (layout a b c) = record { otherwise = o; lawful = laws-kept a os ns many codes nodes p } in

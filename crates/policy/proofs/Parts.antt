@@ -8,14 +8,14 @@ use lib.ListN.{get_or, length, take, drop, length-append, length-drop, take-appe
 use lib.Seq.{drop-cons, drop-drop, take_at, drop_at, length-take-le}
 use Rattle.words.specs.Records.{records}
 use Rattle.words.proofs.RecordLaws.{length-records}
-use Rattle.section.specs.Numbers.{header_length_in, header_of, operator_length_in, atom_length_in, node_length, most_operators, most_atoms, most_nodes}
+use Rattle.policy.specs.Numbers.{header_length_in, header_of, operator_length_in, atom_length_in, node_length, most_operators, most_atoms, most_nodes}
 use Rattle.policy.specs.Read.{atoms_at_in, nodes_at_in, end_in, operators_in, atoms_in, nodes_in, layout}
-use Rattle.section.specs.Due.{Present, RightHeader}
+use Rattle.policy.specs.Due.{Present, RightHeader}
 use Rattle.policy.specs.WellFormed.{OtherwiseIn, WellFormedIn}
 use Rattle.policy.specs.Parts.{Parts, record_words, section_words, file_words_in, parts_in, layout_of_parts, EachLong, RightPartsIn, LawfulPartsIn}
 use Rattle.policy.specs.Theorems.{PartsAccepted, AcceptedParts, PartsWhole, PartsRead}
-use Rattle.section.specs.declared.Edition.{Edition}
-use Rattle.section.specs.declared.Edition.TheVariants.{First}
+use Rattle.policy.specs.declared.Edition.{Edition}
+use Rattle.policy.specs.declared.Edition.TheVariants.{First}
 use Rattle.policy.proofs.Accepted.{accepted-as}
 
 -- records that are there have their length, and their words are what they were taken from
@@ -79,20 +79,20 @@ parts-right e f a b c o =
     let lb : length (atoms_in e f a b) ≡ b = length-records b (atom_length_in e) (drop (atoms_at_in e a + 1) f) in
     let lc : length (nodes_in e f a b c) ≡ c = length-records c node_length (drop (nodes_at_in e a b + 1) f) in
     record {
-      operators-long = each_long a (operator_length_in e) (drop (header_length_in e + 1) f) (rw length-drop (omega (arith, o.operators.whole)));
-      atoms-long = each_long b (atom_length_in e) (drop (atoms_at_in e a + 1) f) (rw length-drop (omega (arith, o.atoms.whole)));
-      nodes-long = each_long c node_length (drop (nodes_at_in e a b + 1) f) (rw length-drop (omega (arith, o.nodes.whole)));
-      some-operators = omega (arith, o.operators.least);
-      few-operators = omega (arith, o.operators.most);
-      few-atoms = omega (arith, o.atoms.most);
-      some-nodes = omega (arith, o.nodes.least);
-      few-nodes = omega (arith, o.nodes.most);
+      operators_long = each_long a (operator_length_in e) (drop (header_length_in e + 1) f) (rw length-drop (omega (arith, o.operators.whole)));
+      atoms_long = each_long b (atom_length_in e) (drop (atoms_at_in e a + 1) f) (rw length-drop (omega (arith, o.atoms.whole)));
+      nodes_long = each_long c node_length (drop (nodes_at_in e a b + 1) f) (rw length-drop (omega (arith, o.nodes.whole)));
+      some_operators = omega (arith, o.operators.least);
+      few_operators = omega (arith, o.operators.most);
+      few_atoms = omega (arith, o.atoms.most);
+      some_nodes = omega (arith, o.nodes.least);
+      few_nodes = omega (arith, o.nodes.most);
       cells = λ i j h l. o.cells i j (omega arith) l;
       matches = λ i h. o.matches i (omega arith);
       actions = λ i h. o.actions i (omega arith);
-      right-nodes = λ i h. rw la (o.right-nodes i (omega arith));
-      one-tree = o.one-tree;
-      all-taken = o.all-taken ∙ sym lb;
+      right_nodes = λ i h. rw la (o.right_nodes i (omega arith));
+      one_tree = o.one_tree;
+      all_taken = o.all_taken ∙ sym lb;
     }
 
 header-many : (e : Edition) → length (header_of e) ≡ header_length_in e
@@ -139,21 +139,21 @@ module _ (e : Edition) (P : Parts) (r : RightPartsIn e P) where
   second = section_words P.atoms third
 
   operators-stand : Standing f (header_length_in e) (operator_length_in e) P.operators second
-  operators-stand = standing f (header_length_in e) (operator_length_in e) P.operators second r.operators-long
+  operators-stand = standing f (header_length_in e) (operator_length_in e) P.operators second r.operators_long
       (drop_at (header_of e) (section_words P.operators second) (header_length_in e) (header-many e))
 
   atoms-stand : Standing f (atoms_at_in e a) (atom_length_in e) P.atoms third
-  atoms-stand = standing f (atoms_at_in e a) (atom_length_in e) P.atoms third r.atoms-long operators-stand.after
+  atoms-stand = standing f (atoms_at_in e a) (atom_length_in e) P.atoms third r.atoms_long operators-stand.after
 
   nodes-stand : Standing f (nodes_at_in e a b) node_length P.nodes []
-  nodes-stand = standing f (nodes_at_in e a b) node_length P.nodes [] r.nodes-long atoms-stand.after
+  nodes-stand = standing f (nodes_at_in e a b) node_length P.nodes [] r.nodes_long atoms-stand.after
 
   -- how long it is
   long : length f ≡ end_in e a b c
   long =
-      let x = long-words (operator_length_in e) P.operators r.operators-long in
-      let y = long-words (atom_length_in e) P.atoms r.atoms-long in
-      let z = long-words node_length P.nodes r.nodes-long in
+      let x = long-words (operator_length_in e) P.operators r.operators_long in
+      let y = long-words (atom_length_in e) P.atoms r.atoms_long in
+      let z = long-words node_length P.nodes r.nodes_long in
       omega (
         arith,
         x,
@@ -186,16 +186,16 @@ right-whole e P r =
     let rn : nodes_in e F A B C ≡ P.nodes = (nodes-stand e P r).read in
     record {
       header = begins e P r;
-      operators = record { there = omega arith; count = (operators-stand e P r).count; least = r.some-operators; most = r.few-operators; whole = omega arith };
-      atoms = record { there = omega arith; count = (atoms-stand e P r).count; least = omega arith; most = r.few-atoms; whole = omega arith };
-      nodes = record { there = omega arith; count = (nodes-stand e P r).count; least = r.some-nodes; most = r.few-nodes; whole = omega arith };
+      operators = record { there = omega arith; count = (operators-stand e P r).count; least = r.some_operators; most = r.few_operators; whole = omega arith };
+      atoms = record { there = omega arith; count = (atoms-stand e P r).count; least = omega arith; most = r.few_atoms; whole = omega arith };
+      nodes = record { there = omega arith; count = (nodes-stand e P r).count; least = r.some_nodes; most = r.few_nodes; whole = omega arith };
       cells = λ i j h l. rw ro (r.cells i j h l);
       matches = λ i h. rw ra (r.matches i h);
       actions = λ i h. rw ra (r.actions i h);
-      right-nodes = λ i h. rw rn (r.right-nodes i h);
+      right_nodes = λ i h. rw rn (r.right_nodes i h);
       ends = L;
-      one-tree = rw (ro, ra, rn) r.one-tree;
-      all-taken = rw rn r.all-taken;
+      one_tree = rw (ro, ra, rn) r.one_tree;
+      all_taken = rw rn r.all_taken;
     }
 
 -- ACCEPTED EXACTLY WHEN THE PARTS ARE RIGHT AND LAWFUL

@@ -10,16 +10,16 @@ use Rattle.words.specs.Records.{records}
 use Rattle.words.proofs.RecordLaws.{length-records}
 use Rattle.refusal.specs.declared.Reason.TheVariants.{ExtraWords}
 use Rattle.refusal.specs.declared.Refusal.{Refusal}
-use Rattle.section.specs.Numbers.{header_length_in, operator_length_in, node_length, most_nodes}
-use Rattle.section.specs.Cells.{operator_rows}
-use Rattle.section.specs.Sections.{Test, unless, header_fault, section_fault}
-use Rattle.section.specs.declared.Edition.{Edition}
-use Rattle.section.specs.declared.Section.{Section}
-use Rattle.section.specs.declared.Section.TheVariants.{Operators, Atoms, Nodes}
-use Rattle.whole.specs.Whole.{node_records, shape_fault, sum_fault, laws_fault}
+use Rattle.policy.specs.Numbers.{header_length_in, operator_length_in, node_length, most_nodes}
+use Rattle.policy.specs.Cells.{operator_rows}
+use Rattle.policy.specs.Sections.{Test, unless, header_fault, section_fault}
+use Rattle.policy.specs.declared.Edition.{Edition}
+use Rattle.policy.specs.declared.Section.{Section}
+use Rattle.policy.specs.declared.Section.TheVariants.{Operators, Atoms, Nodes}
+use Rattle.policy.specs.Whole.{nodes_by_words, shape_fault, sum_fault, laws_fault}
 use Rattle.policy.specs.Read.{layout, answer, read_as, stages, whole_stages}
 use Rattle.policy.specs.Steps.{IsRead, Reads}
-use Rattle.policy.specs.declared.GoodSection.{GoodSection}
+use Rattle.policy.specs.declared.stages.GoodSection.{GoodSection}
 
 -- what reading a section answered: it is read, or its fault is found
 module _ (f : List ℕ) (at : ℕ) (s : Section) {x : Result GoodSection Refusal} (reads : Reads f at s x) where
@@ -30,7 +30,7 @@ module _ (f : List ℕ) (at : ℕ) (s : Section) {x : Result GoodSection Refusal
   is-refused e = rw e at reads
 
 -- there are no more nodes than a file may have
-pub nodes-few : {f : List ℕ} {at o : ℕ} {n : GoodSection} → IsRead f at (Nodes o) n → length (node_records n.words.now) ≤ most_nodes
+pub nodes-few : {f : List ℕ} {at o : ℕ} {n : GoodSection} → IsRead f at (Nodes o) n → length (nodes_by_words n.words.now) ≤ most_nodes
 nodes-few {f} {at} {o} {n} r = rw r.records (omega (arith, r.few, length-records n.count node_length (drop (at + 1) f)))
 
 -- what a test came to
@@ -73,7 +73,7 @@ module _ (e : Edition) (f : List ℕ) {r : Refusal} where
 
 -- THE WHOLE: what is left to test once they are
 pub tests : {e : Edition} {f : List ℕ} {o a n : GoodSection} → Sections e f o a n
-    → let ns : List (List ℕ) = node_records n.words.now in read_as e f
+    → let ns : List (List ℕ) = nodes_by_words n.words.now in read_as e f
     ≡ answer
     (unless (leb (length f) n.end) ExtraWords n.end
     ∷ shape_fault ns

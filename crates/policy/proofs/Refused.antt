@@ -8,7 +8,7 @@ use mathlib.Core.Logic.{◌⊎◌, inl, inr, ⊎_elim}
 use lib.Dec.{eqb, leb, ltb}
 use lib.ListN.{get_or, length, drop}
 use Rattle.std.specs.Prelude.{Ok, Err, None}
-use Rattle.section.specs.Sections.{Test}
+use Rattle.policy.specs.Sections.{Test}
 use Rattle.logic.specs.Lists.{All}
 use Rattle.words.proofs.RecordLaws.{length-records}
 use Rattle.words.specs.Records.{records}
@@ -19,23 +19,23 @@ use Rattle.refusal.specs.Refusals.{law_broken, reason_number, failure_of, refusa
 use Rattle.refusal.specs.declared.Reason.{Reason}
 use Rattle.refusal.specs.declared.Reason.TheVariants.{LawBroken, ShortFile, WrongCount, WrongCell, WrongMatch, WrongAction, WrongNode, ExtraWords, NoTree, WrongSum}
 use Rattle.refusal.specs.declared.Refusal.{Refusal}
-use Rattle.section.specs.Numbers.{latest, header_length_in, operator_length_in, most_atoms, most_children, deepest}
-use Rattle.section.specs.Sections.{unless, ◌else◌, each, record_length, least, most, header_fault, count_fault, cell_fault, cells_fault, atom_fault}
-use Rattle.section.specs.Sections.{node_fault, record_fault, behind, section_fault, inner_of, parent_of, sibling_of, own_of, children_of}
-use Rattle.whole.specs.Whole.{waiting_nodes, one_less, shape, shape_fault, own_atoms, sum_fault, named, broken, operator_fault, laws_fault}
+use Rattle.policy.specs.Numbers.{latest, header_length_in, operator_length_in, most_atoms, most_children, deepest}
+use Rattle.policy.specs.Sections.{unless, ◌else◌, each, record_length, least, most, header_fault, count_fault, cell_fault, cells_fault, atom_fault}
+use Rattle.policy.specs.Sections.{node_fault, record_fault, behind, section_fault, inner_of, parent_of, sibling_of, own_of, children_of}
+use Rattle.policy.specs.Whole.{waiting_nodes, one_less, shape, shape_fault, own_atoms, sum_fault, named, broken, operator_fault, laws_fault}
 use Rattle.policy.specs.Read.{atoms_at_in, nodes_at_in, end_in, operators_in, nodes_in, whole_stages, stages, layout, answer, read_as}
-use Rattle.section.specs.Atom.{right_atom_match, right_atom_action}
-use Rattle.section.specs.Cells.{right_cell_in, operator_rows}
-use Rattle.whole.specs.Meaning.{operator_at}
+use Rattle.policy.specs.Atom.{right_atom_match, right_atom_action}
+use Rattle.policy.specs.Cells.{right_cell_in, operator_rows}
+use Rattle.policy.specs.Meaning.{operator_at}
 use Rattle.policy.specs.WellFormed.{OtherwiseIn}
 use Rattle.policy.specs.Theorems.{RefusedLawAs, RefusedLaw, BrokenRefusedAs, BrokenRefused, RefusedPlainAs, RefusedPlain}
-use Rattle.section.specs.declared.Edition.{Edition}
-use Rattle.section.specs.declared.Edition.TheVariants.{First}
+use Rattle.policy.specs.declared.Edition.{Edition}
+use Rattle.policy.specs.declared.Edition.TheVariants.{First}
 use Rattle.policy.specs.declared.Layout.{Layout}
-use Rattle.section.specs.declared.Section.{Section}
-use Rattle.section.specs.declared.Section.TheVariants.{Operators, Atoms, Nodes}
-use Rattle.section.proofs.Each.{FirstFault, each_first}
-use Rattle.whole.proofs.Named.{operators-many, right-operators, laws-kept, passed-search}
+use Rattle.policy.specs.declared.Section.{Section}
+use Rattle.policy.specs.declared.Section.TheVariants.{Operators, Atoms, Nodes}
+use Rattle.policy.proofs.Each.{FirstFault, each_first}
+use Rattle.policy.proofs.Named.{operators-many, right-operators, laws-kept, passed-search}
 use Rattle.policy.proofs.Accepted.{AllPassed, before, by_name, Stages, otherwise-of, of-otherwise}
 use Rattle.logic.proofs.Tests.{by-test}
 use Rattle.action.specs.Operator.{cells_of}
@@ -231,7 +231,7 @@ refused-law-as e f r g n =
       failure = w.2.failure;
       reason = w.2.reason;
       shows = subst (λ k. Shows (operator_at os k) w.2.failure) (sym z) w.2.shows;
-      first-such = λ i l t.
+      first_such = λ i l t.
           (search-exact (operator_at os i) (right-operators e raw a counted o.cells i (omega (arith, w.1.within)))).0
           (passed-search ns i (get_or os i []) (w.1.before i (omega arith) i (omega arith)) t);
     })
@@ -254,7 +254,7 @@ broken-refused-as e f a b c o n =
     let w : (r : Refusal) × (answer (laws_fault ns os ∷ []) (layout a b c) ≡ Err r) × (laws_fault ns os ≡ Err r) =
     last-answer (laws_fault ns os) (layout a b c)
     (λ p. n (laws-kept a os ns (operators-many e raw ∙ counted) (right-operators e raw a counted o.cells)
-    (λ i h. o.right-nodes i (rw length-records at h)) p)) in (
+    (λ i h. o.right_nodes i (rw length-records at h)) p)) in (
       w.0,
       rw (o.operators.count, o.atoms.count, o.nodes.count, s.header, s.operators, s.atoms, s.nodes, s.extra, s.tree, s.sum) w.1,
       numbered w.0 (first-broken ns os w.0 w.2).2,

@@ -14,14 +14,14 @@ use Rattle.theory.specs.Nodes.{Listed, plant}
 use Rattle.row.specs.Row.{row_of}
 use Rattle.flow.specs.declared.Match.{Match}
 use Rattle.action.specs.declared.Action.{Action}
-use Rattle.section.specs.Numbers.{latest}
-use Rattle.section.specs.Atom.{atom_row}
-use Rattle.section.specs.Cells.{operator_rows}
-use Rattle.section.specs.Sections.{inner_of, parent_of, sibling_of, own_of, children_of}
+use Rattle.policy.specs.Numbers.{latest}
+use Rattle.policy.specs.Atom.{atom_row}
+use Rattle.policy.specs.Cells.{operator_rows}
+use Rattle.policy.specs.Sections.{inner_of, parent_of, sibling_of, own_of, children_of}
 use Rattle.policy.specs.Read.{operators_in, atoms_in, nodes_in}
-use Rattle.section.specs.declared.Edition.{Edition}
+use Rattle.policy.specs.declared.Edition.{Edition}
 use Rattle.policy.specs.declared.Layout.{Layout}
-use Rattle.whole.specs.Meaning.{operator_at}
+use Rattle.policy.specs.Meaning.{operator_at}
 
 -- a node: its operators, each by its cells, and its atoms
 abbrev pub PolicyNode : Type 0
@@ -32,8 +32,8 @@ abbrev pub PolicyTree : Type 0
 PolicyTree = Tree PolicyNode
 
 -- a node, with its atoms off the front of those that are left
-abbrev pub node_of : List (List ℕ) → List (Row Match Action) → List ℕ → PolicyNode
-node_of os xs r = record {
+abbrev pub held_node : List (List ℕ) → List (Row Match Action) → List ℕ → PolicyNode
+held_node os xs r = record {
   inner = operator_at os (inner_of r);
   parent = operator_at os (parent_of r);
   sibling = operator_at os (sibling_of r);
@@ -43,7 +43,7 @@ node_of os xs r = record {
 -- the nodes in order: each takes its atoms from where the node before it stopped
 abbrev pub held : List (List ℕ) → List (Row Match Action) → List (List ℕ) → List (Listed PolicyNode)
 held os xs [] = []
-held os xs (r ∷ rs) = record { what = node_of os xs r; child_count = children_of r } ∷ held os (drop (own_of r) xs) rs
+held os xs (r ∷ rs) = record { what = held_node os xs r; child_count = children_of r } ∷ held os (drop (own_of r) xs) rs
 
 -- the atoms of a file
 abbrev pub atoms_of_in : Edition → List ℕ → Layout → List (Row Match Action)

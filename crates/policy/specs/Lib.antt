@@ -1,3 +1,11 @@
+pub mod Numbers
+pub mod Atom
+pub mod Cells
+pub mod Sections
+pub mod Node
+pub mod Due
+pub mod Whole
+pub mod Meaning
 pub mod Read
 pub mod Steps
 pub mod File

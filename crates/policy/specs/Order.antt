@@ -1,8 +1,8 @@
 -- Which of the refusals 1 to 9 a file gets where several could be given, and at which place, in the words of the format
 -- and not by the stages of `read_as`: "Reading goes section by section: count, then the whole section present, then
 -- records in order (4 before 5); then 7, 8, 9, 10. In 8, nodes go in order: first whether the tree had already ended,
--- then depth." What is due to a section stands in the crate section, specs/Due.antt, and what place a tree has for a
--- node in the crate whole. See docs/FORMAT.md, "The policy file" and "Numbers a caller can get back".
+-- then depth." What is due to a section stands in Due.antt beside this file, and what place a tree has for a node in
+-- Meaning.antt. See docs/FORMAT.md, "The policy file" and "Numbers a caller can get back".
 --
 --   child_counts_in   the child counts of the nodes of a file of an edition
 --   GoodSections      the header and all three sections are good
@@ -12,16 +12,16 @@ use Rattle.std.specs.Prelude.{ℕ, ◌<◌, ◌≡◌, false, List, map, ◌↔�
 use Rattle.refusal.specs.Refusals.{law_broken, reason_number, refusal_at}
 use Rattle.refusal.specs.declared.Reason.{Reason}
 use Rattle.refusal.specs.declared.Reason.TheVariants.{ExtraWords, NoTree, WrongSum}
-use Rattle.section.specs.Numbers.{header_length_in}
-use Rattle.section.specs.Sections.{children_of}
-use Rattle.whole.specs.Whole.{own_atoms}
+use Rattle.policy.specs.Numbers.{header_length_in}
+use Rattle.policy.specs.Sections.{children_of}
+use Rattle.policy.specs.Whole.{own_atoms}
 use Rattle.policy.specs.Read.{read_as, atoms_at_in, nodes_at_in, end_in, nodes_in}
 use Rattle.policy.specs.File.{file_nodes_in}
-use Rattle.section.specs.Due.{RightHeader, FirstWrong, Good, SectionDue, HeaderDue}
-use Rattle.whole.specs.Meaning.{OneTree, ended, HasPlace}
+use Rattle.policy.specs.Due.{RightHeader, FirstWrong, Good, SectionDue, HeaderDue}
+use Rattle.policy.specs.Meaning.{OneTree, ended, HasPlace}
 use Rattle.policy.specs.WellFormed.{OtherwiseIn}
-use Rattle.section.specs.declared.Edition.{Edition}
-use Rattle.section.specs.declared.Section.TheVariants.{Operators, Atoms, Nodes}
+use Rattle.policy.specs.declared.Edition.{Edition}
+use Rattle.policy.specs.declared.Section.TheVariants.{Operators, Atoms, Nodes}
 
 -- the child counts of the nodes of a file of an edition
 abbrev pub child_counts_in : Edition → List ℕ → ℕ → ℕ → ℕ → List ℕ
@@ -36,13 +36,13 @@ pub record GoodSections (e : Edition) (f : List ℕ) (a b c : ℕ) : Type 0 wher
 
 -- WHICH REFUSAL IS DUE to a file of an edition: its reason and its place
 pub data Due (e : Edition) (f : List ℕ) : Reason → ℕ → Type 0 where
-  in-header : {why : Reason} {at : ℕ} → HeaderDue e f why at → Due e f why at
+  in_header : {why : Reason} {at : ℕ} → HeaderDue e f why at → Due e f why at
   -- "Reading goes section by section": a section's refusal, where the header and the sections before it are good
-  in-operators : {why : Reason} {at : ℕ} → RightHeader e f → SectionDue f (header_length_in e) (Operators e) why at
+  in_operators : {why : Reason} {at : ℕ} → RightHeader e f → SectionDue f (header_length_in e) (Operators e) why at
       → Due e f why at
-  in-atoms : {a at : ℕ} {why : Reason} → RightHeader e f → Good f (header_length_in e) (Operators e) a
+  in_atoms : {a at : ℕ} {why : Reason} → RightHeader e f → Good f (header_length_in e) (Operators e) a
       → SectionDue f (atoms_at_in e a) (Atoms e) why at → Due e f why at
-  in-nodes : {a b at : ℕ} {why : Reason} → RightHeader e f → Good f (header_length_in e) (Operators e) a
+  in_nodes : {a b at : ℕ} {why : Reason} → RightHeader e f → Good f (header_length_in e) (Operators e) a
       → Good f (atoms_at_in e a) (Atoms e) b → SectionDue f (nodes_at_in e a b) (Nodes a) why at → Due e f why at
   -- "then 7": words after the last node; the first of them
   extra : {a b c : ℕ} → GoodSections e f a b c → end_in e a b c < length f → Due e f ExtraWords (end_in e a b c)

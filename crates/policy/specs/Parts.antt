@@ -8,20 +8,20 @@
 --   EachLong k rs       each record has k words
 --   RightPartsIn e P    the parts are right, but for the laws
 --   LawfulPartsIn e P   the operators keep the laws where nodes name them as inner or sibling
-use Rattle.std.specs.Prelude.{ℕ, ◌≤◌, ◌<◌, ◌≡◌, true, List, [], ◌∷◌, ◌++◌, map, get_or, length}
+use Rattle.std.specs.Prelude.{ℕ, ◌≤◌, ◌<◌, ◌≡◌, true, List, [], ◌∷◌, ◌++◌, map, length, slice_index, slice_index_or}
 use Rattle.logic.specs.Lists.{All}
 use Rattle.words.specs.Records.{flat}
 use Rattle.row.specs.Row.{row_of}
-use Rattle.section.specs.Numbers.{header_of, operator_length_in, atom_length_in, node_length}
-use Rattle.section.specs.Numbers.{most_operators, most_atoms, most_nodes}
-use Rattle.section.specs.Atom.{atom_row, right_atom_match, right_atom_action}
-use Rattle.section.specs.Cells.{right_cell_in, operator_rows}
-use Rattle.whole.specs.Whole.{own_atoms}
+use Rattle.policy.specs.Numbers.{header_of, operator_length_in, atom_length_in, node_length}
+use Rattle.policy.specs.Numbers.{most_operators, most_atoms, most_nodes}
+use Rattle.policy.specs.Atom.{atom_row, right_atom_match, right_atom_action}
+use Rattle.policy.specs.Cells.{right_cell_in, operator_rows}
+use Rattle.policy.specs.Whole.{own_atoms}
 use Rattle.policy.specs.Read.{operators_in, atoms_in, nodes_in, layout}
 use Rattle.policy.specs.File.{held}
-use Rattle.whole.specs.Meaning.{OneTree, LawsKept}
-use Rattle.section.specs.Due.{RightNode}
-use Rattle.section.specs.declared.Edition.{Edition}
+use Rattle.policy.specs.Meaning.{OneTree, LawsKept}
+use Rattle.policy.specs.Due.{RightNode}
+use Rattle.policy.specs.declared.Edition.{Edition}
 use Rattle.policy.specs.declared.Layout.{Layout}
 
 -- the operators, atoms and nodes of a policy, each by its words
@@ -60,21 +60,21 @@ EachLong k rs = All (λ r. length r ≡ k) rs
 
 -- right parts, but for the laws
 pub record RightPartsIn (e : Edition) (P : Parts) : Type 0 where
-  pub operators-long : EachLong (operator_length_in e) P.operators
-  pub atoms-long : EachLong (atom_length_in e) P.atoms
-  pub nodes-long : EachLong node_length P.nodes
-  pub some-operators : 1 ≤ length P.operators
-  pub few-operators : length P.operators ≤ most_operators
-  pub few-atoms : length P.atoms ≤ most_atoms
-  pub some-nodes : 1 ≤ length P.nodes
-  pub few-nodes : length P.nodes ≤ most_nodes
+  pub operators_long : EachLong (operator_length_in e) P.operators
+  pub atoms_long : EachLong (atom_length_in e) P.atoms
+  pub nodes_long : EachLong node_length P.nodes
+  pub some_operators : 1 ≤ length P.operators
+  pub few_operators : length P.operators ≤ most_operators
+  pub few_atoms : length P.atoms ≤ most_atoms
+  pub some_nodes : 1 ≤ length P.nodes
+  pub few_nodes : length P.nodes ≤ most_nodes
   pub cells : (i j : ℕ) → i < length P.operators → j < operator_length_in e
-      → right_cell_in e j (get_or (get_or P.operators i []) j 0) ≡ true
-  pub matches : (i : ℕ) → i < length P.atoms → right_atom_match e (get_or P.atoms i []) ≡ true
-  pub actions : (i : ℕ) → i < length P.atoms → right_atom_action e (get_or P.atoms i []) ≡ true
-  pub right-nodes : (i : ℕ) → i < length P.nodes → RightNode (length P.operators) (get_or P.nodes i [])
-  pub one-tree : OneTree (held (operator_rows e P.operators) (map (λ r. row_of (atom_row e r)) P.atoms) P.nodes)
-  pub all-taken : own_atoms P.nodes ≡ length P.atoms
+      → right_cell_in e j (slice_index (slice_index_or P.operators i []) j) ≡ true
+  pub matches : (i : ℕ) → i < length P.atoms → right_atom_match e (slice_index_or P.atoms i []) ≡ true
+  pub actions : (i : ℕ) → i < length P.atoms → right_atom_action e (slice_index_or P.atoms i []) ≡ true
+  pub right_nodes : (i : ℕ) → i < length P.nodes → RightNode (length P.operators) (slice_index_or P.nodes i [])
+  pub one_tree : OneTree (held (operator_rows e P.operators) (map (λ r. row_of (atom_row e r)) P.atoms) P.nodes)
+  pub all_taken : own_atoms P.nodes ≡ length P.atoms
 
 -- the operators keep the laws where nodes name them as inner or sibling
 abbrev pub LawfulPartsIn : Edition → Parts → Type 0

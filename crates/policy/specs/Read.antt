@@ -2,22 +2,23 @@
 -- stages, or the layout.
 -- See docs/FORMAT.md, "The policy file" and "Numbers a caller can get back".
 --
+--   first_atom         where the first atom stands in a file of the newest edition
 --   extra_fault        no words stand behind the last node (7)
 --   whole_stages       once the sections are good: the end, the tree, the sum and the laws
 --   stages, answer     all stages in order
 --   Reading            what a file is read as
 --   read_as, read_of   the answer, for an edition and for the newest
-use Rattle.std.specs.Prelude.{ℕ, ◌+◌, List, [], ◌∷◌, Result, Ok, Err, leb, get_or, length, drop}
+use Rattle.std.specs.Prelude.{ℕ, ◌+◌, List, [], ◌∷◌, Result, Ok, Err, length, drop, if◌then◌else◌, nat_le, nat_lt, slice_index}
 use Rattle.words.specs.Records.{records}
-use Rattle.section.specs.Numbers.{latest, header_length_in, operator_length_in, atom_length_in, node_length}
+use Rattle.policy.specs.Numbers.{latest, header_length_in, operator_length_in, atom_length_in, node_length, most_operators}
 use Rattle.refusal.specs.declared.Reason.TheVariants.{ExtraWords}
 use Rattle.refusal.specs.declared.Refusal.{Refusal}
-use Rattle.section.specs.Cells.{operator_rows}
-use Rattle.section.specs.declared.Edition.{Edition}
+use Rattle.policy.specs.Cells.{operator_rows}
+use Rattle.policy.specs.declared.Edition.{Edition}
 use Rattle.policy.specs.declared.Layout.{Layout}
-use Rattle.section.specs.declared.Section.TheVariants.{Operators, Atoms, Nodes}
-use Rattle.section.specs.Sections.{Test, unless, header_fault, section_fault, behind}
-use Rattle.whole.specs.Whole.{shape_fault, sum_fault, laws_fault}
+use Rattle.policy.specs.declared.Section.TheVariants.{Operators, Atoms, Nodes}
+use Rattle.policy.specs.Sections.{Test, unless, header_fault, section_fault, behind}
+use Rattle.policy.specs.Whole.{shape_fault, sum_fault, laws_fault}
 
 -- where the count of the atoms stands in a file of a operators
 abbrev pub atoms_at_in : Edition → ℕ → ℕ
@@ -62,9 +63,13 @@ atom_records f a b = atoms_in latest f a b
 abbrev pub node_records : List ℕ → ℕ → ℕ → ℕ → List (List ℕ)
 node_records f a b c = nodes_in latest f a b c
 
+-- the word where the first atom stands, behind a operators and the count of the atoms; 0 if no file has so many
+unfoldable pub first_atom : ℕ → ℕ
+first_atom a = if nat_lt most_operators a then 0 else atoms_at a + 1
+
 -- no words stand behind the end of a file
 abbrev pub extra_fault : List ℕ → ℕ → Test
-extra_fault f end = unless (leb (length f) end) ExtraWords end
+extra_fault f end = unless (nat_le (length f) end) ExtraWords end
 
 -- what is tested once all three sections are good: the count of the operators stands at h, that of the nodes at q
 unfoldable pub whole_stages : Edition → List ℕ → ℕ → ℕ → ℕ → ℕ → ℕ → List Test
@@ -102,9 +107,9 @@ answer (Err r ∷ ts) l = Err r
 -- WHAT READING ANSWERS, for each edition: the three counts are the words that stand in their places
 unfoldable pub read_as : Edition → List ℕ → Reading
 read_as e f =
-    let a : ℕ = get_or f (header_length_in e) 0 in
-    let b : ℕ = get_or f (atoms_at_in e a) 0 in
-    let c : ℕ = get_or f (nodes_at_in e a b) 0 in
+    let a : ℕ = slice_index f (header_length_in e) in
+    let b : ℕ = slice_index f (atoms_at_in e a) in
+    let c : ℕ = slice_index f (nodes_at_in e a b) in
     answer (stages e f a b c) (layout a b c)
 
 -- for the newest edition

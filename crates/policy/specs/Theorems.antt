@@ -16,15 +16,15 @@ use Rattle.refusal.specs.Refusals.{law_broken, failure_of, refusal_number}
 use Rattle.refusal.specs.declared.Reason.TheVariants.{LawBroken}
 use Rattle.action.specs.declared.LawFailure.{LawFailure}
 use Rattle.refusal.specs.declared.Refusal.{Refusal}
-use Rattle.section.specs.Numbers.{latest, deepest}
+use Rattle.policy.specs.Numbers.{latest, deepest}
 use Rattle.policy.specs.Read.{operators_in, nodes_in, operator_records, node_records, layout, read_as, read_of}
-use Rattle.whole.specs.Whole.{named}
-use Rattle.section.specs.Cells.{operator_rows}
-use Rattle.whole.specs.Meaning.{operator_at, depth, LawsKept, KeepsLaws}
+use Rattle.policy.specs.Whole.{named}
+use Rattle.policy.specs.Cells.{operator_rows}
+use Rattle.policy.specs.Meaning.{operator_at, depth, LawsKept, KeepsLaws}
 use Rattle.policy.specs.File.{atoms_of, file_nodes, tree_of, all_atoms}
 use Rattle.policy.specs.WellFormed.{OtherwiseIn, Otherwise, WellFormedIn, WellFormed}
 use Rattle.policy.specs.Parts.{Parts, file_words_in, parts_in, layout_of_parts, RightPartsIn, LawfulPartsIn}
-use Rattle.section.specs.declared.Edition.{Edition}
+use Rattle.policy.specs.declared.Edition.{Edition}
 use Rattle.policy.specs.declared.Layout.{Layout}
 
 -- a file is accepted exactly when it is well formed (accepted-as, accepted-exactly)
@@ -61,7 +61,7 @@ pub record BrokenLawIn (e : Edition) (f : List ℕ) (r : Refusal) : Type 0 where
   pub failure : LawFailure
   pub reason : r.reason ≡ LawBroken failure
   pub shows : Shows (operator_at (operator_rows e (operators_in e f operators)) r.place) failure
-  pub first-such : (i : ℕ) → i < r.place → named i (nodes_in e f operators atoms nodes) ≡ true
+  pub first_such : (i : ℕ) → i < r.place → named i (nodes_in e f operators atoms nodes) ≡ true
       → KeepsLaws (operator_at (operator_rows e (operators_in e f operators)) i)
 
 abbrev pub BrokenLaw : List ℕ → Refusal → Type 0
@@ -104,7 +104,7 @@ abbrev pub AcceptedParts : Type 0
 AcceptedParts = (e : Edition) (f : List ℕ) (l : Layout) → read_as e f ≡ Ok l
     → RightPartsIn e (parts_in e f l) × LawfulPartsIn e (parts_in e f l)
 
--- a file well formed but for the laws is what its parts make (parts-whole)
+-- a file well formed but for the laws is what its parts make (parts_whole)
 abbrev pub PartsWhole : Type 0
 PartsWhole = (e : Edition) (f : List ℕ) (a b c : ℕ) → OtherwiseIn e f a b c
     → file_words_in e (parts_in e f (layout a b c)) ≡ f

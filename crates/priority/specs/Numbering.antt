@@ -18,7 +18,7 @@
 --   Ready                           a right table, and neither buffer is shorter than its row count
 --   Shared ws j i                   some packet in range matches rows j and i
 --   count, priority i, link k       how many priorities, row i's priority and the k-th place of the chain afterwards
-use Rattle.std.specs.Prelude.{ℕ, ◌≤◌, ◌<◌, ◌≡◌, Bool, cond, ◌&&◌, List, Result, Ok, Err, leb, length, get_or}
+use Rattle.std.specs.Prelude.{ℕ, ◌≤◌, ◌<◌, ◌≡◌, Bool, ◌&&◌, List, Result, Ok, Err, length, if◌then◌else◌, nat_le, slice_index, slice_index_or}
 use Rattle.words.specs.Words.{laid}
 use Rattle.theory.specs.Number.{rows_overlap, levels, level_count, priorities, chain}
 use Rattle.flow.specs.Match.{overlap, SharedPacket}
@@ -46,7 +46,7 @@ chain_of ws = chain (over ws) (levels_of ws)
 
 -- the answer of l priorities, where the table is right and neither buffer is shorter than the row count
 abbrev pub numbered : Result ℕ Refusal → ℕ → ℕ → ℕ → Result ℕ Refusal
-numbered (Ok n) p c l = cond (leb n p && leb n c) (Ok l) (Err (refusal_at ShortBuffer 0))
+numbered (Ok n) p c l = if nat_le n p && nat_le n c then Ok l else Err (refusal_at ShortBuffer 0)
 numbered (Err f) p c l = Err f
 
 -- the answer, for buffers of p and c words
@@ -77,7 +77,8 @@ NumbersFit ws ps cs = (length ps ≡ row_count ws) × (row_count ws ≤ length c
 
 -- i is a row, and the rows before it have levels below a count of levels, which is not too large
 abbrev pub LevelsBefore : List ℕ → List ℕ → ℕ → ℕ → Type 0
-LevelsBefore ws ls i count = (i < row_count ws) × (i ≤ length ls) × (count ≤ most_rows) × ((j : ℕ) → j < i → get_or ls j 0 < count)
+LevelsBefore ws ls i count =
+    (i < row_count ws) × (i ≤ length ls) × (count ≤ most_rows) × ((j : ℕ) → j < i → slice_index ls j < count)
 
 -- each row has its level, and there is room for as many places as there are levels
 abbrev pub ChainFits : List ℕ → List ℕ → ℕ → List ℕ → Type 0
@@ -96,7 +97,7 @@ pub record Ready (ws ps cs : List ℕ) : Type 0 where
 
 -- some packet in range matches rows j and i
 abbrev pub Shared : List ℕ → ℕ → ℕ → Type 0
-Shared ws j i = SharedPacket (get_or (rows_in ws) j past).matching (get_or (rows_in ws) i past).matching
+Shared ws j i = SharedPacket (slice_index_or (rows_in ws) j past).matching (slice_index_or (rows_in ws) i past).matching
 
 module _ (ws ps cs : List ℕ) where
   -- how many priorities the answer counts
@@ -105,8 +106,8 @@ module _ (ws ps cs : List ℕ) where
 
   -- row i's priority
   abbrev pub priority : ℕ → ℕ
-  priority i = get_or (priorities_after ws ps cs) i 0
+  priority i = slice_index (priorities_after ws ps cs) i
 
   -- the k-th place of the chain
   abbrev pub link : ℕ → ℕ
-  link k = get_or (chain_after ws ps cs) k 0
+  link k = slice_index (chain_after ws ps cs) k

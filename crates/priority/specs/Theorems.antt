@@ -11,7 +11,7 @@
 --   SwitchObeys           where some row matches, some row is obeyed
 --   WordsStay             the words beyond the priorities and beyond the chain stay, and so do the lengths
 --   RefusedStays          where the answer is a refusal, both buffers stay
-use Rattle.std.specs.Prelude.{ℕ, suc, ◌≤◌, ◌<◌, ◌≡◌, true, List, Ok, Err, length, get_or, take, drop}
+use Rattle.std.specs.Prelude.{ℕ, suc, ◌≤◌, ◌<◌, ◌≡◌, true, List, Ok, Err, length, take, drop, slice_index, slice_index_or}
 use Rattle.theory.specs.Rows.{matches_at}
 use Rattle.theory.specs.Number.{Chained, distinct, Obeyed}
 use Rattle.flow.specs.Packet.{packet_of, right_packet_words}
@@ -43,7 +43,7 @@ PrioritiesUsed = (ws ps cs : List ℕ) → Ready ws ps cs
 -- no assignment of numbers that puts the earlier row higher has fewer distinct ones
 abbrev pub FewestNumbers : Type 0
 FewestNumbers = (ws ps cs : List ℕ) → Ready ws ps cs → (qs : List ℕ) → length qs ≡ row_count ws
-    → ((j i : ℕ) → j < i → i < row_count ws → Shared ws j i → get_or qs i 0 < get_or qs j 0)
+    → ((j i : ℕ) → j < i → i < row_count ws → Shared ws j i → slice_index qs i < slice_index qs j)
     → count ws ps cs ≤ length (distinct qs)
 
 -- the first L words of the chain buffer are the chain: L places in scan order; of each two neighbours some packet in
@@ -59,7 +59,7 @@ ChainForces = (ws ps cs : List ℕ) → Ready ws ps cs
 abbrev pub SwitchScans : Type 0
 SwitchScans = (ws ps cs : List ℕ) → Ready ws ps cs → (packet : List ℕ) → right_packet_words packet ≡ true
     → (i : ℕ) → Obeyed meets past (rows_in ws) (priority ws ps cs) (packet_of packet) i
-    → (get_or (rows_in ws) i past).action ≡ scan_action (scan_of ws packet)
+    → (slice_index_or (rows_in ws) i past).action ≡ scan_action (scan_of ws packet)
 
 -- where some row matches a packet, some row is obeyed
 abbrev pub SwitchObeys : Type 0

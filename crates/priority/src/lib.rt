@@ -1,7 +1,7 @@
 //! The numbering of a table's rows: levels, priorities, and the chain that forces their number.
 #![tactic(auto)]
 
-ghost use Rattle.std.specs.Prelude.{◌≡◌, cond, map, ℕ, suc, ◌-◌, ◌≤◌, ◌<◌, ◌^◌, max, length, get_or, set};
+ghost use Rattle.std.specs.Prelude.{◌≡◌, map, ℕ, suc, ◌-◌, ◌≤◌, ◌<◌, ◌^◌, max, length, set, if◌then◌else◌, ◌==◌, slice_index, slice_index_or};
 ghost use Rattle.words.specs.Words.{laid};
 ghost use Rattle.theory.specs.Number.{above, level_count, first_of_level, step_back, chain_under};
 ghost use Rattle.flow.specs.Match.{overlap};
@@ -34,7 +34,8 @@ impl Place {
 
     // The first row before this one that overlaps it and has a level; this one if there is none.
     fn step_back(self, table: Table<'_>, levels: &[u32], l: u32) -> Place
-        requires { (length levels.now ≡ row_count table.words.now) × (self.0 ≤ length levels.now) }
+        requires many { length levels.now ≡ row_count table.words.now }
+        requires within { self.0 ≤ length levels.now }
         ensures { result.0 ≡ step_back (over table.entry.words.now) levels.now self.0 l }
     {
         let m = match_at(table.words, self.0);
@@ -47,7 +48,8 @@ impl Place {
 
     // Stores the place as a step of the chain; nothing else writes the chain.
     fn put(self, chain: &mut [u32], step: u32)
-        requires { (step < length chain.old) × (self.0 < 2 ^ 32) }
+        requires within { step < length chain.old }
+        requires word { self.0 < 2 ^ 32 }
         ensures { chain.new ≡ set chain.old step self.0 }
     {
         let i = step as usize;
@@ -84,9 +86,9 @@ pub fn number(table: &[u32], priorities: &mut [u32], chain: &mut [u32]) -> Resul
 // there are.
 fn put_numbers(table: Table<'_>, priorities: &mut [u32], chain: &mut [u32]) -> u32
     requires { NumbersFit table.words.now priorities.old chain.old }
-    ensures { (result ≡ level_count (levels_of table.entry.words.now))
-        × (priorities.new ≡ priorities_of table.entry.words.now)
-        × (chain.new ≡ laid 0 (chain_of table.entry.words.now) chain.old) }
+    ensures count { result ≡ level_count (levels_of table.entry.words.now) }
+    ensures priorities_after { priorities.new ≡ priorities_of table.entry.words.now }
+    ensures chain_after { chain.new ≡ laid 0 (chain_of table.entry.words.now) chain.old }
 {
     let count = put_levels(table, priorities);
     put_chain(table, priorities, count, chain);
@@ -97,8 +99,8 @@ fn put_numbers(table: Table<'_>, priorities: &mut [u32], chain: &mut [u32]) -> u
 // Stores each row's level, and answers how many levels there are.
 fn put_levels(table: Table<'_>, levels: &mut [u32]) -> u32
     requires { length levels.old ≡ row_count table.words.now }
-    ensures { (result ≡ level_count (levels_of table.entry.words.now))
-        × (levels.new ≡ levels_of table.entry.words.now) }
+    ensures count { result ≡ level_count (levels_of table.entry.words.now) }
+    ensures levels_after { levels.new ≡ levels_of table.entry.words.now }
 {
     let mut count = 0;
     // The first i words are the levels of the first i rows, and count is how many levels these have. By place: a level
@@ -116,7 +118,8 @@ fn put_levels(table: Table<'_>, levels: &mut [u32]) -> u32
 #[inline(never)]
 fn level(table: Table<'_>, levels: &[u32], i: usize, count: u32) -> u32
     requires { LevelsBefore table.words.now levels.now i count }
-    ensures { (result ≡ above (over table.entry.words.now) levels.now i i) × (result ≤ count) }
+    ensures value { result ≡ above (over table.entry.words.now) levels.now i i }
+    ensures bound { result ≤ count }
 {
     let m = match_at(table.words, i);
     let mut best = 0;
@@ -135,9 +138,10 @@ fn level(table: Table<'_>, levels: &[u32], i: usize, count: u32) -> u32
 // What row j, of a level, makes of the best level so far; a level below that cannot raise it, whether the row overlaps
 // or not.
 fn raised(table: Table<'_>, m: Match, j: usize, level: u32, best: u32) -> u32
-    requires { (j < row_count table.words.now) × (level < most_rows) }
+    requires row { j < row_count table.words.now }
+    requires low { level < most_rows }
     ensures { result ≡ max best
-        (cond (overlap (get_or (rows_in table.entry.words.now) j past).matching m) (suc level) 0) }
+        (if overlap (slice_index_or (rows_in table.entry.words.now) j past).matching m then suc level else 0) }
 {
     if level < best {
         return best;
@@ -150,7 +154,7 @@ fn raised(table: Table<'_>, m: Match, j: usize, level: u32, best: u32) -> u32
 // in place of 0.7: it is to be never slower.
 fn row_match(table: Table<'_>, i: usize) -> Match
     requires { i < row_count table.words.now }
-    ensures { result ≡ (get_or (rows_in table.entry.words.now) i past).matching }
+    ensures { result ≡ (slice_index_or (rows_in table.entry.words.now) i past).matching }
 {
     Match::read(&rows(table.words)[i])
 }
@@ -177,7 +181,7 @@ fn put_chain(table: Table<'_>, levels: &[u32], count: u32, chain: &mut [u32])
 
 // Turns levels into priorities.
 fn put_priorities(priorities: &mut [u32], count: u32)
-    requires { (j : ℕ) → j < length priorities.old → get_or priorities.old j 0 ≤ count }
+    requires { (j : ℕ) → j < length priorities.old → slice_index priorities.old j ≤ count }
     ensures { priorities.new ≡ map (λ l. count - l) priorities.old }
 {
     // The words before i are priorities, the others still levels. By place, since a priority is stored at its row's.

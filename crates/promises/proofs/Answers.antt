@@ -1,9 +1,11 @@
--- For each public function but those of the inner crates `common`, `rows` and `build`, and for those of the traits by which values are read, written and
--- converted: its contract, as the checker reads it, asks nothing, and no second answer fits it. Where buffers are lent, their words are part of what is seen.
-use Prim.Native.Nat.{ℕ}
+-- For each public function, and for those of the traits by which values are read, written and converted: its contract, as the checker reads it, asks
+-- nothing, and no second answer fits it. Where buffers are lent, their words are part of what is seen; of a sink what the bytes that it was given settle.
+use Prim.Native.Nat.{ℕ, ◌%◌, ◌^◌}
 use mathlib.Core.Path.{◌≡◌, refl, sym, ap, ◌∙◌}
 use mathlib.Core.List.{List, Mem, not-mem-nil}
 use denote.RattleType.{RattleType}
+use denote.Param.Laws.{Laws}
+use mir.Syntax.{Dict}
 use Rattle.logic.specs.Answers.{OneAnswer, answer_with, answer_and}
 use Rattle.logic.proofs.Answers.{fixed, both, all}
 use Rattle.field.proofs.Prefix.contains.Reads as in_prefix
@@ -61,16 +63,10 @@ use Rattle.refusal.proofs.Reason.number.Reads as reason_number
 use Rattle.refusal.proofs.Reason.failure.Reads as reason_failure
 use Rattle.refusal.proofs.Reason.at.Reads as reason_at
 use Rattle.refusal.proofs.RefusalFromInvalidPacket.from.Reads as refusal_from
-use Rattle.section.proofs.Edition.words.Reads as edition_words
-use Rattle.section.proofs.Edition.header_fault.Reads as edition_header_fault
-use Rattle.section.proofs.Edition.operator.Reads as edition_operator
-use Rattle.section.proofs.nodes.NodeSpelling.read.Reads as read_node
-use Rattle.section.proofs.Node.names.Reads as node_names
-use Rattle.section.proofs.unless.Reads as unless
-use Rattle.whole.proofs.shape_fault.Reads as shape_fault
-use Rattle.whole.proofs.laws_fault.Reads as laws_fault
+use Rattle.policy.proofs.nodes.NodeSpelling.read.Reads as read_node
 use Rattle.policy.proofs.read.Reads as read
 use Rattle.policy.proofs.read_as.Reads as read_as
+use Rattle.policy.proofs.Layout.first_atom.Reads as layout_first_atom
 use Rattle.nodes.proofs.root.Reads as root
 use Rattle.nodes.proofs.File.node_at.Reads as node_at
 use Rattle.nodes.proofs.File.operator_at.Reads as operator_at
@@ -86,14 +82,20 @@ use Rattle.table.proofs.rows.Reads as rows
 use Rattle.hidden.proofs.drop_hidden.Reads as drop_hidden
 use Rattle.priority.proofs.number.Reads as number
 use Rattle.compile.proofs.compile.Reads as compile
-use Rattle.line.specs.contracts.parts.Head as Head
-use Rattle.line.specs.contracts.parts.Line as Line
-use Rattle.refusal.specs.contracts.Refusal as Refusal
-use Rattle.line.proofs.put.Reads as put
-use Rattle.sheet.proofs.list_table.Reads as list_table
+use Rattle.streams.specs.declared.sink.Sink.{Ghosts}
+use Rattle.streams.specs.contracts.counter.Counter as Counter
+use Rattle.streams.specs.contracts.counter.CounterSink.TheImpl as CounterSink
+use Rattle.streams.proofs.low.Reads as low_bits
+use Rattle.show.proofs.list_table.Reads as list_table
+use Rattle.show.proofs.parts.HeadText.put.Reads as put_head
+use Rattle.show.proofs.parts.LineText.put.Reads as put_line
+use Rattle.show.proofs.parts.RefusalText.put.Reads as put_refusal
 use Rattle.text.proofs.list.Reads as list
-use Rattle.text.proofs.list_whole.Reads as list_whole
-use Rattle.wire.proofs.low.Reads as low
+use Rattle.calls.proofs.put_words.Reads as put_words
+use Rattle.calls.proofs.reply_compile.Reads as reply_compile
+use Rattle.calls.proofs.reply_number.Reads as reply_number
+use Rattle.calls.proofs.reply_hidden.Reads as reply_hidden
+use Rattle.calls.proofs.reply_list.Reads as reply_list
 
 -- field
 in_prefix-one : OneAnswer in_prefix.Pre in_prefix.Post (λ κ r s. r)
@@ -266,38 +268,18 @@ reason_at-one = fixed (λ κ a r s p. p)
 refusal_from-one : OneAnswer refusal_from.Pre refusal_from.Post (λ κ r s. r)
 refusal_from-one = fixed (λ κ a r s p. p)
 
--- section
-edition_words-one : OneAnswer edition_words.Pre edition_words.Post (λ κ r s. r)
-edition_words-one = fixed (λ κ a r s p. p)
-
-edition_header_fault-one : OneAnswer edition_header_fault.Pre edition_header_fault.Post (λ κ r s. r)
-edition_header_fault-one = fixed (λ κ a r s p. p)
-
-edition_operator-one : OneAnswer edition_operator.Pre edition_operator.Post (λ κ r s. r)
-edition_operator-one = fixed (λ κ a r s p. by-cells p)
-
-node_names-one : OneAnswer node_names.Pre node_names.Post (λ κ r s. r)
-node_names-one = fixed (λ κ a r s p. p)
-
+-- policy
 read_node-one : OneAnswer read_node.Pre read_node.Post (λ κ r s. r)
 read_node-one = fixed (λ κ a r s p. p)
 
-unless-one : OneAnswer unless.Pre unless.Post (λ κ r s. r)
-unless-one = fixed (λ κ a r s p. p)
-
--- whole
-shape_fault-one : OneAnswer shape_fault.Pre shape_fault.Post (λ κ r s. r)
-shape_fault-one = fixed (λ κ a r s p. p)
-
-laws_fault-one : OneAnswer laws_fault.Pre laws_fault.Post (λ κ r s. r)
-laws_fault-one = fixed (λ κ a r s p. p)
-
--- policy
 read-one : OneAnswer read.Pre read.Post (λ κ r s. r)
 read-one = fixed (λ κ a r s p. p)
 
 read_as-one : OneAnswer read_as.Pre read_as.Post (λ κ r s. r)
 read_as-one = fixed (λ κ a r s p. p)
+
+layout_first_atom-one : OneAnswer layout_first_atom.Pre layout_first_atom.Post (λ κ r s. r)
+layout_first_atom-one = fixed (λ κ a r s p. p)
 
 -- nodes
 root-one : OneAnswer root.Pre root.Post (λ κ r s. r)
@@ -350,38 +332,82 @@ number-one = fixed (λ κ a r s p. all p.0 p.1 p.2)
 compile-one : OneAnswer compile.Pre compile.Post (λ κ r s. answer_and r s.1.0.now s.1.1.0.now)
 compile-one = fixed (λ κ a r s p. all p.answer p.table p.scratch)
 
--- a type that holds no reference
-abbrev HoldsNone : RattleType → Type 0
-HoldsNone T = (i : ℕ) → Mem i T.lives → ⊥
+-- what is seen of a sink whose type holds no reference: what it was, and the bytes that it was given, settle it
+record SeenSink : Type 2 where
+  sink : RattleType
+  laws : Laws sink
+  ghosts : Ghosts sink.Denot
+  dict : Dict
+  X : Type 0
+  seen : sink.Denot → X
+  holds_none : (i : ℕ) → Mem i sink.lives → ⊥
+  settled : (a b c : sink.Denot) (xs : List ℕ) → ghosts.gives a xs b → ghosts.gives a xs c → seen b ≡ seen c
 
--- line: of any such type that has a text
-put-one : (T : RattleType) (L : _) (G : _) (D : _) → HoldsNone T → OneAnswer (put.Pre T L G D) (put.Post T L G D) (λ κ r s. answer_with r s.0.now)
-put-one T L G D none = record {
-  asks_nothing = λ κ a i m. absurd (none i m);
-  no_second = λ κ a r₁ r₂ s₁ s₂ p q. both (p.end ∙ sym q.end) (p.bytes ∙ sym q.bytes);
+-- as how many bytes a counter has counted
+counted : Laws Counter.the_row → Dict → SeenSink
+counted L D = record {
+  sink = Counter.the_row;
+  laws = L;
+  ghosts = CounterSink.ghosts;
+  dict = D;
+  X = ℕ;
+  seen = λ c. c.low % 2 ^ 32;
+  holds_none = λ i m. not-mem-nil m;
+  settled = λ a b c xs p q. p ∙ sym q;
 }
 
--- so of those whose text is a line of a listing, whatever the text
-put_head-one : (L : _) (G : _) (D : _) → OneAnswer (put.Pre Head.the_row L G D) (put.Post Head.the_row L G D) (λ κ r s. answer_with r s.0.now)
-put_head-one L G D = put-one Head.the_row L G D (λ i m. not-mem-nil m)
+-- streams
+low_bits-one : OneAnswer low_bits.Pre low_bits.Post (λ κ r s. r)
+low_bits-one = fixed (λ κ a r s p. p)
 
-put_line-one : (L : _) (G : _) (D : _) → OneAnswer (put.Pre Line.the_row L G D) (put.Post Line.the_row L G D) (λ κ r s. answer_with r s.0.now)
-put_line-one L G D = put-one Line.the_row L G D (λ i m. not-mem-nil m)
+-- show: a table at any such sink, and the lines of a listing
+list_table-one : (S : SeenSink) → OneAnswer (list_table.Pre S.sink S.laws S.ghosts S.dict) (list_table.Post S.sink S.laws S.ghosts S.dict)
+    (λ κ r s. S.seen s.1.0.now)
+list_table-one S = record { asks_nothing = λ κ a i m. absurd (S.holds_none i m); no_second = λ κ a r₁ r₂ s₁ s₂ p q. S.settled _ _ _ _ p q }
 
-put_refusal-one : (L : _) (G : _) (D : _) → OneAnswer (put.Pre Refusal.the_row L G D) (put.Post Refusal.the_row L G D) (λ κ r s. answer_with r s.0.now)
-put_refusal-one L G D = put-one Refusal.the_row L G D (λ i m. not-mem-nil m)
+put_head-one : (S : SeenSink) → OneAnswer (put_head.Pre S.sink S.laws S.ghosts S.dict) (put_head.Post S.sink S.laws S.ghosts S.dict)
+    (λ κ r s. S.seen s.1.0.now)
+put_head-one S = record { asks_nothing = λ κ a i m. absurd (S.holds_none i m); no_second = λ κ a r₁ r₂ s₁ s₂ p q. S.settled _ _ _ _ p q }
 
--- sheet
-list_table-one : OneAnswer list_table.Pre list_table.Post (λ κ r s. answer_with r s.1.0.now)
-list_table-one = fixed (λ κ a r s p. both p.end p.bytes)
+put_line-one : (S : SeenSink) → OneAnswer (put_line.Pre S.sink S.laws S.ghosts S.dict) (put_line.Post S.sink S.laws S.ghosts S.dict)
+    (λ κ r s. S.seen s.1.0.now)
+put_line-one S = record { asks_nothing = λ κ a i m. absurd (S.holds_none i m); no_second = λ κ a r₁ r₂ s₁ s₂ p q. S.settled _ _ _ _ p q }
+
+put_refusal-one : (S : SeenSink) → OneAnswer (put_refusal.Pre S.sink S.laws S.ghosts S.dict) (put_refusal.Post S.sink S.laws S.ghosts S.dict)
+    (λ κ r s. S.seen s.1.0.now)
+put_refusal-one S = record { asks_nothing = λ κ a i m. absurd (S.holds_none i m); no_second = λ κ a r₁ r₂ s₁ s₂ p q. S.settled _ _ _ _ p q }
 
 -- text
-list-one : OneAnswer list.Pre list.Post (λ κ r s. answer_with r s.1.0.now)
-list-one = fixed (λ κ a r s p. both p.0.end p.0.bytes)
+list-one : (S : SeenSink) → OneAnswer (list.Pre S.sink S.laws S.ghosts S.dict) (list.Post S.sink S.laws S.ghosts S.dict)
+    (λ κ r s. S.seen s.1.0.now)
+list-one S = record { asks_nothing = λ κ a i m. absurd (S.holds_none i m); no_second = λ κ a r₁ r₂ s₁ s₂ p q. S.settled _ _ _ _ p q }
 
-list_whole-one : OneAnswer list_whole.Pre list_whole.Post (λ κ r s. answer_with r s.1.1.0.now)
-list_whole-one = fixed (λ κ a r s p. both p.puts.end p.puts.bytes)
+-- calls
+put_words-one : (S : SeenSink) → OneAnswer (put_words.Pre S.sink S.laws S.ghosts S.dict) (put_words.Post S.sink S.laws S.ghosts S.dict)
+    (λ κ r s. S.seen s.0.now)
+put_words-one S = record { asks_nothing = λ κ a i m. absurd (S.holds_none i m); no_second = λ κ a r₁ r₂ s₁ s₂ p q. S.settled _ _ _ _ p q }
 
--- wire
-low-one : OneAnswer low.Pre low.Post (λ κ r s. r)
-low-one = fixed (λ κ a r s p. p)
+reply_compile-one : (S : SeenSink) → OneAnswer (reply_compile.Pre S.sink S.laws S.ghosts S.dict) (reply_compile.Post S.sink S.laws S.ghosts S.dict)
+    (λ κ r s. answer_and (S.seen s.0.now) s.1.1.0.now s.1.1.1.0.now)
+reply_compile-one S = record {
+  asks_nothing = λ κ a i m. absurd (S.holds_none i m);
+  no_second = λ κ a r₁ r₂ s₁ s₂ p q. all (S.settled _ _ _ _ p.1.1 q.1.1) (p.0 ∙ sym q.0) (p.1.0 ∙ sym q.1.0);
+}
+
+reply_number-one : (S : SeenSink) → OneAnswer (reply_number.Pre S.sink S.laws S.ghosts S.dict) (reply_number.Post S.sink S.laws S.ghosts S.dict)
+    (λ κ r s. answer_and (S.seen s.0.now) s.1.1.0.now s.1.1.1.0.now)
+reply_number-one S = record {
+  asks_nothing = λ κ a i m. absurd (S.holds_none i m);
+  no_second = λ κ a r₁ r₂ s₁ s₂ p q. all (S.settled _ _ _ _ p.1.1 q.1.1) (p.0 ∙ sym q.0) (p.1.0 ∙ sym q.1.0);
+}
+
+reply_hidden-one : (S : SeenSink) → OneAnswer (reply_hidden.Pre S.sink S.laws S.ghosts S.dict) (reply_hidden.Post S.sink S.laws S.ghosts S.dict)
+    (λ κ r s. answer_with (S.seen s.0.now) s.1.0.now)
+reply_hidden-one S = record {
+  asks_nothing = λ κ a i m. absurd (S.holds_none i m);
+  no_second = λ κ a r₁ r₂ s₁ s₂ p q. both (S.settled _ _ _ _ p.1 q.1) (p.0 ∙ sym q.0);
+}
+
+reply_list-one : (S : SeenSink) → OneAnswer (reply_list.Pre S.sink S.laws S.ghosts S.dict) (reply_list.Post S.sink S.laws S.ghosts S.dict)
+    (λ κ r s. S.seen s.0.now)
+reply_list-one S = record { asks_nothing = λ κ a i m. absurd (S.holds_none i m); no_second = λ κ a r₁ r₂ s₁ s₂ p q. S.settled _ _ _ _ p q }

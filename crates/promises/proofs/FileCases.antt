@@ -7,8 +7,8 @@ use Rattle.action.specs.Action.{action_of, right_action, in_range}
 use Rattle.action.specs.Operator.{coded, join, right_cell}
 use Rattle.action.specs.Laws.{commutes, associates, shown, pairs, triples, first_pair, first_triple, law_search}
 use Rattle.row.specs.Row.{row_action, right_row_match, right_row_action, right_row}
-use Rattle.section.specs.Sections.{count_fault, cells_fault, atom_fault, node_fault, section_fault}
-use Rattle.whole.specs.Whole.{shape_fault, sum_fault, operator_fault, laws_fault}
+use Rattle.policy.specs.Sections.{count_fault, cells_fault, atom_fault, node_fault, section_fault}
+use Rattle.policy.specs.Whole.{shape_fault, sum_fault, operator_fault, laws_fault}
 use Rattle.policy.specs.Read.{whole_stages, stages, read_as}
 use Rattle.promises.specs.Files.{FileCases}
 

@@ -37,14 +37,14 @@ use Rattle.hidden.proofs.Laws.{kept-rows, right_kept, refused-exactly, refused-s
 use Rattle.priority.specs.Numbering.{Ready}
 use Rattle.compile.specs.Compile.{room, table_after}
 use Rattle.row.proofs.RowLaws.{words_count}
-use Rattle.sheet.specs.Sheet.{listing_room, rows_text}
+use Rattle.show.specs.Sheet.{listing_room, rows_text}
 use Rattle.text.specs.Listing.{blank, listing_of}
 use Rattle.text.proofs.Lists.{lists-rows, lists-refused}
 use Rattle.promises.specs.Hidden.{row_in, Inside, Hidden, Passed, PassRefused, PassListed, KeptObeysTree, HiddenRows}
 use Rattle.promises.proofs.Scanned.{gives}
-use Rattle.promises.proofs.Demand1.{demand-1}
-use Rattle.promises.proofs.Demand2.{demand-2}
-use Rattle.promises.proofs.Demand3.{demand-3}
+use Rattle.promises.proofs.FixedAnswers.{fixed-answers}
+use Rattle.promises.proofs.TableFollowsTree.{table-follows-tree}
+use Rattle.promises.proofs.SmallestNumbering.{smallest-numbering}
 
 -- the places that pass a test lie below the bound
 where_below : (test : ℕ → Bool) (n m : ℕ) → n ≤ m → All (λ i. i < m) (places_where test n)
@@ -186,7 +186,7 @@ module _ (ws : List ℕ) (right : RightTable ws) where
     answer = right_kept ws right;
     many = many;
     removes = λ i h. (removes-found i h, λ s. had i h ∙ ap not (hidden-shown i h s));
-    of-table = λ i e. ltb-true i (row_count ws) (and_left (ltb i (row_count ws)) (test i) (sym (has-where test (row_count ws) i) ∙ e));
+    of_table = λ i e. ltb-true i (row_count ws) (and_left (ltb i (row_count ws)) (test i) (sym (has-where test (row_count ws) i) ∙ e));
     order = λ k h. where-rises test (row_count ws) k (omega (arith, many));
     several = λ i h none. by-test (has i stayers)
         (λ t. t)
@@ -198,18 +198,18 @@ module _ (ws : List ℕ) (right : RightTable ws) where
     none_left = none_left;
     again = again;
     tried = λ p i t f. ap scan_tried (scan-first after p i after-right.0 t (rw (← after-right.1) f));
-    tried-all = λ p t f. ap scan_tried (scan-unmatched after p after-right.0 t (λ i h. f i (omega (arith, after-right.1)))) ∙ sym after-right.1;
+    tried_all = λ p t f. ap scan_tried (scan-unmatched after p after-right.0 t (λ i h. f i (omega (arith, after-right.1)))) ∙ sym after-right.1;
   }
 
 -- 15, then 16 at the first wrong row, and nothing moves
 pass-refused : PassRefused
 pass-refused = record {
-  length-first = λ ws h. let e = (refused-exactly ws (refusal_at WrongTable 0)).1 (wrong-length ws h) in (e, refused-stays ws (refusal_at WrongTable 0) e);
-  then-rows = λ ws i h f. let e = (refused-exactly ws (refusal_at WrongRow i)).1 (check-first ws i h f) in (e, refused-stays ws (refusal_at WrongRow i) e);
+  length_first = λ ws h. let e = (refused-exactly ws (refusal_at WrongTable 0)).1 (wrong-length ws h) in (e, refused-stays ws (refusal_at WrongTable 0) e);
+  then_rows = λ ws i h f. let e = (refused-exactly ws (refusal_at WrongRow i)).1 (check-first ws i h f) in (e, refused-stays ws (refusal_at WrongRow i) e);
 }
   where
     wrong-length : (ws : List ℕ) → right_length ws ≡ false → check_of ws ≡ Err (refusal_at WrongTable 0)
-    wrong-length ws h = demand-1.order.table-length ws h
+    wrong-length ws h = fixed-answers.order.table_length ws h
 
 -- the listing's buffers suffice for as many rows as it has room for
 blank-room : room (length blank) ≡ listing_room
@@ -218,13 +218,13 @@ blank-room = let k : length blank ≡ row_length * listing_room = length-replica
 pass-listed : PassListed
 unfolding listing_of
 pass-listed = record {
-  before-numbering = λ b n k t e q.
+  before_numbering = λ b n k t e q.
       let l = lists-rows (words_in b) n e in
       let same : l.count ≡ k = ap kept_count (sym l.stay ∙ q) in
       rw t (l.listed.text ∙ ap (λ m. rows_text m (table_rows m (table_kept (table_rows n (table_after (words_in b) blank blank))))) same);
   room = λ b l t e h. rw t (lists-refused (words_in b) (refusal_at NoRoom 0)
-      ((demand-2.for-room (words_in b) blank blank l e (omega (arith, blank-room))).1 (omega (arith, blank-room))));
-  in-room = λ b l t e h. demand-2.compiles (words_in b) blank blank l e (omega (arith, blank-room)) (omega (arith, blank-room));
+      ((table-follows-tree.for_room (words_in b) blank blank l e (omega (arith, blank-room))).1 (omega (arith, blank-room))));
+  in_room = λ b l t e h. table-follows-tree.compiles (words_in b) blank blank l e (omega (arith, blank-room)) (omega (arith, blank-room));
 }
 
 kept-obeys-tree : KeptObeysTree
@@ -233,8 +233,8 @@ kept-obeys-tree f t s ps cs p n k i q e h g right o =
     let vs : List ℕ = table_rows k (table_kept ws) in
     let c : RightTable vs × (k ≡ row_count vs) = (check-exactly vs k).0 (kept-rows ws k e).check in
     let r : Ready vs ps cs = record { right = c.0; priorities = omega (arith, c.1); chain = omega (arith, c.1) } in
-    (demand-2.scan f t s p n q right).1
-    ∙ ap gives (sym ((demand-3 vs ps cs r).switch p i right o ∙ (same-action ws p k e).1))
+    (table-follows-tree.scan f t s p n q right).1
+    ∙ ap gives (sym ((smallest-numbering vs ps cs r).switch p i right o ∙ (same-action ws p k e).1))
 
 -- EVERY SENTENCE OF THE REQUEST
 pub hidden-rows : HiddenRows

@@ -10,8 +10,8 @@ use Rattle.action.specs.Action.{action_of, right_action, in_range}
 use Rattle.action.specs.Operator.{coded, join, right_cell}
 use Rattle.action.specs.Laws.{commutes, associates, shown, pairs, triples, first_pair, first_triple, law_search}
 use Rattle.row.specs.Row.{row_action, right_row_match, right_row_action, right_row}
-use Rattle.section.specs.Sections.{count_fault, cells_fault, atom_fault, node_fault, section_fault}
-use Rattle.whole.specs.Whole.{shape_fault, sum_fault, operator_fault, laws_fault}
+use Rattle.policy.specs.Sections.{count_fault, cells_fault, atom_fault, node_fault, section_fault}
+use Rattle.policy.specs.Whole.{shape_fault, sum_fault, operator_fault, laws_fault}
 use Rattle.policy.specs.Read.{whole_stages, stages, read_as}
 use Rattle.tree.specs.Action as tree
 use Rattle.table.specs.Table.{right_length, check_rows, check_of}
@@ -19,8 +19,9 @@ use Rattle.table.specs.Scan.{scan_of}
 use Rattle.hidden.specs.Hidden.{kept_words, kept_of, table_kept}
 use Rattle.priority.specs.Numbering.{over, levels_of, number_of, priorities_after, chain_after}
 use Rattle.compile.specs.Compile.{compiled_rows, answer_of, table_after, scratch_after}
-use Rattle.line.specs.Text.{digits, decimal, number, value, address, match_text, action_text, line, head, refusal}
-use Rattle.sheet.specs.Sheet.{table_text}
+use Rattle.std.specs.Fmt.{digits}
+use Rattle.show.specs.Text.{number, value_text, address, match_text, action_text, line, head, refusal}
+use Rattle.show.specs.Sheet.{table_text}
 use Rattle.text.specs.Listing.{right_input, shown_text, file_text, listing_of}
 use Rattle.promises.specs.Listings.{ListingCases}
 
@@ -30,7 +31,7 @@ unfolding in_prefix right_prefix zero_beyond prefixes_meet covers meets_value va
     coded join right_cell commutes associates shown pairs triples first_pair first_triple law_search row_action right_row_match right_row_action
     right_row count_fault cells_fault atom_fault node_fault section_fault shape_fault sum_fault operator_fault laws_fault whole_stages stages read_as
     tree.accepted_action tree.tree_action_of right_length check_rows check_of scan_of kept_words kept_of table_kept over levels_of number_of
-    priorities_after chain_after compiled_rows answer_of table_after scratch_after digits decimal number value address match_text action_text line
+    priorities_after chain_after compiled_rows answer_of table_after scratch_after digits number value_text address match_text action_text line
     head refusal table_text right_input shown_text file_text listing_of
 listing-cases =
     (refl, (refl, (refl, (refl, (refl, (refl, (refl, (refl, (refl, (refl, (refl, tt)))))))))))

@@ -21,8 +21,8 @@ use Rattle.row.specs.Row.{right_row}
 use Rattle.table.proofs.Tables.{check-first}
 use Rattle.promises.specs.Ports.{TcpOrUdp, PortMet, spoken, CountsAsEmpty, Follows, PortsOnly}
 use Rattle.promises.proofs.Cases.{port-cases}
-use Rattle.promises.proofs.Demand2.{demand-2}
-use Rattle.promises.proofs.Demand3.{demand-3}
+use Rattle.promises.proofs.TableFollowsTree.{table-follows-tree}
+use Rattle.promises.proofs.SmallestNumbering.{smallest-numbering}
 use Rattle.promises.proofs.HiddenLaws.{hidden-rows}
 
 -- a protocol that has ports is one of the two
@@ -52,7 +52,7 @@ port-met = record {
   source = λ m p on e. two p (ports-met m p (either m ∙ ap (λ (x : Bool). x || constrains destination_port_flag m) on) e);
   destination = λ m p on e.
       two p (ports-met m p (either m ∙ ap (λ (x : Bool). constrains source_port_flag m || x) on ∙ or-true (constrains source_port_flag m)) e);
-  of-these = λ m p t.
+  of_these = λ m p t.
       passed m p (ap (λ (x : Bool). not (constrains port_flags m) || x) (has p t) ∙ or-true (not (constrains port_flags m)));
   without = λ m p s d.
       passed m p (ap (λ (x : Bool). not x || has_ports p.protocol) (neither m s d));
@@ -100,11 +100,11 @@ port-empty = record {
 port-follows : Follows
 port-follows = record {
   common = meets-common;
-  no-common = common-none;
+  no_common = common-none;
   overlaps = overlap-exactly;
   hidden = hidden-rows.passed;
-  demand-2 = demand-2;
-  demand-3 = demand-3;
+  table_follows_tree = table-follows-tree;
+  smallest_numbering = smallest-numbering;
 }
 
 pub ports-only : PortsOnly

@@ -16,11 +16,11 @@ use Rattle.refusal.specs.declared.Refusal.{Refusal}
 use Rattle.compile.specs.Compile.{room, answer_of}
 use Rattle.compile.proofs.Ordered.{by-order, no_value}
 use Rattle.text.specs.Listing.{right_input, blank, listing_of}
-use Rattle.sheet.specs.Sheet.{listing_room}
+use Rattle.show.specs.Sheet.{listing_room}
 use Rattle.text.proofs.Lists.{lists-rows, lists-refused, refused-input}
 use Rattle.promises.specs.Told.{between}
 use Rattle.promises.specs.Prints.{PrintsRows, PrintsRefusal, EveryListing}
-use Rattle.promises.proofs.Demand1.{file-number, same_number}
+use Rattle.promises.proofs.FixedAnswers.{file-number, same_number}
 
 -- the numbers of a compile with scratch enough
 scratch-number : (f t s : List ℕ) (r : Refusal) → row_length * room (length t) ≤ length s → answer_of f t s ≡ Err r

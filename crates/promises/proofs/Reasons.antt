@@ -10,11 +10,11 @@ use Rattle.refusal.specs.declared.Reason.{Reason}
 use Rattle.refusal.specs.declared.Reason.TheVariants.{ShortFile, WrongCount, WrongCell, WrongMatch, WrongAction, WrongNode, ExtraWords, NoTree, WrongSum, LawBroken}
 use Rattle.refusal.specs.declared.Reason.TheVariants.{WrongPacket, NoRoom, NoScratch, WrongTable, WrongRow, ShortBuffer, WrongInput}
 use Rattle.refusal.specs.declared.Refusal.{Refusal}
-use Rattle.section.specs.Due.{RecordDue, cell, match, action, node, SectionDue, no-count, beyond, cut, wrong-record}
-use Rattle.section.specs.declared.Edition.{Edition}
-use Rattle.section.specs.declared.Edition.TheVariants.{First}
-use Rattle.section.specs.declared.Section.{Section}
-use Rattle.policy.specs.Order.{Due, in-header, in-operators, in-atoms, in-nodes, extra, no_place, missing, sum}
+use Rattle.policy.specs.Due.{RecordDue, cell, match, action, node, SectionDue, no_count, beyond, cut, wrong_record}
+use Rattle.policy.specs.declared.Edition.{Edition}
+use Rattle.policy.specs.declared.Edition.TheVariants.{First}
+use Rattle.policy.specs.declared.Section.{Section}
+use Rattle.policy.specs.Order.{Due, in_header, in_operators, in_atoms, in_nodes, extra, no_place, missing, sum}
 
 record-lawless : {at : ℕ} {r : List ℕ} {s : Section} {why : Reason} {place : ℕ} → RecordDue at r s why place → ¬ (reason_number why ≡ law_broken)
 record-lawless (cell w) e = omega (arith, e)
@@ -23,17 +23,17 @@ record-lawless (action w v) e = omega (arith, e)
 record-lawless (node w) e = omega (arith, e)
 
 section-lawless : {f : List ℕ} {at : ℕ} {s : Section} {why : Reason} {place : ℕ} → SectionDue f at s why place → ¬ (reason_number why ≡ law_broken)
-section-lawless (no-count h) e = omega (arith, e)
+section-lawless (no_count h) e = omega (arith, e)
 section-lawless (beyond h k) e = omega (arith, e)
 section-lawless (cut h k l m) e = omega (arith, e)
-section-lawless (wrong-record p w d) e = record-lawless d e
+section-lawless (wrong_record p w d) e = record-lawless d e
 
 -- nothing that is due before the laws is a broken law
 pub due-lawless : (e : Edition) (f : List ℕ) (why : Reason) (at : ℕ) → Due e f why at → ¬ (reason_number why ≡ law_broken)
-due-lawless First f why at (in-header d) q = d
-due-lawless e f why at (in-operators h d) q = section-lawless d q
-due-lawless e f why at (in-atoms h g d) q = section-lawless d q
-due-lawless e f why at (in-nodes h g k d) q = section-lawless d q
+due-lawless First f why at (in_header d) q = d
+due-lawless e f why at (in_operators h d) q = section-lawless d q
+due-lawless e f why at (in_atoms h g d) q = section-lawless d q
+due-lawless e f why at (in_nodes h g k d) q = section-lawless d q
 due-lawless e f why at (extra g h) q = omega (arith, q)
 due-lawless e f why at (no_place g h w) q = omega (arith, q)
 due-lawless e f why at (missing g h p x) q = omega (arith, q)

@@ -26,12 +26,12 @@ use Rattle.action.proofs.Exact.{search-exact, search-shows}
 use Rattle.action.proofs.Joined.{identity}
 use Rattle.refusal.specs.Refusals.{refusal_at}
 use Rattle.refusal.specs.declared.Reason.TheVariants.{WrongCell}
-use Rattle.section.specs.Numbers.{latest}
-use Rattle.section.specs.Due.{RecordDue, cell, SectionDue, wrong-record, record_at}
-use Rattle.section.specs.declared.Edition.TheVariants.{First}
-use Rattle.section.specs.declared.Section.TheVariants.{Operators, Atoms, Nodes}
+use Rattle.policy.specs.Numbers.{latest}
+use Rattle.policy.specs.Due.{RecordDue, cell, SectionDue, wrong_record, record_at}
+use Rattle.policy.specs.declared.Edition.TheVariants.{First}
+use Rattle.policy.specs.declared.Section.TheVariants.{Operators, Atoms, Nodes}
 use Rattle.policy.specs.Read.{read_of}
-use Rattle.policy.specs.Order.{Due, in-header, in-operators, in-atoms, in-nodes}
+use Rattle.policy.specs.Order.{Due, in_header, in_operators, in_atoms, in_nodes}
 use Rattle.policy.specs.declared.Layout.{Layout}
 use Rattle.policy.proofs.Accepted.{accepted-exactly}
 use Rattle.policy.proofs.Order.{file-order}
@@ -139,19 +139,19 @@ module _ (f : List ℕ) where
   }
 
   wrong-operator : {at : ℕ} → SectionDue f 0 (Operators First) WrongCell at → WrongCode f at
-  wrong-operator (wrong-record {n} {i} p w d) = wrong-cell n i (sym p.count) w.within d
+  wrong-operator (wrong_record {n} {i} p w d) = wrong-cell n i (sym p.count) w.within d
 
   wrong-atom : {at place : ℕ} → ¬ (SectionDue f at (Atoms First) WrongCell place)
-  wrong-atom (wrong-record p w d) = elim d [ ]
+  wrong-atom (wrong_record p w d) = elim d [ ]
 
   wrong-node : {at place n : ℕ} → ¬ (SectionDue f at (Nodes n) WrongCell place)
-  wrong-node (wrong-record p w d) = elim d [ ]
+  wrong-node (wrong_record p w d) = elim d [ ]
 
   wrong-due : {at : ℕ} → Due latest f WrongCell at → WrongCode f at
-  wrong-due (in-header d) = absurd d
-  wrong-due (in-operators h d) = wrong-operator d
-  wrong-due (in-atoms h g d) = absurd (wrong-atom d)
-  wrong-due (in-nodes h g k d) = absurd (wrong-node d)
+  wrong-due (in_header d) = absurd d
+  wrong-due (in_operators h d) = wrong-operator d
+  wrong-due (in_atoms h g d) = absurd (wrong-atom d)
+  wrong-due (in_nodes h g k d) = absurd (wrong-node d)
 
   wrong : (at : ℕ) → read_of f ≡ Err (refusal_at WrongCell at) → WrongCode f at
   wrong at e = wrong-due ((file-order.due latest f WrongCell at (λ z. omega (arith, z))).0 e)

@@ -38,10 +38,10 @@ use Rattle.table.specs.Table.{RightTable}
 -- the matches, actions and operators of a file keep the laws that theory asks
 pub file-laws : Laws meets DontCare operator.join common is_empty
 file-laws = record {
-  meets-common = meets-common;
-  meets-empty = meets-empty;
-  identity-left = λ o a. (identity o a).0;
-  identity-right = λ o a. (identity o a).1;
+  meets_common = meets-common;
+  meets_empty = meets-empty;
+  identity_left = λ o a. (identity o a).0;
+  identity_right = λ o a. (identity o a).1;
 }
 
 -- the scan of the rows is the action of the tree

@@ -6,7 +6,7 @@
 --   lent                   a buffer of zeros with room for four rows
 --   rows_left f            the rows that the compile of a file leaves in such a buffer, as many as it answers
 --   cases                  the list
-use Rattle.std.specs.Prelude.{ℕ, ◌+◌, ◌*◌, ◌≡◌, List, [], ◌∷◌, ◌++◌, Ok, Err}
+use Rattle.std.specs.Prelude.{ℕ, ◌+◌, ◌*◌, ◌≡◌, List, [], ◌∷◌, ◌++◌, Ok, Err, ⊤}
 use Rattle.action.specs.Operator.{join, sibling, parent}
 use Rattle.action.specs.declared.Action.TheVariants.{DontCare, Allow, Deny, Gmb}
 use Rattle.action.specs.declared.LawFailure.TheVariants.{Commutativity, Associativity}
@@ -33,7 +33,7 @@ k {X} n call gives = record { number = n; Answer = X; call = call; gives = gives
 
 -- every case of a list gives what it says
 abbrev pub Hold : List Case → Type 0
-Hold [] = Unit {0}
+Hold [] = ⊤
 Hold (c ∷ cs) = (c.call ≡ c.gives) × Hold cs
 
 -- an address by its four bytes

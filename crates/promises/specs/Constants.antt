@@ -11,11 +11,11 @@ use Rattle.action.specs.declared.TheConstants.{LARGEST_RATE, CELLS}
 use Rattle.action.specs.declared.TheConstants.Action.{DONT_CARE}
 use Rattle.action.specs.declared.TheConstants.Operator.{SIBLING, PARENT}
 use Rattle.row.specs.declared.TheConstants.{ROW_WORDS, MOST_ROWS}
-use Rattle.section.specs.declared.Edition.TheVariants.{First}
-use Rattle.section.specs.declared.TheConstants.{HEADER_WORDS, OPERATOR_WORDS, ATOM_WORDS, NODE_WORDS, FIRST_OPERATOR}
-use Rattle.section.specs.declared.TheConstants.{MOST_OPERATORS, MOST_ATOMS, MOST_NODES, LONGEST_FILE, LATEST}
-use Rattle.sheet.specs.declared.TheConstants.{ROOM}
-use Rattle.text.specs.declared.TheConstants.{LONGEST_INPUT, INPUT_ROOM, LONGEST_LISTING}
+use Rattle.policy.specs.declared.Edition.TheVariants.{First}
+use Rattle.policy.specs.declared.TheConstants.{HEADER_WORDS, OPERATOR_WORDS, ATOM_WORDS, NODE_WORDS, FIRST_OPERATOR}
+use Rattle.policy.specs.declared.TheConstants.{MOST_OPERATORS, MOST_ATOMS, MOST_NODES, LONGEST_FILE, LATEST}
+use Rattle.show.specs.declared.TheConstants.{ROOM}
+use Rattle.text.specs.declared.TheConstants.{LONGEST_INPUT, INPUT_ROOM}
 
 pub record Constants : Type 0 where
   -- don't care, the two operators supplied by name, and the empty match
@@ -35,9 +35,11 @@ pub record Constants : Type 0 where
       }
   -- flags: in-port, protocol, source port, destination port
   pub flags : (IN_PORT ∷ PROTOCOL ∷ SOURCE_PORT ∷ DESTINATION_PORT ∷ []) ≡ 1 ∷ 2 ∷ 4 ∷ 8 ∷ []
-  -- the words of a packet, a match, a row, an operator's cells, an operator, an atom and a node; the bits of an address and the bytes of a word
+  -- the words of a packet, a match, a row, an operator's cells, an operator, an atom and a node; the bits of an address
+  -- and the bytes of a word
   pub lengths :
-      (PACKET_WORDS ∷ MATCH_WORDS ∷ ROW_WORDS ∷ CELLS ∷ OPERATOR_WORDS ∷ ATOM_WORDS ∷ NODE_WORDS ∷ ADDRESS_BITS ∷ WORD_BYTES ∷ [])
+      (PACKET_WORDS ∷ MATCH_WORDS ∷ ROW_WORDS ∷ CELLS ∷ OPERATOR_WORDS ∷ ATOM_WORDS ∷ NODE_WORDS ∷ ADDRESS_BITS
+      ∷ WORD_BYTES ∷ [])
       ≡ 6 ∷ 9 ∷ 11 ∷ 9 ∷ 9 ∷ 11 ∷ 5 ∷ 32 ∷ 4 ∷ []
   -- the newest edition: the words before the first count, and the first operator's place
   pub edition : (LATEST ≡ First) × (HEADER_WORDS ≡ 0) × (FIRST_OPERATOR ≡ 1)
@@ -45,5 +47,5 @@ pub record Constants : Type 0 where
   pub limits :
       (MOST_OPERATORS ∷ MOST_ATOMS ∷ MOST_NODES ∷ LONGEST_FILE ∷ MOST_ROWS ∷ ROOM ∷ LARGEST_RATE ∷ [])
       ≡ 32 ∷ 1024 ∷ 256 ∷ 12835 ∷ 4096 ∷ 1024 ∷ 100000000 ∷ []
-  -- the bytes of the longest file, a byte more, and the bytes of the longest listing
-  pub bytes : (LONGEST_INPUT ∷ INPUT_ROOM ∷ LONGEST_LISTING ∷ []) ≡ 51340 ∷ 51341 ∷ 348500 ∷ []
+  -- the bytes of the longest file, and a byte more
+  pub bytes : (LONGEST_INPUT ∷ INPUT_ROOM ∷ []) ≡ 51340 ∷ 51341 ∷ []

@@ -8,7 +8,7 @@
 --   scan_of                                       table::scan         of a table and a packet
 --   number_of, priorities_after, chain_after      priority::number    of a table, a priority buffer and a chain buffer
 --   kept_of, table_kept                           hidden::drop_hidden of a table
-use Rattle.std.specs.Prelude.{ℕ, None, suc, ◌*◌, ◌-◌, ◌≤◌, ◌<◌, ◌≡◌, true, false, not, List, [], ◌++◌, Ok, Err, ◌↔◌, ◌⊎◌, length, get_or, take, drop}
+use Rattle.std.specs.Prelude.{ℕ, None, suc, ◌*◌, ◌-◌, ◌≤◌, ◌<◌, ◌≡◌, true, false, not, List, [], ◌++◌, Ok, Err, ◌↔◌, ◌⊎◌, length, take, drop, slice_index, slice_index_or}
 use Rattle.theory.specs.Rows.{matches_at}
 use Rattle.theory.specs.Nodes.{list_tree}
 use Rattle.theory.specs.Number.{FirstPlace, distinct, Obeyed}
@@ -26,11 +26,11 @@ use Rattle.action.specs.declared.Action.{Action}
 use Rattle.action.specs.declared.Action.TheVariants.{DontCare}
 use Rattle.row.specs.Row.{row_length, right_row, words_of, rows_in, table_rows}
 use Rattle.policy.specs.Read.{read_of, operator_records, node_records}
-use Rattle.section.specs.Sections.{inner_of, sibling_of}
-use Rattle.whole.specs.Meaning.{operator_at}
+use Rattle.policy.specs.Sections.{inner_of, sibling_of}
+use Rattle.policy.specs.Meaning.{operator_at}
 use Rattle.policy.specs.File.{atoms_of, tree_of, all_atoms}
 use Rattle.policy.specs.WellFormed.{Otherwise, WellFormed}
-use Rattle.section.specs.declared.Edition.{Edition}
+use Rattle.policy.specs.declared.Edition.{Edition}
 use Rattle.policy.specs.Order.{Due, FileOrder}
 use Rattle.policy.specs.declared.Layout.{Layout}
 use Rattle.tree.specs.Action.{eval_tree, tree_action_of}
@@ -45,8 +45,8 @@ use Rattle.promises.specs.Told.{search_told, read_told, action_told, compile_tol
 use Rattle.promises.specs.Told.{kept_told}
 use Rattle.promises.specs.Told.{between, Fixed}
 
--- DEMAND 1. Every file, packet or table handed in, however broken, gets a result or one numbered refusal. Callers check
--- nothing first. The refusals, their order and the words left in each lent buffer are fixed.
+-- FIXED ANSWERS. Every file, packet or table handed in, however broken, gets a result or one numbered refusal. Callers
+-- check nothing first. The refusals, their order and the words left in each lent buffer are fixed.
 
 -- the numbers of the compile
 abbrev pub compile_numbers : ℕ → Type 0
@@ -69,76 +69,78 @@ pub record Order : Type 0 where
   -- a file: section by section, then 7, 8, 9 and last 10, each with its place, as crates/policy/specs/Order.antt says
   pub file : FileOrder
   -- none of what is due before the laws is 10
-  pub file-laws : (e : Edition) (f : List ℕ) (why : Reason) (at : ℕ) → Due e f why at → ¬ (reason_number why ≡ law_broken)
+  pub file_laws : (e : Edition) (f : List ℕ) (why : Reason) (at : ℕ) → Due e f why at
+      → ¬ (reason_number why ≡ law_broken)
   -- the number and the place of a refusal other than 10 are all of it
-  pub plain : (r s : Refusal) → failure_of r.reason ≡ None → failure_of s.reason ≡ None → refusal_number r ≡ refusal_number s
+  pub plain : (r s : Refusal) → failure_of r.reason ≡ None → failure_of s.reason ≡ None
+      → refusal_number r ≡ refusal_number s
       → r.place ≡ s.place → r ≡ s
   -- the tree's action: 1..10, 11
-  pub action-file : (f p : List ℕ) (r : Refusal) → read_of f ≡ Err r → tree_action_of f p ≡ Err r
-  pub action-packet : (f p : List ℕ) (l : Layout) → read_of f ≡ Ok l → right_packet_words p ≡ false
+  pub action_file : (f p : List ℕ) (r : Refusal) → read_of f ≡ Err r → tree_action_of f p ≡ Err r
+  pub action_packet : (f p : List ℕ) (l : Layout) → read_of f ≡ Ok l → right_packet_words p ≡ false
       → tree_action_of f p ≡ Err (refusal_at WrongPacket 0)
-  -- the compile: 1..10, 13, then 12 as demand 2 has it
-  pub compile-file : (f t s : List ℕ) (r : Refusal) → read_of f ≡ Err r → answer_of f t s ≡ Err r
-  pub compile-scratch : (f t s : List ℕ) (l : Layout) → read_of f ≡ Ok l
+  -- the compile: 1..10, 13, then 12 where the rows outnumber the room
+  pub compile_file : (f t s : List ℕ) (r : Refusal) → read_of f ≡ Err r → answer_of f t s ≡ Err r
+  pub compile_scratch : (f t s : List ℕ) (l : Layout) → read_of f ≡ Ok l
       → length s < row_length * room (length t) → answer_of f t s ≡ Err (refusal_at NoScratch 0)
   -- a table: 15, then 16 at the first wrong row
-  pub table-length : (ws : List ℕ) → right_length ws ≡ false → check_of ws ≡ Err (refusal_at WrongTable 0)
-  pub table-row : (ws : List ℕ) (i : ℕ) → right_length ws ≡ true
+  pub table_length : (ws : List ℕ) → right_length ws ≡ false → check_of ws ≡ Err (refusal_at WrongTable 0)
+  pub table_row : (ws : List ℕ) (i : ℕ) → right_length ws ≡ true
       → FirstPlace (λ j. not (right_row (row_at ws j))) (row_count ws) i → check_of ws ≡ Err (refusal_at WrongRow i)
   -- the scan: 11, then the whole table's 15 or 16
-  pub scan-packet : (ws p : List ℕ) → right_packet_words p ≡ false → scan_of ws p ≡ Err (refusal_at WrongPacket 0)
-  pub scan-table : (ws p : List ℕ) (f : Refusal) → right_packet_words p ≡ true → check_of ws ≡ Err f
+  pub scan_packet : (ws p : List ℕ) → right_packet_words p ≡ false → scan_of ws p ≡ Err (refusal_at WrongPacket 0)
+  pub scan_table : (ws p : List ℕ) (f : Refusal) → right_packet_words p ≡ true → check_of ws ≡ Err f
       → scan_of ws p ≡ Err f
   -- the numbering: 15 or 16, then 17
-  pub number-table : (ws : List ℕ) (p c : ℕ) (f : Refusal) → check_of ws ≡ Err f
+  pub number_table : (ws : List ℕ) (p c : ℕ) (f : Refusal) → check_of ws ≡ Err f
       → number_of ws p c ≡ Err f
-  pub number-buffers : (ws : List ℕ) (p c : ℕ) → RightTable ws → (p < row_count ws) ⊎ (c < row_count ws)
+  pub number_buffers : (ws : List ℕ) (p c : ℕ) → RightTable ws → (p < row_count ws) ⊎ (c < row_count ws)
       → number_of ws p c ≡ Err (refusal_at ShortBuffer 0)
   -- hidden rows out: 15 or 16
-  pub hidden-table : (ws : List ℕ) (f : Refusal) → check_of ws ≡ Err f → kept_of ws ≡ Err f
+  pub hidden_table : (ws : List ℕ) (f : Refusal) → check_of ws ≡ Err f → kept_of ws ≡ Err f
 
 -- "and the words left in each lent buffer are fixed": what they are after each answer.
 pub record WordsLeft : Type 0 where
   -- after a refusal both buffers stay, but after 12 they are all zero
-  pub compile-stays : (f t s : List ℕ) (r : Refusal) → answer_of f t s ≡ Err r
+  pub compile_stays : (f t s : List ℕ) (r : Refusal) → answer_of f t s ≡ Err r
       → ¬ (refusal_number r ≡ reason_number NoRoom)
       → (table_after f t s ≡ t) × (scratch_after f t s ≡ s)
-  pub compile-zeros : (f t s : List ℕ) (r : Refusal) → answer_of f t s ≡ Err r
+  pub compile_zeros : (f t s : List ℕ) (r : Refusal) → answer_of f t s ≡ Err r
       → refusal_number r ≡ reason_number NoRoom
       → (table_after f t s ≡ zeros (length t)) × (scratch_after f t s ≡ zeros (length s))
   -- after a success the table is its rows, then zeros, and scratch is zero
-  pub compile-rows : (f t s : List ℕ) (l : Layout) (n : ℕ) → read_of f ≡ Ok l
+  pub compile_rows : (f t s : List ℕ) (l : Layout) (n : ℕ) → read_of f ≡ Ok l
       → answer_of f t s ≡ Ok n
       → (table_after f t s ≡ words_of (compiled_rows f l) ++ zeros (length t - length (words_of (compiled_rows f l))))
       × (scratch_after f t s ≡ zeros (length s))
   -- a refused numbering leaves both buffers; after a success the words beyond the priorities and beyond the chain stay
-  pub number-stays : (ws ps cs : List ℕ) (f : Refusal) → number_of ws (length ps) (length cs) ≡ Err f
+  pub number_stays : (ws ps cs : List ℕ) (f : Refusal) → number_of ws (length ps) (length cs) ≡ Err f
       → (priorities_after ws ps cs ≡ ps) × (chain_after ws ps cs ≡ cs)
-  pub number-beyond : (ws ps cs : List ℕ) (n : ℕ) → number_of ws (length ps) (length cs) ≡ Ok n
+  pub number_beyond : (ws ps cs : List ℕ) (n : ℕ) → number_of ws (length ps) (length cs) ≡ Ok n
       → (drop (row_count ws) (priorities_after ws ps cs) ≡ drop (row_count ws) ps)
       × (drop n (chain_after ws ps cs) ≡ drop n cs)
   -- where no hidden row is taken out because of a refusal, the table stays; else it is the rows that stay, then zeros
-  pub hidden-stays : (ws : List ℕ) (f : Refusal) → kept_of ws ≡ Err f → table_kept ws ≡ ws
-  pub hidden-rows : (ws : List ℕ) (n : ℕ) → kept_of ws ≡ Ok n
+  pub hidden_stays : (ws : List ℕ) (f : Refusal) → kept_of ws ≡ Err f → table_kept ws ≡ ws
+  pub hidden_rows : (ws : List ℕ) (n : ℕ) → kept_of ws ≡ Ok n
       → table_kept ws ≡ words_of (kept_rows ws) ++ zeros (length ws - length (words_of (kept_rows ws)))
 
-pub record Demand1 : Type 0 where
-  pub every-input : EveryInput
+pub record FixedAnswers : Type 0 where
+  pub every_input : EveryInput
   pub order : Order
   pub words_left : WordsLeft
 
--- DEMAND 2. For every accepted policy and every packet, the tree's action is the one given by eval in the Hierarchical
--- Flow Tables paper, each matching atom counted, and scanning the compiled table gives the same. A file otherwise good
--- is refused for an operator exactly when some node's inner or sibling one breaks commutativity or associativity, with
--- actions that show it. Given its scratch, a table is refused for room exactly when its defined rows outnumber the
--- room.
+-- THE TABLE FOLLOWS THE TREE. For every accepted policy and every packet, the tree's action is the one given by eval in
+-- the Hierarchical Flow Tables paper, each matching atom counted, and scanning the compiled table gives the same. A
+-- file otherwise good is refused for an operator exactly when some node's inner or sibling one breaks commutativity or
+-- associativity, with actions that show it. Given its scratch, a table is refused for room exactly when its defined
+-- rows outnumber the room.
 
 -- two actions with allowed rates that do not commute
 pub record BreaksCommutativity (o : List ℕ) : Type 0 where
   pub left : Action
   pub right : Action
-  pub left-allowed : in_range left ≡ true
-  pub right-allowed : in_range right ≡ true
+  pub left_allowed : in_range left ≡ true
+  pub right_allowed : in_range right ≡ true
   pub differ : ¬ (join o left right ≡ join o right left)
 
 -- three actions with allowed rates whose two groupings differ
@@ -146,9 +148,9 @@ pub record BreaksAssociativity (o : List ℕ) : Type 0 where
   pub left : Action
   pub middle : Action
   pub right : Action
-  pub left-allowed : in_range left ≡ true
-  pub middle-allowed : in_range middle ≡ true
-  pub right-allowed : in_range right ≡ true
+  pub left_allowed : in_range left ≡ true
+  pub middle_allowed : in_range middle ≡ true
+  pub right_allowed : in_range right ≡ true
   pub differ : ¬ (join o (join o left middle) right ≡ join o left (join o middle right))
 
 -- in a file of a operators, b atoms and c nodes, some node's inner or sibling operator breaks a law
@@ -156,8 +158,8 @@ pub record SomeBroken (f : List ℕ) (a b c : ℕ) : Type 0 where
   pub node : ℕ
   pub within : node < c
   pub operator : ℕ
-  pub named : (operator ≡ inner_of (get_or (node_records f a b c) node []))
-      ⊎ (operator ≡ sibling_of (get_or (node_records f a b c) node []))
+  pub named : (operator ≡ inner_of (slice_index_or (node_records f a b c) node []))
+      ⊎ (operator ≡ sibling_of (slice_index_or (node_records f a b c) node []))
   pub breaks : BreaksCommutativity (operator_at (operator_records f a) operator)
       ⊎ BreaksAssociativity (operator_at (operator_records f a) operator)
 
@@ -178,7 +180,7 @@ pub record Shown (f : List ℕ) (a b c : ℕ) (r : Refusal) : Type 0 where
   pub reason : r.reason ≡ LawBroken failure
   pub shows : Shows (operator_at (operator_records f a) r.place) failure
 
-pub record Demand2 : Type 0 where
+pub record TableFollowsTree : Type 0 where
   -- the accepted policies are the well-formed files, whatever order they are read in
   pub accepted : (f : List ℕ) (l : Layout) → (read_of f ≡ Ok l) ↔ WellFormed f l
   -- "For every accepted policy and every packet, the tree's action is the one given by eval in the paper,"
@@ -202,13 +204,13 @@ pub record Demand2 : Type 0 where
   pub shown : (f : List ℕ) (a b c : ℕ) (r : Refusal) → Otherwise f a b c → read_of f ≡ Err r
       → refusal_number r ≡ law_broken → Shown f a b c r
   -- "Given its scratch, a table is refused for room exactly when its defined rows outnumber the room."
-  pub for-room : (f t s : List ℕ) (l : Layout) → read_of f ≡ Ok l → row_length * room (length t) ≤ length s
+  pub for_room : (f t s : List ℕ) (l : Layout) → read_of f ≡ Ok l → row_length * room (length t) ≤ length s
       → (answer_of f t s ≡ Err (refusal_at NoRoom 0)) ↔ (room (length t) < length (compiled_rows f l))
 
--- DEMAND 3. For every well-formed table, with buffers as long as it needs, where some packet matches two rows, the
--- earlier row gets the strictly higher priority. No numbering that does so uses fewer priorities, and a chain of rows
--- that forces the number is shown. A switch that obeys any matching row of highest priority therefore does what the
--- scan does.
+-- THE SMALLEST NUMBERING. For every well-formed table, with buffers as long as it needs, where some packet matches two
+-- rows, the earlier row gets the strictly higher priority. No numbering that does so uses fewer priorities, and a chain
+-- of rows that forces the number is shown. A switch that obeys any matching row of highest priority therefore does what
+-- the scan does.
 
 -- a numbering q of the rows that gives the earlier of two rows that some packet in range matches the strictly higher
 -- number
@@ -220,41 +222,41 @@ pub record RightNumbering (ws ps cs : List ℕ) : Type 0 where
   pub count : ℕ
   pub answer : number_of ws (length ps) (length cs) ≡ Ok count
   -- "where some packet matches two rows, the earlier row gets the strictly higher priority."
-  pub earlier-higher : PutsHigher ws (priority ws ps cs)
+  pub earlier_higher : PutsHigher ws (priority ws ps cs)
   -- "No numbering that does so uses fewer priorities,": so many are used here, and at least as many by every numbering
   -- qs that does so
   pub used : length (distinct (take (row_count ws) (priorities_after ws ps cs))) ≡ count
-  pub fewest : (qs : List ℕ) → length qs ≡ row_count ws → PutsHigher ws (λ i. get_or qs i 0)
+  pub fewest : (qs : List ℕ) → length qs ≡ row_count ws → PutsHigher ws (λ i. slice_index qs i)
       → count ≤ length (distinct qs)
   -- "and a chain of rows that forces the number is shown.": as many rows as there are priorities, in scan order, of
   -- each two neighbours some packet matches both
   pub chain_length : length (take count (chain_after ws ps cs)) ≡ count
-  pub chain-rows : (k : ℕ) → k < count → link ws ps cs k < row_count ws
-  pub chain-order : (k : ℕ) → suc k < count → link ws ps cs k < link ws ps cs (suc k)
-  pub chain-overlaps : (k : ℕ) → suc k < count → Shared ws (link ws ps cs k) (link ws ps cs (suc k))
+  pub chain_rows : (k : ℕ) → k < count → link ws ps cs k < row_count ws
+  pub chain_order : (k : ℕ) → suc k < count → link ws ps cs k < link ws ps cs (suc k)
+  pub chain_overlaps : (k : ℕ) → suc k < count → Shared ws (link ws ps cs k) (link ws ps cs (suc k))
   -- so every numbering that does so has a lower number at each step of the chain
-  pub chain-forces : (q : ℕ → ℕ) → PutsHigher ws q → (k : ℕ) → suc k < count
+  pub chain_forces : (q : ℕ → ℕ) → PutsHigher ws q → (k : ℕ) → suc k < count
       → q (link ws ps cs (suc k)) < q (link ws ps cs k)
   -- "A switch that obeys any matching row of highest priority therefore does what the scan does."
   pub switch : (p : List ℕ) (i : ℕ) → right_packet_words p ≡ true
       → Obeyed meets past (rows_in ws) (priority ws ps cs) (packet_of p) i
-      → (get_or (rows_in ws) i past).action ≡ scan_action (scan_of ws p)
+      → (slice_index_or (rows_in ws) i past).action ≡ scan_action (scan_of ws p)
   -- there is such a row where any matches, and where none does the scan gives don't care
-  pub switch-obeys : (p : List ℕ) (k : ℕ) → k < row_count ws → matches_at meets past (rows_in ws) (packet_of p) k ≡ true
+  pub switch_obeys : (p : List ℕ) (k : ℕ) → k < row_count ws → matches_at meets past (rows_in ws) (packet_of p) k ≡ true
       → (i : ℕ) × Obeyed meets past (rows_in ws) (priority ws ps cs) (packet_of p) i
-  pub switch-idle : (p : List ℕ) → right_packet_words p ≡ true
+  pub switch_idle : (p : List ℕ) → right_packet_words p ≡ true
       → ((k : ℕ) → k < row_count ws → matches_at meets past (rows_in ws) (packet_of p) k ≡ false)
       → scan_action (scan_of ws p) ≡ DontCare
 
-abbrev pub Demand3 : Type 0
-Demand3 = (ws ps cs : List ℕ) → Ready ws ps cs → RightNumbering ws ps cs
+abbrev pub SmallestNumbering : Type 0
+SmallestNumbering = (ws ps cs : List ℕ) → Ready ws ps cs → RightNumbering ws ps cs
 
--- DEMANDS 2 AND 3 TOGETHER: whatever row of the compiled table a switch obeys, by the priorities that were left, its
--- action is the tree's.
+-- THE TABLE AND THE NUMBERING TOGETHER: whatever row of the compiled table a switch obeys, by the priorities that were
+-- left, its action is the tree's.
 abbrev pub SwitchObeysTree : Type 0
 SwitchObeysTree =
     (f t s ps cs p : List ℕ) (n i : ℕ) → answer_of f t s ≡ Ok n → n ≤ length ps → n ≤ length cs
     → right_packet_words p ≡ true
     → let ws : List ℕ = table_rows n (table_after f t s) in
     Obeyed meets past (rows_in ws) (priority ws ps cs) (packet_of p) i
-    → tree_action_of f p ≡ Ok (get_or (rows_in ws) i past).action
+    → tree_action_of f p ≡ Ok (slice_index_or (rows_in ws) i past).action

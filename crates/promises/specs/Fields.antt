@@ -1,6 +1,7 @@
--- Packets, matches and actions word by word, by hand from docs/FORMAT.md. For each field of a packet and of a match there are a packet that meets and one that
--- does not, rows that share packets and rows that don't, a row inside another and one that is not, by this field alone; and no two fields of one match or
--- packet have equal values, so that a field that is taken for another is noticed. A case has the number of its rule:
+-- Packets, matches and actions word by word, by hand from docs/FORMAT.md. For each field of a packet and of a match
+-- there are a packet that meets and one that does not, rows that share packets and rows that don't, a row inside
+-- another and one that is not, by this field alone; and no two fields of one match or packet have equal values, so that
+-- a field that is taken for another is noticed. A case has the number of its rule:
 --
 --   1   a packet's words and their ranges                         "Packets"
 --   2   which of a match's words are right                        "Matches"
@@ -76,7 +77,8 @@ gets row = scan_action (scan_of row packet)
 abbrev pub exact : List ℕ
 exact = allow 7 (dotted 10 1 2 3) (dotted 10 7 3 9) 6 1 2 32 32 15
 
--- in-port 7 and source port 1, from 10.1.0.0/16 to 10.0.0.0/8; protocol 6 and destination port 2, from 10.0.0.0/8 to 10.7.3.9; and both at once
+-- in-port 7 and source port 1, from 10.1.0.0/16 to 10.0.0.0/8; protocol 6 and destination port 2, from 10.0.0.0/8 to
+-- 10.7.3.9; and both at once
 abbrev pub first_fields : List ℕ
 first_fields = allow 7 (dotted 10 1 0 0) (dotted 10 0 0 0) 0 1 0 16 8 5
 
@@ -192,8 +194,10 @@ field_cases =
     ∷ k 4 (levels (by_source_port 1) (by_destination_port 2)) (Ok 2)
     ∷ k 4 (levels (by_source (dotted 10 0 0 0) 8) (by_destination (dotted 11 0 0 0) 8)) (Ok 2)
     -- 5: each value of the two that has its flag, and for each address the longer prefix, whichever of the two has it
-    ∷ k 5 (table_after (node 2 (first_fields ++ second_fields)) three three) (both_fields ++ first_fields ++ second_fields)
-    ∷ k 5 (table_after (node 2 (second_fields ++ first_fields)) three three) (both_fields ++ second_fields ++ first_fields)
+    ∷ k 5 (table_after (node 2 (first_fields ++ second_fields)) three three)
+    (both_fields ++ first_fields ++ second_fields)
+    ∷ k 5 (table_after (node 2 (second_fields ++ first_fields)) three three)
+    (both_fields ++ second_fields ++ first_fields)
     -- 6: by one field, with an equal value, another value and without one; by a longer prefix and by a shorter
     ∷ k 6 (stay (by_in_port 7) exact) (Ok 1)
     ∷ k 6 (stay (by_in_port 1) exact) (Ok 2)

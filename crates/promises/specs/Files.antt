@@ -1,13 +1,15 @@
--- Files word by word: what reading answers of each, by hand from docs/FORMAT.md, "The policy file", "Laws" and "Numbers a caller can get back". A case has the
--- number of the refusal that it is about: 0 for a file that is accepted.
+-- Files word by word: what reading answers of each, by hand from docs/FORMAT.md, "The policy file", "Laws" and "Numbers
+-- a caller can get back". A case has the number of the refusal that it is about: 0 for a file that is accepted.
 --
 --   fault x            an answer's number and place, both 0 where it is no refusal
---   one_operator       the first words of a file with one operator: the count, and the cells of sibling. Its atoms' count is word 10
---   no_atoms           the same and the count of no atoms. Its nodes' count is word 11, and its first node stands at word 12
+--   one_operator       the first words of a file with one operator: the count, and the cells of sibling. Its atoms'
+--                      count is word 10
+--   no_atoms           the same and the count of no atoms. Its nodes' count is word 11, and its first node stands at
+--                      word 12
 --   leaf, leaves n     a node of five zeros; n of them
 --   chain n            n nodes with one child each, and a leaf below them
 --   lone_node          a file of one node by its five words
---   three_operators    the first words of a file whose operator 1 breaks associativity and whose operator 2 commutativity
+--   three_operators    the first words of a file whose operator 1 breaks associativity, and operator 2 commutativity
 --   file_cases         the list
 use Rattle.std.specs.Prelude.{ℕ, zero, suc, List, [], ◌∷◌, ◌++◌, Result}
 use Rattle.action.specs.Operator.{sibling, parent}
@@ -49,7 +51,8 @@ lone_node inner parent sibling own children = no_atoms ++ (1 ∷ inner ∷ paren
 abbrev pub three_operators : List ℕ
 three_operators = (3 ∷ sibling) ++ lopsided ++ parent ++ (0 ∷ [])
 
--- an atom by its flags, its kind and its rate, with zeros for the rest: flags 32 are a wrong match, and kind 1 with a rate is a wrong action
+-- an atom by its flags, its kind and its rate, with zeros for the rest: flags 32 are a wrong match, and kind 1 with a
+-- rate is a wrong action
 abbrev pub atom : ℕ → ℕ → ℕ → List ℕ
 atom flags kind rate = 0 ∷ 0 ∷ 0 ∷ 0 ∷ 0 ∷ 0 ∷ 0 ∷ 0 ∷ flags ∷ kind ∷ rate ∷ []
 
@@ -96,7 +99,8 @@ file_cases =
     -- an atom may have flags 16 alone, and don't care
     ∷ k 0 (fault (read_of (atoms 2 (atom 16 1 0 ++ atom 0 0 0)))) (0, 0)
     ∷ k 4 (fault (read_of (atoms 1 (1 ∷ 0 ∷ 0 ∷ 0 ∷ 0 ∷ 0 ∷ 0 ∷ 0 ∷ 16 ∷ 1 ∷ 0 ∷ [])))) (4, 11)
-    -- 6: the node's first word, whichever word is wrong: an index of 1 where there is one operator, counts over 1,024 and 255
+    -- 6: the node's first word, whichever word is wrong: an index of 1 where there is one operator, counts over 1,024
+    -- and 255
     ∷ k 6 (fault (read_of (lone_node 1 0 0 0 0))) (6, 12)
     ∷ k 6 (fault (read_of (lone_node 0 1 0 0 0))) (6, 12)
     ∷ k 6 (fault (read_of (lone_node 0 0 1 0 0))) (6, 12)
@@ -121,7 +125,8 @@ file_cases =
     ∷ k 9 (fault (read_of (one_operator ++ (1 ∷ atom 0 1 0) ++ (1 ∷ leaf)))) (9, 0)
     ∷ k 9 (fault (read_of (lone_node 0 0 0 1 0))) (9, 0)
     ∷ k 9 (fault (read_of (three_operators ++ (1 ∷ 2 ∷ 0 ∷ 0 ∷ 1 ∷ 0 ∷ [])))) (9, 0)
-    -- 10: the operator, named as inner or as sibling by any node, without atoms and children too; not one named as parent
+    -- 10: the operator, named as inner or as sibling by any node, without atoms and children too; not one named as
+    -- parent
     ∷ k 10 (fault (read_of (three_operators ++ (1 ∷ 1 ∷ 0 ∷ 0 ∷ 0 ∷ 0 ∷ [])))) (10, 1)
     ∷ k 0 (fault (read_of (three_operators ++ (1 ∷ 0 ∷ 1 ∷ 0 ∷ 0 ∷ 0 ∷ [])))) (0, 0)
     ∷ k 10 (fault (read_of (three_operators ++ (1 ∷ 0 ∷ 0 ∷ 1 ∷ 0 ∷ 0 ∷ [])))) (10, 1)

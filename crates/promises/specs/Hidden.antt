@@ -12,7 +12,7 @@
 --   PassRefused         what it refuses, and in which order
 --   PassListed          what the listing shows of a file
 --   KeptObeysTree       what a switch does that has the rows which stay
-use Rattle.std.specs.Prelude.{ℕ, suc, ◌*◌, ◌-◌, ◌≤◌, ◌<◌, ◌≡◌, true, false, not, List, ◌++◌, Ok, Err, ◌↔◌, length, get_or}
+use Rattle.std.specs.Prelude.{ℕ, suc, ◌*◌, ◌-◌, ◌≤◌, ◌<◌, ◌≡◌, true, false, not, List, ◌++◌, Ok, Err, ◌↔◌, length, slice_index, slice_index_or}
 use Rattle.words.specs.Words.{zeros}
 use Rattle.words.specs.Records.{flat}
 use Rattle.words.specs.Bytes.{words_in}
@@ -34,13 +34,13 @@ use Rattle.table.specs.Scan.{scan_of, scan_action, scan_tried}
 use Rattle.hidden.specs.Hidden.{kept_of, table_kept}
 use Rattle.priority.specs.Numbering.{priority}
 use Rattle.compile.specs.Compile.{compiled_rows, answer_of, table_after}
-use Rattle.line.specs.Text.{refusal}
-use Rattle.sheet.specs.Sheet.{listing_room, rows_text}
+use Rattle.show.specs.Text.{refusal}
+use Rattle.show.specs.Sheet.{listing_room, rows_text}
 use Rattle.text.specs.Listing.{right_input, blank, listing_of}
 
 -- row i of a table
 abbrev pub row_in : List ℕ → ℕ → Row Match Action
-row_in ws i = get_or (rows_in ws) i past
+row_in ws i = slice_index_or (rows_in ws) i past
 
 -- every packet in range that meets row i's match meets row j's
 abbrev pub Inside : List ℕ → ℕ → ℕ → Type 0
@@ -61,19 +61,20 @@ pub record Passed (ws : List ℕ) : Type 0 where
   pub many : length places ≡ count
   -- "that removes each row whose match lies wholly inside one earlier row's match,": those, and no other
   pub removes : (i : ℕ) → i < row_count ws → (has i places ≡ false) ↔ Hidden ws i
-  pub of-table : (i : ℕ) → has i places ≡ true → i < row_count ws
+  pub of_table : (i : ℕ) → has i places ≡ true → i < row_count ws
   -- "and keeps the rest in order."
-  pub order : (k : ℕ) → suc k < count → get_or places k 0 < get_or places (suc k) 0
+  pub order : (k : ℕ) → suc k < count → slice_index places k < slice_index places (suc k)
   -- "Rows hidden only by several rows together stay.": where no one earlier row holds it, a row stays
   pub several : (i : ℕ) → i < row_count ws → ((j : ℕ) → j < i → ¬ (Inside ws i j)) → has i places ≡ true
   -- "Words freed at the end become 0,": every word after the pass is one of a row that stays, or 0
   pub words : table_kept ws ≡ flat (row_at ws) places ++ zeros (length ws - count * row_length)
   -- the rows that stay, as a table
   pub table : RightTable (table_rows count (table_kept ws))
-  pub rows : (k : ℕ) → k < count → row_in (table_rows count (table_kept ws)) k ≡ row_in ws (get_or places k 0)
+  pub rows : (k : ℕ) → k < count → row_in (table_rows count (table_kept ws)) k ≡ row_in ws (slice_index places k)
   -- "The scan's action is the same for every packet,": words that are no packet are refused alike
   pub action : (p : List ℕ) → let t : List ℕ = table_rows count (table_kept ws) in
-      (answer_number (scan_of t p) ≡ answer_number (scan_of ws p)) × (scan_action (scan_of t p) ≡ scan_action (scan_of ws p))
+      (answer_number (scan_of t p) ≡ answer_number (scan_of ws p))
+      × (scan_action (scan_of t p) ≡ scan_action (scan_of ws p))
   -- "and no remaining row can be removed by the rule.": of the rows that stay none is hidden, so a second pass changes
   -- nothing
   pub none_left : (i : ℕ) → i < count → ¬ (Hidden (table_rows count (table_kept ws)) i)
@@ -81,31 +82,33 @@ pub record Passed (ws : List ℕ) : Type 0 where
   -- "Rows tried are counted in the shorter table,"
   pub tried : (p : List ℕ) (i : ℕ) → right_packet_words p ≡ true → let t : List ℕ = table_rows count (table_kept ws) in
       FirstPlace (matches_at meets past (rows_in t) (packet_of p)) count i → scan_tried (scan_of t p) ≡ suc i
-  pub tried-all : (p : List ℕ) → right_packet_words p ≡ true → let t : List ℕ = table_rows count (table_kept ws) in
-      ((i : ℕ) → i < count → matches_at meets past (rows_in t) (packet_of p) i ≡ false) → scan_tried (scan_of t p) ≡ count
+  pub tried_all : (p : List ℕ) → right_packet_words p ≡ true → let t : List ℕ = table_rows count (table_kept ws) in
+      ((i : ℕ) → i < count → matches_at meets past (rows_in t) (packet_of p) i ≡ false)
+      → scan_tried (scan_of t p) ≡ count
 
 -- "Refusals: 15, then 16, the table unchanged."
 pub record PassRefused : Type 0 where
-  pub length-first : (ws : List ℕ) → right_length ws ≡ false → (kept_of ws ≡ Err (refusal_at WrongTable 0)) × (table_kept ws ≡ ws)
-  pub then-rows : (ws : List ℕ) (i : ℕ) → right_length ws ≡ true
+  pub length_first : (ws : List ℕ) → right_length ws ≡ false
+      → (kept_of ws ≡ Err (refusal_at WrongTable 0)) × (table_kept ws ≡ ws)
+  pub then_rows : (ws : List ℕ) (i : ℕ) → right_length ws ≡ true
       → FirstPlace (λ j. not (right_row (row_at ws j))) (row_count ws) i
       → (kept_of ws ≡ Err (refusal_at WrongRow i)) × (table_kept ws ≡ ws)
 
 pub record PassListed : Type 0 where
   -- "The listing runs it before numbering;": of the compiled rows those that stay are numbered and listed
-  pub before-numbering : (b : List ℕ) (n k : ℕ) → right_input b ≡ true
+  pub before_numbering : (b : List ℕ) (n k : ℕ) → right_input b ≡ true
       → answer_of (words_in b) blank blank ≡ Ok n
       → let ws : List ℕ = table_rows n (table_after (words_in b) blank blank) in
       kept_of ws ≡ Ok k → listing_of b ≡ rows_text k (table_rows k (table_kept ws))
   -- "and refusal 12 still speaks of the rows before the pass.": given where these outnumber the room, and nowhere else
   pub room : (b : List ℕ) (l : Layout) → right_input b ≡ true → read_of (words_in b) ≡ Ok l
       → listing_room < length (compiled_rows (words_in b) l) → listing_of b ≡ refusal (reason_number NoRoom) 0
-  pub in-room : (b : List ℕ) (l : Layout) → right_input b ≡ true → read_of (words_in b) ≡ Ok l
+  pub in_room : (b : List ℕ) (l : Layout) → right_input b ≡ true → read_of (words_in b) ≡ Ok l
       → length (compiled_rows (words_in b) l) ≤ listing_room
       → answer_of (words_in b) blank blank ≡ Ok (length (compiled_rows (words_in b) l))
 
--- WITH DEMANDS 2 AND 3: whatever row a switch obeys of those that stay, by the priorities that they get, its action is
--- the tree's
+-- WITH THE TABLE THAT FOLLOWS THE TREE AND THE SMALLEST NUMBERING: whatever row a switch obeys of those that stay, by
+-- the priorities that they get, its action is the tree's
 abbrev pub KeptObeysTree : Type 0
 KeptObeysTree =
     (f t s ps cs p : List ℕ) (n k i : ℕ) → answer_of f t s ≡ Ok n

@@ -1,11 +1,11 @@
--- Listings byte by byte, by hand from docs/FORMAT.md, "The listing": each column, each action, the numbers of the first line, the order of lines, and the two
--- numbers of a refusal. The input's bytes are written as they are, by words of four bytes.
+-- Listings byte by byte, by hand from docs/FORMAT.md, "The listing": each column, each action, the numbers of the first
+-- line, the order of lines, and the two numbers of a refusal. The input's bytes are written as they are, by words of
+-- four bytes.
 --
 --   listing_cases   the list; a case has 1 for rows, 2 for a refusal
-use Rattle.std.specs.Prelude.{ℕ, List, [], ◌∷◌, ◌++◌}
+use Rattle.std.specs.Prelude.{ℕ, List, [], ◌∷◌, ◌++◌, codes}
 use Rattle.words.specs.Records.{flat}
 use Rattle.words.specs.Bytes.{bytes_of}
-use Rattle.line.specs.Text.{ascii}
 use Rattle.text.specs.Listing.{listing_of}
 use Rattle.promises.specs.Cases.{Case, k, Hold, dotted}
 use Rattle.promises.specs.Ports.{node}
@@ -36,7 +36,7 @@ one_hidden = node 2 (at_port 7 1 0 ++ gmb 7 6 0 3 30)
 abbrev pub listing_cases : List Case
 listing_cases =
     k 1 (listing_of (flat bytes_of every_action))
-    (flat ascii
+    (flat codes
     ("rows 4 priorities 1\n"
     ∷ "1 1 0.0.0.0/0 0.0.0.0/0 * * * none\n"
     ∷ "1 2 0.0.0.0/0 0.0.0.0/0 * * * allow\n"
@@ -44,11 +44,11 @@ listing_cases =
     ∷ "1 65535 0.0.0.0/0 0.0.0.0/0 * * * gmb 100000000\n"
     ∷ []))
     ∷ k 1 (listing_of (flat bytes_of every_value))
-    (flat ascii ("rows 1 priorities 1\n" ∷ "1 12345 255.254.0.0/15 10.7.3.9/32 17 6789 80 allow\n" ∷ []))
+    (flat codes ("rows 1 priorities 1\n" ∷ "1 12345 255.254.0.0/15 10.7.3.9/32 17 6789 80 allow\n" ∷ []))
     ∷ k 1 (listing_of (flat bytes_of zero_values))
-    (flat ascii ("rows 1 priorities 1\n" ∷ "1 0 1.2.3.0/24 4.5.0.0/16 0 * * allow\n" ∷ []))
+    (flat codes ("rows 1 priorities 1\n" ∷ "1 0 1.2.3.0/24 4.5.0.0/16 0 * * allow\n" ∷ []))
     ∷ k 1 (listing_of (flat bytes_of five_rows))
-    (flat ascii
+    (flat codes
     ("rows 5 priorities 3\n"
     ∷ "3 7 0.0.0.0/0 0.0.0.0/0 6 * * gmb 30\n"
     ∷ "2 7 0.0.0.0/0 0.0.0.0/0 * * * allow\n"
@@ -57,20 +57,20 @@ listing_cases =
     ∷ "1 * 0.0.0.0/0 0.0.0.0/0 6 * * gmb 30\n"
     ∷ []))
     ∷ k 1 (listing_of (flat bytes_of one_hidden))
-    (flat ascii
+    (flat codes
     ("rows 2 priorities 2\n"
     ∷ "2 7 0.0.0.0/0 0.0.0.0/0 6 * * gmb 30\n"
     ∷ "1 7 0.0.0.0/0 0.0.0.0/0 * * * allow\n"
     ∷ []))
     -- the number stands before the place
-    ∷ k 2 (listing_of (flat bytes_of (one_operator ++ (1025 ∷ [])))) (ascii "refused 2 10\n")
-    ∷ k 2 (listing_of (flat bytes_of (no_atoms ++ (17 ∷ chain 16)))) (ascii "refused 8 16\n")
+    ∷ k 2 (listing_of (flat bytes_of (one_operator ++ (1025 ∷ [])))) (codes "refused 2 10\n")
+    ∷ k 2 (listing_of (flat bytes_of (no_atoms ++ (17 ∷ chain 16)))) (codes "refused 8 16\n")
     -- 18 comes first: three bytes, and a byte behind a word
-    ∷ k 2 (listing_of (0 ∷ 0 ∷ 0 ∷ [])) (ascii "refused 18 0\n")
-    ∷ k 2 (listing_of (33 ∷ 0 ∷ 0 ∷ 0 ∷ 0 ∷ [])) (ascii "refused 18 0\n")
+    ∷ k 2 (listing_of (0 ∷ 0 ∷ 0 ∷ [])) (codes "refused 18 0\n")
+    ∷ k 2 (listing_of (33 ∷ 0 ∷ 0 ∷ 0 ∷ 0 ∷ [])) (codes "refused 18 0\n")
     -- a word's lowest byte is its first: 33 operators, and 32
-    ∷ k 2 (listing_of (33 ∷ 0 ∷ 0 ∷ 0 ∷ [])) (ascii "refused 2 0\n")
-    ∷ k 2 (listing_of (32 ∷ 0 ∷ 0 ∷ 0 ∷ [])) (ascii "refused 1 1\n")
+    ∷ k 2 (listing_of (33 ∷ 0 ∷ 0 ∷ 0 ∷ [])) (codes "refused 2 0\n")
+    ∷ k 2 (listing_of (32 ∷ 0 ∷ 0 ∷ 0 ∷ [])) (codes "refused 1 1\n")
     ∷ []
 
 -- WHAT IS LISTED OF EACH

@@ -1,6 +1,6 @@
 -- Ports only where there are ports, sentence by sentence as it was asked for. It is said of the definitions that the
--- contracts cite; demands 2 and 3 and what is said of hidden rows are the same statements as before, over the same
--- names, which have the new meaning.
+-- contracts cite; that the table follows the tree, the smallest numbering and what is said of hidden rows are the same
+-- statements as before, over the same names, which have the new meaning.
 --
 --   TcpOrUdp p        its protocol is 6 or 17
 --   PortMet           by which packets a port is met
@@ -8,7 +8,7 @@
 --   CountsAsEmpty     what becomes of a match that no packet can meet
 --   Follows           what follows the new meaning
 --   port_cases        worked cases: calls, and what they give
-use Rattle.std.specs.Prelude.{ℕ, ◌<◌, ◌≡◌, true, false, List, [], ◌∷◌, ◌++◌, Ok, Err, ◌⊎◌}
+use Rattle.std.specs.Prelude.{ℕ, ◌<◌, ◌≡◌, true, false, List, [], ◌∷◌, ◌++◌, Ok, Err, ◌⊎◌, codes}
 use Rattle.words.specs.Words.{zeros}
 use Rattle.words.specs.Records.{flat}
 use Rattle.words.specs.Bytes.{bytes_of}
@@ -31,10 +31,9 @@ use Rattle.table.specs.Table.{row_count, right_length, check_of, row_at, RightTa
 use Rattle.table.specs.Scan.{scan_of}
 use Rattle.priority.specs.Numbering.{number_of, priorities_after}
 use Rattle.compile.specs.Compile.{answer_of, table_after}
-use Rattle.line.specs.Text.{ascii}
 use Rattle.text.specs.Listing.{listing_of}
 use Rattle.promises.specs.Cases.{Case, k, Hold, lent, rows_left}
-use Rattle.promises.specs.Demands.{Demand2, Demand3}
+use Rattle.promises.specs.Demands.{TableFollowsTree, SmallestNumbering}
 use Rattle.promises.specs.Hidden.{Passed}
 
 -- its protocol is 6 or 17
@@ -46,7 +45,7 @@ pub record PortMet : Type 0 where
   pub source : (m : Match) (p : Packet) → constrains source_port_flag m ≡ true → meets m p ≡ true → TcpOrUdp p
   pub destination : (m : Match) (p : Packet) → constrains destination_port_flag m ≡ true → meets m p ≡ true → TcpOrUdp p
   -- of these packets, and of matches without such a constraint, nothing is asked but the fields, as before
-  pub of-these : (m : Match) (p : Packet) → TcpOrUdp p → meets m p ≡ fits m p
+  pub of_these : (m : Match) (p : Packet) → TcpOrUdp p → meets m p ≡ fits m p
   pub without : (m : Match) (p : Packet) → constrains source_port_flag m ≡ false
       → constrains destination_port_flag m ≡ false → meets m p ≡ fits m p
 
@@ -81,13 +80,13 @@ pub record Follows : Type 0 where
   -- "Common matches, overlap": exactly the packets that meet both meet the common match, which is flag 16 alone where
   -- there are none; and right matches overlap exactly where there are some
   pub common : MeetsCommon
-  pub no-common : CommonNone
+  pub no_common : CommonNone
   pub overlaps : OverlapExactly
   -- "and hidden rows follow the new meaning,": a row lies inside another by the packets in range that meet it
   pub hidden : (ws : List ℕ) → RightTable ws → Passed ws
-  -- "and demands 2 and 3 are read with it."
-  pub demand-2 : Demand2
-  pub demand-3 : Demand3
+  -- what the compiled table does, and the numbering, are read with it
+  pub table_follows_tree : TableFollowsTree
+  pub smallest_numbering : SmallestNumbering
 
 -- an atom or a row that constrains protocol and ports, by their flags, with an action that has no rate
 abbrev pub ported : ℕ → ℕ → ℕ → ℕ → ℕ → List ℕ
@@ -142,12 +141,13 @@ port_cases =
     ∷ k 1 (tree_action_of studio (sent 6 0 0)) (Ok Deny)
     ∷ k 1 (scan_of (rows_left studio) (sent 17 0 0)) (Ok (record { action = Deny; tried = 1 }))
     ∷ k 2 (answer_of unmet_first lent lent) (Ok 1)
-    ∷ k 2 (table_after unmet_first lent lent) (ported 0 0 0 0 1 ++ zeros row_length ++ zeros row_length ++ zeros row_length)
+    ∷ k 2 (table_after unmet_first lent lent)
+    (ported 0 0 0 0 1 ++ zeros row_length ++ zeros row_length ++ zeros row_length)
     ∷ k 3 (answer_of apart lent lent) (Ok 2)
     ∷ k 3 (number_of (rows_left apart) 2 2) (Ok 1)
     ∷ k 3 (priorities_after (rows_left apart) (zeros 2) (zeros 2)) (1 ∷ 1 ∷ [])
     ∷ k 4 (listing_of (flat bytes_of pings))
-    (flat ascii
+    (flat codes
     ("rows 2 priorities 1\n"
     ∷ "1 * 0.0.0.0/0 0.0.0.0/0 * 0 * deny\n"
     ∷ "1 * 0.0.0.0/0 0.0.0.0/0 1 * * allow\n"
@@ -156,7 +156,7 @@ port_cases =
     ∷ k 6 (tree_action_of twins ping) (Ok Deny)
     ∷ k 6 (scan_of (rows_left twins) ping) (Ok (record { action = Deny; tried = 1 }))
     ∷ k 7 (listing_of (flat bytes_of every_column))
-    (flat ascii ("rows 1 priorities 1\n" ∷ "1 7 10.0.0.0/8 10.7.3.9/32 6 1 2 none\n" ∷ []))
+    (flat codes ("rows 1 priorities 1\n" ∷ "1 7 10.0.0.0/8 10.7.3.9/32 6 1 2 none\n" ∷ []))
     ∷ []
 
 -- EVERY SENTENCE

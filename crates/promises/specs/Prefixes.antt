@@ -1,8 +1,10 @@
--- The prefix test by bit counts, sentence by sentence as it was asked for. It is said of `in_prefix`, which the contract
--- of field's `Prefix::contains` cites for addresses of 32 bits, over addresses of every width. How a function works is its
--- body, and no contract fixes that: what is said here is that the count gives the first bit, and what this bit tells.
+-- The prefix test by bit counts, sentence by sentence as it was asked for. It is said of `in_prefix`, which the
+-- contract of field's `Prefix::contains` cites for addresses of 32 bits, over addresses of every width. How a function
+-- works is its body, and no contract fixes that: what is said here is that the count gives the first bit, and what this
+-- bit tells.
 --
---   FirstDifference w p x k   p and x differ first in bit k, counted from the top, from 0, or k is w and they differ in none
+--   FirstDifference w p x k   p and x differ first in bit k, counted from the top, from 0, or k is w and they differ in
+--                             none
 --   ByFirstDifference         what that bit tells, and how it is found
 --   SamePromise               what the test promises
 --   prefix_cases              worked cases: prefixes and addresses, and what they give

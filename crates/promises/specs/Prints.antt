@@ -10,7 +10,7 @@ use Rattle.words.specs.Bytes.{words_in}
 use Rattle.row.specs.Row.{table_rows}
 use Rattle.refusal.specs.declared.Reason.TheVariants.{NoRoom, WrongInput}
 use Rattle.compile.specs.Compile.{answer_of, table_after}
-use Rattle.line.specs.Text.{refusal}
+use Rattle.show.specs.Text.{refusal}
 use Rattle.text.specs.Listing.{right_input, blank, file_text, listing_of, ListedKept}
 use Rattle.promises.specs.Told.{between}
 use Rattle.refusal.specs.Refusals.{reason_number}

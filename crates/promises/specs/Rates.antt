@@ -5,7 +5,7 @@
 --   Joining               what joining makes of such actions, in an accepted file too
 --   Refusing              which numbers are given, and in which order the compile gives them
 --   rate_cases            worked cases: calls, and what they give
-use Rattle.std.specs.Prelude.{ℕ, ◌<◌, ◌≡◌, List, [], ◌∷◌, length, get_or, Ok}
+use Rattle.std.specs.Prelude.{ℕ, ◌<◌, ◌≡◌, List, [], ◌∷◌, length, Ok, slice_index, ⊤}
 use Rattle.logic.specs.Lists.{All}
 use Rattle.action.specs.Operator.{join}
 use Rattle.action.specs.declared.Action.{Action}
@@ -24,15 +24,15 @@ use Rattle.promises.specs.Reservations.{RightRate, Allowed, thrice}
 
 -- an action without a rate, or with one in range
 abbrev pub RateInRange : Action → Type 0
-RateInRange DontCare = Unit {0}
-RateInRange Allow = Unit {0}
-RateInRange Deny = Unit {0}
+RateInRange DontCare = ⊤
+RateInRange Allow = ⊤
+RateInRange Deny = ⊤
 RateInRange (Gmb m) = RightRate m
 
 pub record Joining : Type 0 where
   -- "Show that joining rates already in range, under codes 1 to 7, never makes one outside it.": 1 to 4 in each cell,
   -- and up to 7 in the ninth
-  pub joined : (o : List ℕ) → length o ≡ 9 → ((i : ℕ) → i < 9 → Allowed i (get_or o i 0))
+  pub joined : (o : List ℕ) → length o ≡ 9 → ((i : ℕ) → i < 9 → Allowed i (slice_index o i))
       → (a b : Action) → RateInRange a → RateInRange b → RateInRange (join o a b)
   -- so the rate of each row of an accepted file is in range, and that of each action of its tree
   pub rows : (f : List ℕ) (l : Layout) → read_of f ≡ Ok l → All (λ r. RateInRange r.action) (compiled_rows f l)

@@ -12,8 +12,8 @@
 --   Codes             where it may stand, and what 3 still covers
 --   Search            the search for a broken law
 --   reserved_cases    worked cases: calls, and what they give
-use Rattle.std.specs.Prelude.{ℕ, zero, suc, ◌+◌, ◌*◌, ◌≤◌, ◌<◌, min, ◌≡◌, true, cond}
-use Rattle.std.specs.Prelude.{List, [], ◌∷◌, ◌++◌, get_or, Ok, Err, ◌↔◌, ◌⊎◌}
+use Rattle.std.specs.Prelude.{ℕ, zero, suc, ◌+◌, ◌*◌, ◌≤◌, ◌<◌, min, ◌≡◌, true, codes, if◌then◌else◌, slice_index, ⊤}
+use Rattle.std.specs.Prelude.{List, [], ◌∷◌, ◌++◌, Ok, Err, ◌↔◌, ◌⊎◌}
 use Rattle.logic.specs.Lists.{All}
 use Rattle.words.specs.Records.{flat}
 use Rattle.words.specs.Bytes.{bytes_of}
@@ -35,7 +35,6 @@ use Rattle.policy.specs.Read.{read_of}
 use Rattle.policy.specs.declared.Layout.{Layout}
 use Rattle.tree.specs.Action.{tree_action_of}
 use Rattle.table.specs.Scan.{scan_of}
-use Rattle.line.specs.Text.{ascii}
 use Rattle.text.specs.Listing.{listing_of}
 use Rattle.policy.specs.Examples.{lone}
 use Rattle.promises.specs.Cases.{Case, k, Hold, dotted, to, row}
@@ -44,7 +43,7 @@ use Rattle.promises.specs.Trees.{left_in}
 
 -- the ninth cell has code 7
 abbrev pub NinthAdds : List ℕ → Type 0
-NinthAdds o = get_or o 8 0 ≡ 7
+NinthAdds o = slice_index o 8 ≡ 7
 
 -- "Add cell code 7, .. the sum of the rates, but at most 100,000,000."
 pub record Sum : Type 0 where
@@ -61,7 +60,7 @@ RightRate m = (1 ≤ m) × (m ≤ 100000000)
 
 -- don't care, or a GMB whose rate is in range
 abbrev pub Reserves : Action → Type 0
-Reserves DontCare = Unit {0}
+Reserves DontCare = ⊤
 Reserves Allow = ⊥
 Reserves Deny = ⊥
 Reserves (Gmb m) = RightRate m
@@ -74,7 +73,7 @@ reserved (suc n) = Gmb (min (suc n) 100000000)
 -- the rates of the atoms that a packet meets, in all
 abbrev pub own_rates : List (Row Match Action) → Packet → ℕ
 own_rates [] p = 0
-own_rates (x ∷ xs) p = cond (meets x.matching p) (rate_of x.action) 0 + own_rates xs p
+own_rates (x ∷ xs) p = (if meets x.matching p then rate_of x.action else 0) + own_rates xs p
 
 -- what a team gives a packet
 abbrev pub given : Tree (Node (List ℕ) Match Action) → Packet → Action
@@ -82,7 +81,7 @@ given t p = eval meets DontCare join t p
 
 -- every team reserves, or says nothing
 abbrev pub EachReserves : Forest (Node (List ℕ) Match Action) → Packet → Type 0
-EachReserves bare p = Unit {0}
+EachReserves bare p = ⊤
 EachReserves (t ▸ ts) p = Reserves (given t p) × EachReserves ts p
 
 -- the rates of the teams, in all
@@ -112,23 +111,23 @@ Allowed i c = (1 ≤ c) × ((c ≤ 4) ⊎ ((i ≡ 8) × (c ≤ 7)))
 -- there
 pub record WrongCode (f : List ℕ) (at : ℕ) : Type 0 where
   pub operator : ℕ
-  pub named : operator < get_or f 0 0
+  pub named : operator < slice_index f 0
   pub cell : ℕ
   pub within : cell < 9
   pub place : at ≡ 1 + 9 * operator + cell
-  pub wrong : ¬ Allowed cell (get_or f at 0)
+  pub wrong : ¬ Allowed cell (slice_index f at)
 
 pub record Codes : Type 0 where
   -- "allowed in the ninth cell only:"
   pub allowed : (i c : ℕ) → i < 9 → (right_cell i c ≡ true) ↔ Allowed i c
   -- of an accepted file every cell has such a code, so that 7 stands in the ninth alone
   pub kept : (f : List ℕ) (l : Layout) → read_of f ≡ Ok l → (operator cell : ℕ) → operator < l.operators → cell < 9
-      → Allowed cell (get_or f (1 + 9 * operator + cell) 0)
+      → Allowed cell (slice_index f (1 + 9 * operator + cell))
   -- "Refusals: 3 no longer covers code 7 in that cell.": 3 is given at no other place than that of a code that may not
   -- stand there
   pub wrong : (f : List ℕ) (at : ℕ) → read_of f ≡ Err (refusal_at WrongCell at) → WrongCode f at
   -- so not at the word of an operator's ninth cell, where that is 7
-  pub ninth : (f : List ℕ) (operator : ℕ) → get_or f (9 * suc operator) 0 ≡ 7
+  pub ninth : (f : List ℕ) (operator : ℕ) → slice_index f (9 * suc operator) ≡ 7
       → ¬ (read_of f ≡ Err (refusal_at WrongCell (9 * suc operator)))
 
 pub record Search : Type 0 where
@@ -183,7 +182,7 @@ reserved_cases =
     ∷ k 1 (scan_of (left_in 7 teams) (to (dotted 10 7 3 16))) (Ok (record { action = Deny; tried = 4 }))
     ∷ k 1 (tree_action_of (teams_under sibling 10000) (to (dotted 10 7 3 9))) (Ok (Gmb 10000))
     ∷ k 1 (listing_of (flat bytes_of teams))
-    (flat ascii
+    (flat codes
     ("rows 3 priorities 3\n"
     ∷ "3 * 0.0.0.0/0 10.7.3.9/32 * * * gmb 20000\n"
     ∷ "2 * 0.0.0.0/0 10.7.3.8/29 * * * gmb 10000\n"

@@ -1,5 +1,6 @@
--- Trees, their rows and what is done with them, by hand from docs/FORMAT.md: files and tables in which each operator of a node, the side of each action, both
--- folds, the order of rows, what is left in each buffer, each level and each link of a chain decide the answer. A case has the number of its rule:
+-- Trees, their rows and what is done with them, by hand from docs/FORMAT.md: files and tables in which each operator of
+-- a node, the side of each action, both folds, the order of rows, what is left in each buffer, each level and each link
+-- of a chain decide the answer. A case has the number of its rule:
 --
 --   1   the three operators of a node, and which node's they are    "The tree's action"
 --   2   atoms, and children, from the last: the order of rows       "Rows"
@@ -32,13 +33,15 @@ always code = code ∷ code ∷ code ∷ code ∷ code ∷ code ∷ code ∷ cod
 abbrev pub lenient : List ℕ
 lenient = 1 ∷ 1 ∷ 1 ∷ 1 ∷ 2 ∷ 4 ∷ 1 ∷ 3 ∷ 6 ∷ []
 
--- Deny then GMB is Allow, Deny then Allow is Allow, and GMB then Deny is Deny; Allow gives way to what is on its right: it keeps no law
+-- Deny then GMB is Allow, Deny then Allow is Allow, and GMB then Deny is Deny; Allow gives way to what is on its right:
+-- it keeps no law
 abbrev pub sided : List ℕ
 sided = 3 ∷ 4 ∷ 4 ∷ 4 ∷ 3 ∷ 1 ∷ 3 ∷ 2 ∷ 3 ∷ []
 
--- a root that denies and allows, with two children, GMB(20) and Deny. Its own action is Deny (sibling, as inner operator), the children's is GMB(20) (lenient,
--- as sibling operator), and both together are Allow (sided, as parent operator). Under another operator the own action would be Allow, the children's Deny, and
--- both together Deny or GMB(20); with the sides exchanged both together would be Deny. The children name operator 0 throughout.
+-- a root that denies and allows, with two children, GMB(20) and Deny. Its own action is Deny (sibling, as inner
+-- operator), the children's is GMB(20) (lenient, as sibling operator), and both together are Allow (sided, as parent
+-- operator). Under another operator the own action would be Allow, the children's Deny, and both together Deny or
+-- GMB(20); with the sides exchanged both together would be Deny. The children name operator 0 throughout.
 abbrev pub three_joins : List ℕ
 three_joins =
     (3 ∷ sibling) ++ sided ++ lenient ++ (4 ∷ acted 2 0) ++ acted 1 0 ++ acted 3 20 ++ acted 2 0
@@ -50,8 +53,8 @@ own_parent =
     (3 ∷ sibling) ++ always 3 ++ always 4 ++ (3 ∷ acted 1 0) ++ acted 3 10 ++ acted 2 0
     ++ (3 ∷ 0 ∷ 2 ∷ 0 ∷ 1 ∷ 1 ∷ 0 ∷ 1 ∷ 0 ∷ 1 ∷ 1 ∷ 0 ∷ 0 ∷ 0 ∷ 1 ∷ 0 ∷ [])
 
--- a chain of three nodes that give GMB(5), deny and allow, under the parent operator: Deny then Allow is Allow, and GMB(5) stays over it; from the root down
--- GMB(5) then Deny would be Deny, and Deny then Allow would be Allow
+-- a chain of three nodes that give GMB(5), deny and allow, under the parent operator: Deny then Allow is Allow, and
+-- GMB(5) stays over it; from the root down GMB(5) then Deny would be Deny, and Deny then Allow would be Allow
 abbrev pub upwards : List ℕ
 upwards =
     (2 ∷ sibling) ++ parent ++ (3 ∷ acted 3 5) ++ acted 2 0 ++ acted 1 0
@@ -75,7 +78,8 @@ below =
     (1 ∷ sibling) ++ (3 ∷ three_atoms)
     ++ (4 ∷ 0 ∷ 0 ∷ 0 ∷ 0 ∷ 3 ∷ 0 ∷ 0 ∷ 0 ∷ 1 ∷ 0 ∷ 0 ∷ 0 ∷ 0 ∷ 1 ∷ 0 ∷ 0 ∷ 0 ∷ 0 ∷ 1 ∷ 0 ∷ [])
 
--- from the last: the third alone; the second with it, then the second, then the third; the first with each of these three, then itself, then these three
+-- from the last: the third alone; the second with it, then the second, then the third; the first with each of these
+-- three, then itself, then these three
 abbrev pub from_the_last : List ℕ
 from_the_last =
     gmb 7 6 5 7 40
@@ -164,7 +168,8 @@ tree_cases =
     ∷ k 3 (left_in 8 (two_by_two 4)) (four_and_four 30 40 30 40)
     ∷ k 3 (tree_action_of (two_by_two 3) packet) (Ok (Gmb 10))
     ∷ k 3 (tree_action_of (two_by_two 4) packet) (Ok (Gmb 30))
-    -- room is rounded down, and scratch of 11 words for each row of room is enough: the row, then zeros to the buffer's end
+    -- room is rounded down, and scratch of 11 words for each row of room is enough: the row, then zeros to the buffer's
+    -- end
     ∷ k 4 (answer_of one_row (nines 21) (nines 11)) (Ok 1)
     ∷ k 4 (table_after one_row (nines 21) (nines 11)) (by_in_port 7 ++ zeros 10)
     ∷ k 4 (scratch_after one_row (nines 21) (nines 11)) (zeros 11)
@@ -190,7 +195,8 @@ tree_cases =
     ∷ k 5 (fault (scan_of (nines 12) (nines 5))) (11, 0)
     ∷ k 5 (fault (scan_of (nines 12) packet)) (15, 0)
     ∷ k 5 (fault (scan_of (scanned ++ acted 1 1 ++ acted 1 1) packet)) (16, 3)
-    -- the highest level of the earlier rows that overlap, and 1; from the first row of the highest level back, each time to the first
+    -- the highest level of the earlier rows that overlap, and 1; from the first row of the highest level back, each
+    -- time to the first
     ∷ k 6 (number_of stepped 6 5) (Ok 3)
     ∷ k 6 (priorities_after stepped (nines 6) (nines 5)) (3 ∷ 3 ∷ 2 ∷ 1 ∷ 9 ∷ 9 ∷ [])
     ∷ k 6 (chain_after stepped (nines 6) (nines 5)) (0 ∷ 2 ∷ 3 ∷ 9 ∷ 9 ∷ [])

@@ -2,7 +2,7 @@
 //! does nothing: its contract is a statement, so that the check fails where the statement is gone or has no proof.
 #![tactic(auto)]
 
-ghost use Rattle.promises.specs.Demands.{Demand1, Demand2, Demand3, SwitchObeysTree};
+ghost use Rattle.promises.specs.Demands.{FixedAnswers, TableFollowsTree, SmallestNumbering, SwitchObeysTree};
 ghost use Rattle.promises.specs.Hidden.{HiddenRows};
 ghost use Rattle.promises.specs.Ports.{PortsOnly};
 ghost use Rattle.promises.specs.Prefixes.{PrefixTest};
@@ -18,18 +18,18 @@ ghost use Rattle.promises.specs.Trees.{TreeCases};
 ghost use Rattle.promises.specs.Listings.{ListingCases};
 
 /// Every input gets one fixed answer or one numbered refusal.
-pub fn demand_1()
-    ensures { Demand1 }
+pub fn fixed_answers()
+    ensures { FixedAnswers }
 {}
 
 /// The compiled table does what the tree says.
-pub fn demand_2()
-    ensures { Demand2 }
+pub fn table_follows_tree()
+    ensures { TableFollowsTree }
 {}
 
 /// The numbering is right, and none is smaller.
-pub fn demand_3()
-    ensures { Demand3 }
+pub fn smallest_numbering()
+    ensures { SmallestNumbering }
 {}
 
 /// A switch does what the tree says.

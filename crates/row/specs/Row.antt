@@ -9,7 +9,7 @@
 --   right_row                           a right row: an atom with a right match and a right action, whose match is not
 --                                       empty
 --   RightRow                            the same of a match and an action
-use Rattle.std.specs.Prelude.{ℕ, ◌+◌, ◌*◌, ◌≡◌, Bool, true, false, not, ◌&&◌, List, [], ◌∷◌, ◌++◌, get_or, take}
+use Rattle.std.specs.Prelude.{ℕ, ◌+◌, ◌*◌, ◌≡◌, Bool, true, false, not, ◌&&◌, List, [], ◌∷◌, ◌++◌, take, slice_index}
 use Rattle.words.specs.Records.{rows_of, flat}
 use Rattle.theory.specs.declared.Row.{Row}
 use Rattle.flow.specs.Match.{match_length, match_of, match_words, is_empty, right_match}
@@ -35,7 +35,7 @@ rate_place = match_length + 1
 
 -- the action of some words
 unfoldable pub row_action : List ℕ → Action
-row_action ws = action_of (get_or ws kind_place 0) (get_or ws rate_place 0)
+row_action ws = action_of (slice_index ws kind_place) (slice_index ws rate_place)
 
 -- the match and the action that some words are
 abbrev pub row_of : List ℕ → Row Match Action
@@ -63,7 +63,7 @@ right_row_match ws = right_match (match_of ws)
 
 -- the action is right
 unfoldable pub right_row_action : List ℕ → Bool
-right_row_action ws = right_action (get_or ws kind_place 0) (get_or ws rate_place 0)
+right_row_action ws = right_action (slice_index ws kind_place) (slice_index ws rate_place)
 
 -- a right row
 unfoldable pub right_row : List ℕ → Bool

@@ -5,7 +5,7 @@
 --   scan_of ws packet         the scan's answer
 --   scan_action, scan_tried   the action of an answer, and how many rows were tried; don't care and 0 where it is a
 --                             refusal
-use Rattle.std.specs.Prelude.{ℕ, ◌+◌, cond, List, Result, Ok, Err}
+use Rattle.std.specs.Prelude.{ℕ, ◌+◌, List, Result, Ok, Err, if◌then◌else◌}
 use Rattle.theory.specs.declared.Row.{Row}
 use Rattle.theory.specs.Rows.{scan, tried}
 use Rattle.refusal.specs.Refusals.{refusal_at}
@@ -33,8 +33,9 @@ where_right (Err f) s = Err f
 -- the scan: first the packet, then the table, then its rows in order
 unfoldable pub scan_of : List ℕ → List ℕ → Result Found Refusal
 scan_of ws packet =
-    cond (right_packet_words packet) (where_right (check_of ws) (found 0 (rows_in ws) (packet_of packet)))
-    (Err (refusal_at WrongPacket 0))
+    if right_packet_words packet
+    then where_right (check_of ws) (found 0 (rows_in ws) (packet_of packet))
+    else Err (refusal_at WrongPacket 0)
 
 -- the action that an answer gives
 abbrev pub scan_action : Result Found Refusal → Action

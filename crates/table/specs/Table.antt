@@ -9,7 +9,7 @@
 --   check_of ws       the check's answer
 --   row_at ws i       the words of row i
 --   RightTable ws     what makes a table right
-use Rattle.std.specs.Prelude.{ℕ, suc, ◌*◌, ◌/◌, ◌%◌, ◌≤◌, ◌<◌, ◌≡◌, Bool, true, cond, ◌&&◌, List, [], ◌∷◌, Result, Ok, Err, eqb, leb, length, take, drop}
+use Rattle.std.specs.Prelude.{ℕ, suc, ◌*◌, ◌/◌, ◌%◌, ◌≤◌, ◌<◌, ◌≡◌, Bool, true, ◌&&◌, List, [], ◌∷◌, Result, Ok, Err, length, take, drop, if◌then◌else◌, ◌==◌, nat_le}
 use Rattle.words.specs.Records.{records}
 use Rattle.theory.specs.declared.Row.{Row}
 use Rattle.flow.specs.declared.Match.{Match}
@@ -29,12 +29,12 @@ past = row_of []
 
 -- the words are whole rows, and not too many
 unfoldable pub right_length : List ℕ → Bool
-right_length ws = eqb (length ws % row_length) 0 && leb (row_count ws) most_rows
+right_length ws = length ws % row_length == 0 && nat_le (row_count ws) most_rows
 
 -- the first wrong row of those from row i on, each given by its words; how many rows there are if none is wrong
 abbrev pub check_from : ℕ → List (List ℕ) → Result ℕ Refusal
 check_from i [] = Ok i
-check_from i (r ∷ rs) = cond (right_row r) (check_from (suc i) rs) (Err (refusal_at WrongRow i))
+check_from i (r ∷ rs) = if right_row r then check_from (suc i) rs else Err (refusal_at WrongRow i)
 
 -- the same of all rows
 unfoldable pub check_rows : List ℕ → Result ℕ Refusal
@@ -42,7 +42,7 @@ check_rows ws = check_from 0 (records (row_count ws) row_length ws)
 
 -- the check: first the length, then each row
 unfoldable pub check_of : List ℕ → Result ℕ Refusal
-check_of ws = cond (right_length ws) (check_rows ws) (Err (refusal_at WrongTable 0))
+check_of ws = if right_length ws then check_rows ws else Err (refusal_at WrongTable 0)
 
 -- the words of row i
 abbrev pub row_at : List ℕ → ℕ → List ℕ

@@ -8,7 +8,7 @@
 --                              its words
 --   ScanFirst, ScanUnmatched   the scan's answer where row i is the first that matches, and where none does
 --   ScanRefused                the order of the refusals: the packet, then the table
-use Rattle.std.specs.Prelude.{ℕ, suc, ◌≤◌, ◌<◌, ◌≡◌, true, false, not, List, Ok, Err, ◌↔◌, length, get_or}
+use Rattle.std.specs.Prelude.{ℕ, suc, ◌≤◌, ◌<◌, ◌≡◌, true, false, not, List, Ok, Err, ◌↔◌, length, slice_index_or}
 use Rattle.words.specs.Records.{flat}
 use Rattle.theory.specs.declared.Row.{Row}
 use Rattle.theory.specs.Rows.{matches_at}
@@ -56,7 +56,7 @@ RowsWritten = (ws : List ℕ) → RightTable ws → flat row_words (rows_in ws) 
 abbrev pub ScanFirst : Type 0
 ScanFirst = (ws packet : List ℕ) (i : ℕ) → RightTable ws → right_packet_words packet ≡ true
     → FirstPlace (matches_at meets past (rows_in ws) (packet_of packet)) (row_count ws) i
-    → scan_of ws packet ≡ Ok (record { action = (get_or (rows_in ws) i past).action; tried = suc i })
+    → scan_of ws packet ≡ Ok (record { action = (slice_index_or (rows_in ws) i past).action; tried = suc i })
 
 -- where no row matches: don't care, and all rows tried
 abbrev pub ScanUnmatched : Type 0

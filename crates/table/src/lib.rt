@@ -1,7 +1,7 @@
 //! Tables: rows that stand one behind the other, which tables are right, and the scan.
 #![tactic(auto)]
 
-ghost use Rattle.std.specs.Prelude.{◌≡◌, length, get_or};
+ghost use Rattle.std.specs.Prelude.{◌≡◌, length, ◌==◌, slice_index_or};
 ghost use Rattle.table.specs.Table.{row_count, past, right_length, check_rows, check_of, RightTable};
 ghost use Rattle.table.specs.Scan.{found, scan_of};
 ghost use Rattle.row.specs.Row.{row_length, rows_in};
@@ -93,7 +93,7 @@ pub fn first_match(table: &[u32], p: Packet) -> Found
 
 /// The match of row i; past the last row, that of no words.
 pub fn match_at(table: &[u32], i: usize) -> Match
-    ensures { result ≡ (get_or (rows_in table.now) i past).matching }
+    ensures { result ≡ (slice_index_or (rows_in table.now) i past).matching }
 {
     match rows(table).get(i) {
         Some(row) => Match::read(row),
@@ -103,8 +103,8 @@ pub fn match_at(table: &[u32], i: usize) -> Match
 
 /// The rows of a table, each by its words; words behind the last whole row are left out.
 pub fn rows(table: &[u32]) -> &[RowWords]
-    ensures { (result.now ≡ records (row_count table.now) row_length table.now)
-        × (length result.now ≡ row_count table.now) }
+    ensures rows { result.now ≡ records (row_count table.now) row_length table.now }
+    ensures count { length result.now ≡ row_count table.now }
 {
     table.as_chunks::<ROW_WORDS>().0
 }

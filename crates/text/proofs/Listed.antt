@@ -17,10 +17,10 @@ use Rattle.table.specs.Table.{check_of}
 use Rattle.table.proofs.Tables.{rows-within}
 use Rattle.hidden.specs.Hidden.{kept_of, table_kept}
 use Rattle.hidden.proofs.Laws.{kept-rows}
-use Rattle.section.specs.Numbers.{longest_file}
+use Rattle.policy.specs.Numbers.{longest_file}
 use Rattle.refusal.specs.declared.Refusal.{Refusal}
 use Rattle.compile.specs.Compile.{answer_of, table_after, Compiles}
-use Rattle.sheet.specs.Sheet.{table_text}
+use Rattle.show.specs.Sheet.{table_text}
 use Rattle.text.specs.Listing.{longest_input, right_input, blank, kept_text, shown_text, compiled_text, file_text, listing_of}
 use Rattle.text.proofs.Right.{table-right}
 

@@ -1,41 +1,30 @@
 -- What is listed, by what the compile answers in blank buffers: its rows pass the table's check, so do those of them that stay, and these fit the
--- numbering's buffers, so neither the pass nor the numbering refuses anything. So no listing is longer than its bound. Assumes nothing.
+-- numbering's buffers, so neither the pass nor the numbering refuses anything. Assumes nothing.
 use Prim.Native.Nat.{ℕ, ◌*◌, ◌≤◌, ◌<◌}
 use native.Mathlib.Omega.{arith}
-use mathlib.Core.Path.{◌≡◌, refl, sym, ap, ap₂, ◌∙◌}
+use mathlib.Core.Path.{◌≡◌, sym, ap, ◌∙◌}
 use mathlib.Core.Bool.{false, and-false}
-use mathlib.Core.List.{List, [], ◌∷◌}
-use lib.ListN.{length, take, length-append, length-replicate}
+use mathlib.Core.List.{List}
+use lib.ListN.{length, take, length-replicate}
 use lib.Seq.{take_all, length-take-le}
 use borrow.Author.Tests.{le-leb, lt-leb}
-use Rattle.std.specs.Prelude.{Result, Ok, Err}
-use Rattle.logic.proofs.Tests.{by-test, by_le}
-use Rattle.words.specs.Bytes.{words_in}
-use Rattle.words.proofs.Laid.{take-laid}
+use Rattle.std.specs.Prelude.{Ok}
+use Rattle.logic.proofs.Tests.{by_le}
 use Rattle.theory.specs.Number.{level_count}
-use Rattle.theory.specs.declared.Row.{Row}
-use Rattle.flow.specs.declared.Match.{Match}
-use Rattle.action.specs.declared.Action.{Action}
-use Rattle.row.specs.Row.{row_length, rows_in, table_rows}
+use Rattle.row.specs.Row.{row_length, table_rows}
 use Rattle.table.specs.Table.{row_count, RightTable}
 use Rattle.table.proofs.Tables.{check-exactly, length-rows}
 use Rattle.hidden.specs.Hidden.{kept_rows, kept_of, table_kept}
 use Rattle.hidden.specs.Theorems.{KeptTells}
 use Rattle.hidden.proofs.Laws.{kept-rows, right_kept}
 use Rattle.compile.specs.Compile.{answer_of, table_after}
-use Rattle.refusal.specs.Refusals.{reason_number, refusal_number}
-use Rattle.refusal.specs.declared.Reason.TheVariants.{WrongInput}
-use Rattle.refusal.specs.declared.Refusal.{Refusal}
 use Rattle.compile.proofs.Answered.{answers-rows}
-use Rattle.priority.specs.Numbering.{levels_of, priorities_of, number_of}
+use Rattle.priority.specs.Numbering.{levels_of, number_of}
 use Rattle.priority.proofs.Whole.{priorities-many}
-use Rattle.line.specs.Text.{line, head, longest_line}
-use Rattle.line.specs.Puts.{stop, Puts}
-use Rattle.sheet.specs.Sheet.{listing_room, lines, table_text, rows_text}
-use Rattle.text.specs.Listing.{longest_input, right_input, blank, shown_text, file_text}
-use Rattle.text.specs.Listing.{listing_of, ListsWhole, longest_listing, ListedRows}
-use Rattle.text.specs.Theorems.{ListsRows, ListsRefused, RefusedInput, NeverCut, WrittenWhole, KnownByFirst}
-use Rattle.line.proofs.Lengths.{line-within, head-within, refusal-within}
+use Rattle.show.specs.Sheet.{listing_room, table_text, rows_text}
+use Rattle.text.specs.declared.TheConstants.{INPUT_ROOM}
+use Rattle.text.specs.Listing.{longest_input, right_input, blank, shown_text, file_text, listing_of, ListedRows}
+use Rattle.text.specs.Theorems.{ListsRows, ListsRefused, RefusedInput, KnownByFirst, KnownByRoom}
 use Rattle.text.proofs.Right.{table-right}
 
 -- the rows of a file, where the compile answers rows
@@ -93,37 +82,6 @@ pub refused-input : RefusedInput
 unfolding listing_of
 refused-input b e = rw e
 
--- as many lines as rows, at most
-lines-within : (ps : List ℕ) (rs : List (Row Match Action)) → length (lines ps rs) ≤ longest_line * length rs
-lines-within [] rs = omega arith
-lines-within (p ∷ ps) [] = omega arith
-lines-within (p ∷ ps) (r ∷ rs) = omega (arith, length-append (line p r) (lines ps rs), line-within p r, lines-within ps rs)
-
-file-long : (f : List ℕ) → length (file_text f) ≤ longest_listing
-file-long f = by_answer (answer_of f blank blank) refl
-  where
-    by_answer : (x : Result ℕ Refusal) → answer_of f blank blank ≡ x → length (file_text f) ≤ longest_listing
-    by_answer (Ok n) e =
-        let t : List ℕ = shown f n e in
-        let k : ℕ = stay f n e in
-        let h : length (head k (level_count (levels_of t))) ≤ longest_line = head-within k (level_count (levels_of t)) in
-        let i : length (lines (priorities_of t) (rows_in t)) ≤ longest_line * length (rows_in t) = lines-within (priorities_of t) (rows_in t) in
-        rw ((listed f n e).text, length-append) (omega (arith, fewer f n e, (listed f n e).rows))
-    by_answer (Err r) e = rw (lists-refused f r e) (omega (arith, refusal-within (refusal_number r) r.place))
-
-pub never-cut : NeverCut
-unfolding listing_of
-never-cut b = by-test (right_input b)
-    (λ t. rw t (file-long (words_in b)))
-    (λ t. rw t (omega (arith, refusal-within (reason_number WrongInput) 0)))
-
-pub written-whole : WrittenWhole
-unfolding stop
-written-whole b l m r p h =
-    let k : length (listing_of b) ≤ length l = omega (arith, never-cut b) in
-    let e : r ≡ length (listing_of b) = omega (arith, p.end) in
-    ap₂ take e p.bytes ∙ take-laid (listing_of b) l (length (listing_of b)) refl k
-
 -- an input that is too long is refused
 too_long : (b : List ℕ) → longest_input < length b → right_input b ≡ false
 unfolding right_input
@@ -138,12 +96,5 @@ known-by-first b n h =
     let e : length (take n b) ≡ n = length-take-le n b (omega arith) in
     rw (too_long (take n b) (omega arith), too_long b (omega arith)))
 
--- arrays that are long enough, for the input and for its listing
-pub lists-whole : (array : List ℕ) (n : ℕ) {l m : List ℕ} {r : ℕ} → Puts (listing_of (take n array)) l 0 m r → r ≤ length m → longest_input < length array
-    → longest_listing ≤ length l
-    → ListsWhole array n l m r
-lists-whole array n {l} {m} {r} p w h k = record {
-  puts = p;
-  within = w;
-  whole = λ b e. written-whole (take n array) l m r p k ∙ ap listing_of (sym e) ∙ known-by-first b (length array) h;
-}
+pub known-by-room : KnownByRoom
+known-by-room b = known-by-first b INPUT_ROOM (omega arith)

@@ -1,27 +1,24 @@
 -- The listing: for every input, however broken, the one text that answers it. See docs/FORMAT.md, "The listing".
 --
---   longest_input          the bytes of the longest file
---   right_input b          whole words, and not more than the longest file has
---   shown_text t           the listing of compiled rows, without the hidden ones
---   file_text f            the listing of a policy file
---   listing_of b           the listing of an input
---   longest_listing        no listing has more bytes
---   ListedRows f n t       the listing of the file f is the text of the n rows t, and there are n priorities
---   ListedKept f t         the listing of the file f has those of the rows t that are not hidden
---   ListsWhole a n l m r   m is l with the listing at its start, up to r: whole, of every input that was read into a
-use Rattle.std.specs.Prelude.{ℕ, ◌+◌, ◌*◌, ◌%◌, ◌≤◌, ◌≡◌, Bool, cond, ◌&&◌, List, Result, Ok, Err, eqb, leb, length, replicate, take}
+--   longest_input      the bytes of the longest file
+--   right_input b      whole words, and not more than the longest file has
+--   shown_text t       the listing of compiled rows, without the hidden ones
+--   file_text f        the listing of a policy file
+--   listing_of b       the listing of an input
+--   ListedRows f n t   the listing of the file f is the text of the n rows t, and there are n priorities
+--   ListedKept f t     the listing of the file f has those of the rows t that are not hidden
+use Rattle.std.specs.Prelude.{ℕ, ◌*◌, ◌%◌, ◌≡◌, Bool, ◌&&◌, List, Result, Ok, Err, length, replicate, if◌then◌else◌, ◌==◌, nat_le}
 use Rattle.refusal.specs.Refusals.{reason_number, refusal_number}
 use Rattle.refusal.specs.declared.Reason.TheVariants.{WrongInput}
 use Rattle.refusal.specs.declared.Refusal.{Refusal}
 use Rattle.words.specs.Bytes.{word_bytes, words_in}
 use Rattle.row.specs.Row.{row_length, rows_in, table_rows}
 use Rattle.hidden.specs.Hidden.{kept_of, table_kept}
-use Rattle.section.specs.Numbers.{longest_file}
+use Rattle.policy.specs.Numbers.{longest_file}
 use Rattle.compile.specs.Compile.{answer_of, table_after}
 use Rattle.priority.specs.Numbering.{priorities_of}
-use Rattle.line.specs.Text.{longest_line, refusal}
-use Rattle.line.specs.Puts.{Puts}
-use Rattle.sheet.specs.Sheet.{listing_room, table_text, rows_text}
+use Rattle.show.specs.Text.{refusal}
+use Rattle.show.specs.Sheet.{listing_room, table_text, rows_text}
 
 -- the bytes of the longest file
 abbrev pub longest_input : ℕ
@@ -29,7 +26,7 @@ longest_input = word_bytes * longest_file
 
 -- whole words, and not more than the longest file has
 unfoldable pub right_input : List ℕ → Bool
-right_input b = eqb (length b % word_bytes) 0 && leb (length b) longest_input
+right_input b = length b % word_bytes == 0 && nat_le (length b) longest_input
 
 -- the table, and the scratch, before the compile
 abbrev pub blank : List ℕ
@@ -55,18 +52,7 @@ file_text f = compiled_text (table_after f blank blank) (answer_of f blank blank
 
 -- THE LISTING, for every input
 unfoldable pub listing_of : List ℕ → List ℕ
-listing_of b = cond (right_input b) (file_text (words_in b)) (refusal (reason_number WrongInput) 0)
-
--- THE WHOLE LISTING OF WHAT WAS READ. An input, however long, was read until it ended or the array was full, and gave
--- the array's first n bytes: its listing stands at the start of the buffer, and ends at r. Nothing of it is cut.
-pub record ListsWhole (array : List ℕ) (n : ℕ) (before after : List ℕ) (r : ℕ) : Type 0 where
-  pub puts : Puts (listing_of (take n array)) before 0 after r
-  pub within : r ≤ length after
-  pub whole : (input : List ℕ) → take (length array) input ≡ take n array → take r after ≡ listing_of input
-
--- no listing is longer than so many lines: the head, and one for each row
-abbrev pub longest_listing : ℕ
-longest_listing = longest_line * (listing_room + 1)
+listing_of b = if right_input b then file_text (words_in b) else refusal (reason_number WrongInput) 0
 
 -- the text, and that no row and no priority is left over
 pub record ListedRows (f : List ℕ) (n : ℕ) (t : List ℕ) : Type 0 where

@@ -1,15 +1,14 @@
--- What is proved of the listing. A law of the same name in proofs/ proves each statement: never-cut proves NeverCut.
+-- What is proved of the listing. A law of the same name in proofs/ proves each statement: lists-rows proves ListsRows.
 --
 --   TableRight                    the rows that the compile leaves pass the table's check, with as many rows
 --   ListsRows                     where the compile answers rows, those that are not hidden are listed: neither the
 --                                 pass nor the numbering refuses anything
 --   ListsRefused                  where the compile refuses, its number and place are listed
 --   RefusedInput                  an input that is no file is 18 at place 0
---   NeverCut                      no listing is longer than longest_listing
---   WrittenWhole                  so a buffer of so many bytes holds the whole text
 --   KnownByFirst                  one byte more than the longest input has tells what is listed
+--   KnownByRoom                   so what fits the array that a program reads into does
 --   ExamplesListed                the text of each of some examples
-use Rattle.std.specs.Prelude.{ℕ, ◌≤◌, ◌<◌, ◌≡◌, false, List, [], ◌∷◌, Ok, Err, length, take}
+use Rattle.std.specs.Prelude.{ℕ, ◌<◌, ◌≡◌, false, List, [], ◌∷◌, Ok, Err, codes, take}
 use Prim.Native.String.{String}
 use Rattle.words.specs.Records.{flat}
 use Rattle.words.specs.Bytes.{bytes_of}
@@ -21,10 +20,9 @@ use Rattle.refusal.specs.declared.Reason.TheVariants.{WrongInput}
 use Rattle.refusal.specs.declared.Refusal.{Refusal}
 use Rattle.row.specs.Row.{table_rows}
 use Rattle.compile.specs.Compile.{answer_of, table_after}
-use Rattle.line.specs.Text.{ascii, refusal}
-use Rattle.line.specs.Puts.{Puts}
-use Rattle.text.specs.Listing.{longest_input, right_input, blank, file_text}
-use Rattle.text.specs.Listing.{listing_of, longest_listing, ListedKept}
+use Rattle.show.specs.Text.{refusal}
+use Rattle.text.specs.declared.TheConstants.{INPUT_ROOM}
+use Rattle.text.specs.Listing.{longest_input, right_input, blank, file_text, listing_of, ListedKept}
 use Rattle.logic.specs.Lists.{All}
 
 -- the rows that the compile leaves pass the table's check, with as many rows
@@ -46,18 +44,13 @@ ListsRefused =
 abbrev pub RefusedInput : Type 0
 RefusedInput = (b : List ℕ) → right_input b ≡ false → listing_of b ≡ refusal (reason_number WrongInput) 0
 
--- NO LISTING IS LONGER
-abbrev pub NeverCut : Type 0
-NeverCut = (b : List ℕ) → length (listing_of b) ≤ longest_listing
-
--- what a buffer of so many bytes holds afterwards, up to the answer, is the listing
-abbrev pub WrittenWhole : Type 0
-WrittenWhole =
-    (b l m : List ℕ) (r : ℕ) → Puts (listing_of b) l 0 m r → longest_listing ≤ length l → take r m ≡ listing_of b
-
 -- an input is known by its first bytes, if they are one more than the longest has: what is longer is refused
 abbrev pub KnownByFirst : Type 0
 KnownByFirst = (b : List ℕ) (n : ℕ) → longest_input < n → listing_of (take n b) ≡ listing_of b
+
+-- so by what fits the array that a program reads into
+abbrev pub KnownByRoom : Type 0
+KnownByRoom = (b : List ℕ) → listing_of (take INPUT_ROOM b) ≡ listing_of b
 
 -- an input, and the lines that are listed of it
 pub record Example : Type 0 where
@@ -84,4 +77,4 @@ examples =
 
 -- each is listed as it says
 abbrev pub ExamplesListed : Type 0
-ExamplesListed = All (λ x. listing_of x.input ≡ flat ascii x.listed) examples
+ExamplesListed = All (λ x. listing_of x.input ≡ flat codes x.listed) examples

@@ -12,7 +12,7 @@ use Rattle.theory.proofs.Join.{scan-join}
 module _ {M P A O : Type 0} {meets : M → P → Bool} {dont_care : A} {joined : O → A → A → A} {common : M → M → M} {empty : M → Bool} where
   pub scan-kept : Laws meets dont_care joined common empty → (x : Row M A) (p : P)
       → scan meets dont_care (kept empty x) p ≡ cond (meets x.matching p) x.action dont_care
-  scan-kept laws x p = by-test (empty x.matching) (λ t. rw (t, laws.meets-empty x.matching p t)) (λ t. rw t)
+  scan-kept laws x p = by-test (empty x.matching) (λ t. rw (t, laws.meets_empty x.matching p t)) (λ t. rw t)
 
   -- A node's own table gives its own action.
   pub scan-table : Laws meets dont_care joined common empty → (i : O) (xs : List (Row M A)) (p : P)
@@ -20,7 +20,7 @@ module _ {M P A O : Type 0} {meets : M → P → Bool} {dont_care : A} {joined :
   scan-table laws i [] p = refl
   scan-table laws i (x ∷ xs) p =
       rw (scan-join laws, scan-kept laws x p, scan-table laws i xs p)
-      (by-test (meets x.matching p) (λ t. rw t) (λ t. rw t (laws.identity-left i (own meets dont_care joined i xs p))))
+      (by-test (meets x.matching p) (λ t. rw t) (λ t. rw t (laws.identity_left i (own meets dont_care joined i xs p))))
 
   mutual
     pub scan-compile : ScanCompile meets dont_care joined common empty
@@ -32,4 +32,4 @@ module _ {M P A O : Type 0} {meets : M → P → Bool} {dont_care : A} {joined :
     scan-compiles laws (t ▸ ts) s p = simp (scan-join laws, scan-compile laws t p, scan-compiles laws ts s p)
 
   pub node-chain : NodeChain meets dont_care joined common empty
-  node-chain laws a b c p = rw (scan-compile laws) (simp laws.identity-right)
+  node-chain laws a b c p = rw (scan-compile laws) (simp laws.identity_right)

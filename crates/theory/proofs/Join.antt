@@ -58,13 +58,13 @@ module _ {M P A O : Type 0} {meets : M → P → Bool} {dont_care : A} {joined :
     (laws : Laws meets dont_care joined common empty) where
   -- Dropping an empty row changes no answer.
   pub first-kept : (r : Row M A) (p : P) → first meets (kept empty r) p ≡ cond (meets r.matching p) (some r.action) none
-  first-kept r p = by-test (empty r.matching) (λ t. rw (t, laws.meets-empty r.matching p t)) (λ t. rw t)
+  first-kept r p = by-test (empty r.matching) (λ t. rw (t, laws.meets_empty r.matching p t)) (λ t. rw t)
 
   first-with : (o : O) (r : Row M A) (N' : List (Row M A)) (p : P)
       → first meets (common_with common empty (joined o) r N') p ≡ join_both (joined o) (cond (meets r.matching p) (some r.action) none) (first meets N' p)
   first-with o r [] p = sym (both-none (joined o) (cond (meets r.matching p) (some r.action) none))
   first-with o r (s ∷ N') p =
-      rw (first-append, first-kept (common_row common (joined o) r s) p, laws.meets-common r.matching s.matching p, first-with o r N' p)
+      rw (first-append, first-kept (common_row common (joined o) r s) p, laws.meets_common r.matching s.matching p, first-with o r N' p)
       (both_right (joined o) (meets r.matching p) (meets s.matching p) r.action s.action (first meets N' p))
 
   first-common : (o : O) (N N' : List (Row M A)) (p : P)
@@ -82,9 +82,9 @@ module _ {M P A O : Type 0} {meets : M → P → Bool} {dont_care : A} {joined :
   -- Four cases: which of the two tables match.
   answers : (o : O) (x y : Option A)
       → get_or (or_else (join_both (joined o) x y) (or_else x y)) dont_care ≡ joined o (get_or x dont_care) (get_or y dont_care)
-  answers o none none = sym (laws.identity-left o dont_care)
-  answers o none (some b) = sym (laws.identity-left o b)
-  answers o (some a) none = sym (laws.identity-right o a)
+  answers o none none = sym (laws.identity_left o dont_care)
+  answers o none (some b) = sym (laws.identity_left o b)
+  answers o (some a) none = sym (laws.identity_right o a)
   answers o (some a) (some b) = refl
 
 module _ {M P A O : Type 0} {meets : M → P → Bool} {dont_care : A} {joined : O → A → A → A} {common : M → M → M} {empty : M → Bool} where

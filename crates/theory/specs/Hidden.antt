@@ -9,7 +9,7 @@
 --   Enclosing        asked of `inside`: a packet that meets the inner match meets the outer
 --   Nesting          asked of it too: what lies inside a match lies inside all that this one lies inside
 --   InsideSome       one of some rows whose match a match lies inside
-use Rattle.std.specs.Prelude.{ℕ, zero, suc, ◌<◌, ◌≡◌, Bool, true, cond, List, [], ◌∷◌, ◌++◌, get_or, length, take}
+use Rattle.std.specs.Prelude.{ℕ, zero, suc, ◌<◌, ◌≡◌, Bool, true, List, [], ◌∷◌, ◌++◌, length, take, if◌then◌else◌, slice_index_or}
 use Rattle.std.specs.List.{list_any}
 use Rattle.theory.specs.declared.Row.{Row}
 
@@ -23,7 +23,7 @@ module _ {M A : Type 0} (inside : M → M → Bool) where
   abbrev pub staying_after : List (Row M A) → List (Row M A) → List (Row M A)
   staying_after E [] = []
   staying_after E (r ∷ N) =
-      let rest : List (Row M A) = staying_after (E ++ (r ∷ [])) N in cond (inside_one r.matching E) rest (r ∷ rest)
+      let rest : List (Row M A) = staying_after (E ++ (r ∷ [])) N in if inside_one r.matching E then rest else r ∷ rest
 
   -- The rows that lie inside no earlier row of the table.
   abbrev pub staying : List (Row M A) → List (Row M A)
@@ -31,18 +31,18 @@ module _ {M A : Type 0} (inside : M → M → Bool) where
 
   -- Whether row i lies inside an earlier row; d stands for a row past the last.
   abbrev pub inside_earlier : Row M A → List (Row M A) → ℕ → Bool
-  inside_earlier d N i = inside_one (get_or N i d).matching (take i N)
+  inside_earlier d N i = inside_one (slice_index_or N i d).matching (take i N)
 
   -- A row of the table whose match m lies inside, by its place.
   pub record InsideSome (d : Row M A) (m : M) (N : List (Row M A)) : Type 0 where
     pub place : ℕ
     pub within : place < length N
-    pub lies : inside m (get_or N place d).matching ≡ true
+    pub lies : inside m (slice_index_or N place d).matching ≡ true
 
 -- The places below n that pass the test, in order.
 abbrev pub places_where : (ℕ → Bool) → ℕ → List ℕ
 places_where test zero = []
-places_where test (suc n) = places_where test n ++ cond (test n) (n ∷ []) []
+places_where test (suc n) = places_where test n ++ (if test n then n ∷ [] else [])
 
 -- A packet that meets a match meets every match that it lies inside.
 abbrev pub Enclosing : {M P : Type 0} → (M → P → Bool) → (M → M → Bool) → Type 0

@@ -7,7 +7,7 @@
 --   plant                    the trees that nodes in file order are
 --   list_tree, list_trees    the nodes of a tree, and of a forest, in file order
 --   ChildrenFound            every node finds its children
-use Rattle.std.specs.Prelude.{ℕ, zero, suc, ◌≤◌, List, [], ◌∷◌, ◌++◌}
+use Rattle.std.specs.Prelude.{ℕ, zero, suc, ◌≤◌, List, [], ◌∷◌, ◌++◌, ⊤}
 use Rattle.theory.specs.Tree.{Tree, Forest, node, bare, ◌▸◌}
 
 -- What a node holds, and its child count.
@@ -53,5 +53,5 @@ module _ {X : Type 0} where
 
   -- Each node has as many trees behind it as it has children.
   abbrev pub ChildrenFound : List (Listed X) → Type 0
-  ChildrenFound [] = Unit {0}
+  ChildrenFound [] = ⊤
   ChildrenFound (n ∷ ns) = (n.child_count ≤ count_trees (plant ns)) × ChildrenFound ns

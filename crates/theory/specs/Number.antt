@@ -18,13 +18,13 @@
 --   Right            what makes a numbering right
 --   Obeyed           a switch with such numbers may obey a row
 --   has, distinct    whether a list has a number, and its distinct numbers
-use Rattle.std.specs.Prelude.{ℕ, zero, suc, ◌-◌, ◌≤◌, ◌<◌, max, ◌≡◌, Bool, true, false, cond, ◌&&◌, List, [], ◌∷◌, ◌++◌, map, get_or, length, eqb}
+use Rattle.std.specs.Prelude.{ℕ, zero, suc, ◌-◌, ◌≤◌, ◌<◌, max, ◌≡◌, Bool, true, false, ◌&&◌, List, [], ◌∷◌, ◌++◌, map, length, if◌then◌else◌, ◌==◌, slice_index, slice_index_or}
 use Rattle.theory.specs.declared.Row.{Row}
 use Rattle.theory.specs.Rows.{matches_at}
 
 -- Whether the rows at two places of a table overlap; d stands for a row past the last.
 abbrev pub rows_overlap : {M A : Type 0} → (M → M → Bool) → Row M A → List (Row M A) → ℕ → ℕ → Bool
-rows_overlap overlap d N j i = overlap (get_or N j d).matching (get_or N i d).matching
+rows_overlap overlap d N j i = overlap (slice_index_or N j d).matching (slice_index_or N i d).matching
 
 -- Place i is the first below n that passes the test.
 pub record FirstPlace (test : ℕ → Bool) (n i : ℕ) : Type 0 where
@@ -35,14 +35,14 @@ pub record FirstPlace (test : ℕ → Bool) (n i : ℕ) : Type 0 where
 -- The first of the n places from `at` on that passes the test; the place behind them if none does.
 abbrev pub seek : (ℕ → Bool) → ℕ → ℕ → ℕ
 seek test zero at = at
-seek test (suc n) at = cond (test at) at (seek test n (suc at))
+seek test (suc n) at = if test at then at else seek test n (suc at)
 
 module _ (over : ℕ → ℕ → Bool) where
   -- Of the rows before place k, whose levels are ls: 0 if none overlaps row i, else 1 more than the highest level of
   -- those that do.
   abbrev pub above : List ℕ → ℕ → ℕ → ℕ
   above ls i zero = 0
-  above ls i (suc k) = max (above ls i k) (cond (over k i) (suc (get_or ls k 0)) 0)
+  above ls i (suc k) = max (above ls i k) (if over k i then suc (slice_index ls k) else 0)
 
   -- The levels of the first n rows: each from the rows before it.
   abbrev pub levels : ℕ → List ℕ
@@ -60,7 +60,7 @@ priorities ls = map (λ l. level_count ls - l) ls
 
 -- Row j has level l.
 abbrev pub at_level : List ℕ → ℕ → ℕ → Bool
-at_level ls l j = eqb (get_or ls j 0) l
+at_level ls l j = slice_index ls j == l
 
 -- The first row of level l.
 abbrev pub first_of_level : List ℕ → ℕ → ℕ
@@ -93,12 +93,12 @@ module _ (over : ℕ → ℕ → Bool) (ls : List ℕ) where
 -- first earlier overlapping row one level lower.
 pub record Chained (over : ℕ → ℕ → Bool) (ls c : List ℕ) : Type 0 where
   pub many : length c ≡ level_count ls
-  pub rows : (k : ℕ) → k < length c → get_or c k 0 < length ls
-  pub in_order : (k : ℕ) → suc k < length c → get_or c k 0 < get_or c (suc k) 0
-  pub overlaps : (k : ℕ) → suc k < length c → over (get_or c k 0) (get_or c (suc k) 0) ≡ true
-  pub ends : (k : ℕ) → suc k ≡ length c → FirstPlace (at_level ls k) (length ls) (get_or c k 0)
+  pub rows : (k : ℕ) → k < length c → slice_index c k < length ls
+  pub in_order : (k : ℕ) → suc k < length c → slice_index c k < slice_index c (suc k)
+  pub overlaps : (k : ℕ) → suc k < length c → over (slice_index c k) (slice_index c (suc k)) ≡ true
+  pub ends : (k : ℕ) → suc k ≡ length c → FirstPlace (at_level ls k) (length ls) (slice_index c k)
   pub steps : (k : ℕ) → suc k < length c
-      → FirstPlace (overlaps_at over ls (get_or c (suc k) 0) k) (get_or c (suc k) 0) (get_or c k 0)
+      → FirstPlace (overlaps_at over ls (slice_index c (suc k)) k) (slice_index c (suc k)) (slice_index c k)
 
 -- A numbering of n rows is right where of two rows that overlap the earlier has the strictly higher number.
 abbrev pub Right : (ℕ → ℕ → Bool) → ℕ → (ℕ → ℕ) → Type 0
@@ -107,12 +107,12 @@ Right over n q = (j i : ℕ) → j < i → i < n → over j i ≡ true → q i <
 -- Whether a list has a number.
 abbrev pub has : ℕ → List ℕ → Bool
 has y [] = false
-has y (x ∷ xs) = cond (eqb y x) true (has y xs)
+has y (x ∷ xs) = if y == x then true else has y xs
 
 -- The distinct numbers of a list.
 abbrev pub distinct : List ℕ → List ℕ
 distinct [] = []
-distinct (x ∷ xs) = cond (has x xs) (distinct xs) (x ∷ distinct xs)
+distinct (x ∷ xs) = if has x xs then distinct xs else x ∷ distinct xs
 
 -- A switch with the numbers q may obey row i: it matches, and no matching row has a higher number.
 pub record Obeyed {M P A : Type 0} (meets : M → P → Bool) (d : Row M A) (N : List (Row M A)) (q : ℕ → ℕ) (p : P)

@@ -11,33 +11,33 @@
 --   common_with   the common rows of one row and a table
 --   common_rows   the common rows of two tables
 --   join          two tables joined
-use Rattle.std.specs.Prelude.{ℕ, suc, Bool, cond, List, [], ◌∷◌, ◌++◌, get_or}
+use Rattle.std.specs.Prelude.{ℕ, suc, Bool, List, [], ◌∷◌, ◌++◌, if◌then◌else◌, slice_index_or}
 use Rattle.theory.specs.declared.Row.{Row}
 
 module _ {M P A : Type 0} (meets : M → P → Bool) (dont_care : A) where
   -- The first matching row's action; don't care if none matches.
   abbrev pub scan : List (Row M A) → P → A
   scan [] p = dont_care
-  scan (r ∷ N) p = cond (meets r.matching p) r.action (scan N p)
+  scan (r ∷ N) p = if meets r.matching p then r.action else scan N p
 
 module _ {M P A : Type 0} (meets : M → P → Bool) where
   -- The first matching row's place; the number of rows if none matches.
   abbrev pub place : List (Row M A) → P → ℕ
   place [] p = 0
-  place (r ∷ N) p = cond (meets r.matching p) 0 (suc (place N p))
+  place (r ∷ N) p = if meets r.matching p then 0 else suc (place N p)
 
   -- How many rows the scan tries: those up to the first that matches, or all.
   abbrev pub tried : List (Row M A) → P → ℕ
   tried [] p = 0
-  tried (r ∷ N) p = suc (cond (meets r.matching p) 0 (tried N p))
+  tried (r ∷ N) p = suc (if meets r.matching p then 0 else tried N p)
 
 -- Whether the row at place i of a table matches; d stands for a row past the last.
 abbrev pub matches_at : {M P A : Type 0} → (M → P → Bool) → Row M A → List (Row M A) → P → ℕ → Bool
-matches_at meets d N p i = meets (get_or N i d).matching p
+matches_at meets d N p i = meets (slice_index_or N i d).matching p
 
 -- An atom's table: one row, or none if its match is empty.
 abbrev pub kept : {M A : Type 0} → (M → Bool) → Row M A → List (Row M A)
-kept empty r = cond (empty r.matching) [] (r ∷ [])
+kept empty r = if empty r.matching then [] else r ∷ []
 
 -- The common match of a row of N and a row of N', with the joined action, left from N.
 abbrev pub common_row : {M A : Type 0} → (M → M → M) → (A → A → A) → Row M A → Row M A → Row M A

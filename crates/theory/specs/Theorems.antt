@@ -20,7 +20,7 @@
 --   HiddenStep                             one row more, asking only the rows that stay
 --   HiddenLess, HiddenEvery                no more rows than before, each with what every row has
 --   Theorems                               all of these that a contract can hold, at any types
-use Rattle.std.specs.Prelude.{ℕ, suc, ◌+◌, ◌*◌, ◌≤◌, ◌<◌, ◌≡◌, Bool, true, false, cond, not, ◌&&◌, List, [], ◌∷◌, ◌++◌, map, ◌↔◌, ltb, get_or, length, take}
+use Rattle.std.specs.Prelude.{ℕ, suc, ◌+◌, ◌*◌, ◌≤◌, ◌<◌, ◌≡◌, Bool, true, false, not, ◌&&◌, List, [], ◌∷◌, ◌++◌, map, ◌↔◌, length, take, if◌then◌else◌, nat_lt, slice_index, slice_index_or}
 use Rattle.logic.specs.Lists.{All}
 use Rattle.theory.specs.declared.Row.{Row}
 use Rattle.theory.specs.Rows.{scan, place, tried, matches_at, common_row, join}
@@ -35,10 +35,10 @@ module _ {M P A O : Type 0} (meets : M → P → Bool) (dont_care : A) (joined :
   -- A packet meets the common match exactly when it meets both; an empty match is met by no packet; don't care is every
   -- operator's identity.
   pub record Laws : Type 0 where
-    pub meets-common : (m n : M) (p : P) → meets (common m n) p ≡ (meets m p && meets n p)
-    pub meets-empty : (m : M) (p : P) → empty m ≡ true → meets m p ≡ false
-    pub identity-left : (o : O) (a : A) → joined o dont_care a ≡ a
-    pub identity-right : (o : O) (a : A) → joined o a dont_care ≡ a
+    pub meets_common : (m n : M) (p : P) → meets (common m n) p ≡ (meets m p && meets n p)
+    pub meets_empty : (m : M) (p : P) → empty m ≡ true → meets m p ≡ false
+    pub identity_left : (o : O) (a : A) → joined o dont_care a ≡ a
+    pub identity_right : (o : O) (a : A) → joined o a dont_care ≡ a
 
   -- Lemma 1: the scan of a join is the join of the scans.
   abbrev pub ScanJoin : Type 0
@@ -86,7 +86,7 @@ module _ {M P A : Type 0} (meets : M → P → Bool) (dont_care : A) where
   -- Where row i is the first that matches, the scan answers its action and has tried its place plus 1 rows.
   abbrev pub ScanPlace : Type 0
   ScanPlace = (d : Row M A) (N : List (Row M A)) (p : P) (i : ℕ) → FirstPlace (matches_at meets d N p) (length N) i
-      → (scan meets dont_care N p ≡ (get_or N i d).action) × (place meets N p ≡ i) × (tried meets N p ≡ suc i)
+      → (scan meets dont_care N p ≡ (slice_index_or N i d).action) × (place meets N p ≡ i) × (tried meets N p ≡ suc i)
 
   -- Where no row matches, the scan answers don't care and has tried all rows.
   abbrev pub ScanNone : Type 0
@@ -96,12 +96,12 @@ module _ {M P A : Type 0} (meets : M → P → Bool) (dont_care : A) where
 module _ (over : ℕ → ℕ → Bool) (n : ℕ) where
   -- Of two rows that overlap the earlier has the strictly higher priority.
   abbrev pub PrioritiesRight : Type 0
-  PrioritiesRight = Right over n (λ i. get_or (priorities (levels over n)) i 0)
+  PrioritiesRight = Right over n (λ i. slice_index (priorities (levels over n)) i)
 
   -- Each row's priority lies in 1..L.
   abbrev pub PrioritiesRange : Type 0
   PrioritiesRange = (i : ℕ) → i < n
-      → let q : ℕ = get_or (priorities (levels over n)) i 0 in (1 ≤ q) × (q ≤ level_count (levels over n))
+      → let q : ℕ = slice_index (priorities (levels over n)) i in (1 ≤ q) × (q ≤ level_count (levels over n))
 
   -- There are exactly L distinct priorities.
   abbrev pub PrioritiesCount : Type 0
@@ -109,7 +109,7 @@ module _ (over : ℕ → ℕ → Bool) (n : ℕ) where
 
   -- Every right numbering of the same rows has at least L distinct numbers.
   abbrev pub FewestPriorities : Type 0
-  FewestPriorities = (qs : List ℕ) → length qs ≡ n → Right over n (λ i. get_or qs i 0)
+  FewestPriorities = (qs : List ℕ) → length qs ≡ n → Right over n (λ i. slice_index qs i)
       → level_count (levels over n) ≤ length (distinct qs)
 
   -- The chain is right.
@@ -125,13 +125,13 @@ module _ {M P A : Type 0} (meets : M → P → Bool) (dont_care : A) (overlap : 
   abbrev pub SwitchScan : Type 0
   SwitchScan = Overlapping meets overlap → (d : Row M A) (N : List (Row M A)) (q : ℕ → ℕ)
       → Right (rows_overlap overlap d N) (length N) q
-      → (p : P) (i : ℕ) → Obeyed meets d N q p i → (get_or N i d).action ≡ scan meets dont_care N p
+      → (p : P) (i : ℕ) → Obeyed meets d N q p i → (slice_index_or N i d).action ≡ scan meets dont_care N p
 
   -- So it is under our priorities.
   abbrev pub SwitchPriorities : Type 0
   SwitchPriorities = Overlapping meets overlap → (d : Row M A) (N : List (Row M A)) (p : P) (i : ℕ)
-      → Obeyed meets d N (λ k. get_or (priorities (levels (rows_overlap overlap d N) (length N))) k 0) p i
-      → (get_or N i d).action ≡ scan meets dont_care N p
+      → Obeyed meets d N (λ k. slice_index (priorities (levels (rows_overlap overlap d N) (length N))) k) p i
+      → (slice_index_or N i d).action ≡ scan meets dont_care N p
 
   -- Where some row matches, the switch has a row to obey: the first that matches.
   abbrev pub SwitchFirst : Type 0
@@ -149,7 +149,8 @@ module _ {M : Type 0} (A : Type 0) (inside : M → M → Bool) where
   -- What stays are the rows at the places that lie inside no earlier row of the table, in order.
   abbrev pub HiddenExactly : Type 0
   HiddenExactly = (d : Row M A) (N : List (Row M A))
-      → staying inside N ≡ map (λ i. get_or N i d) (places_where (λ i. not (inside_earlier inside d N i)) (length N))
+      → staying inside N
+      ≡ map (λ i. slice_index_or N i d) (places_where (λ i. not (inside_earlier inside d N i)) (length N))
 
   -- A match lies inside one of some rows exactly when there is one that it lies inside.
   abbrev pub OneExactly : Type 0
@@ -158,7 +159,7 @@ module _ {M : Type 0} (A : Type 0) (inside : M → M → Bool) where
   -- Of what stays no row lies inside an earlier one.
   abbrev pub NoneHidden : Type 0
   NoneHidden = (d : Row M A) (N : List (Row M A)) → let K : List (Row M A) = staying inside N in
-      (j i : ℕ) → j < i → i < length K → inside (get_or K i d).matching (get_or K j d).matching ≡ false
+      (j i : ℕ) → j < i → i < length K → inside (slice_index_or K i d).matching (slice_index_or K j d).matching ≡ false
 
   -- A second pass changes nothing.
   abbrev pub HiddenAgain : Type 0
@@ -168,7 +169,8 @@ module _ {M : Type 0} (A : Type 0) (inside : M → M → Bool) where
   abbrev pub HiddenStep : Type 0
   HiddenStep = Nesting inside → (d : Row M A) (N : List (Row M A)) (i : ℕ) → i < length N
       → let K : List (Row M A) = staying inside (take i N) in
-      staying inside (take (suc i) N) ≡ K ++ cond (inside_one inside (get_or N i d).matching K) [] (get_or N i d ∷ [])
+      staying inside (take (suc i) N)
+      ≡ K ++ (if inside_one inside (slice_index_or N i d).matching K then [] else slice_index_or N i d ∷ [])
 
   -- No more rows stay than there were.
   abbrev pub HiddenLess : Type 0
@@ -181,41 +183,46 @@ module _ {M : Type 0} (A : Type 0) (inside : M → M → Bool) where
 module _ (test : ℕ → Bool) where
   -- The places that pass the test are had, and no other.
   abbrev pub HasWhere : Type 0
-  HasWhere = (n i : ℕ) → has i (places_where test n) ≡ (ltb i n && test i)
+  HasWhere = (n i : ℕ) → has i (places_where test n) ≡ (nat_lt i n && test i)
 
   -- Each lies after the one before it.
   abbrev pub WhereRises : Type 0
   WhereRises = (n k : ℕ) → suc k < length (places_where test n)
-      → get_or (places_where test n) k 0 < get_or (places_where test n) (suc k) 0
+      → slice_index (places_where test n) k < slice_index (places_where test n) (suc k)
 
--- All of these over any matches, packets, actions and operators, but for CompileEvery and HiddenEvery: they speak of every property, which a
--- contract cannot.
+-- All of these over any matches, packets, actions and operators, but for CompileEvery and HiddenEvery: they speak of
+-- every property, which a contract cannot.
 pub record Theorems (M P A O : Type 0) : Type 0 where
-  pub scan-join : (meets : M → P → Bool) (dont_care : A) (joined : O → A → A → A) (common : M → M → M) (empty : M → Bool)
+  pub scan_join : (meets : M → P → Bool) (dont_care : A) (joined : O → A → A → A) (common : M → M → M)
+      (empty : M → Bool)
       → ScanJoin meets dont_care joined common empty
-  pub scan-compile : (meets : M → P → Bool) (dont_care : A) (joined : O → A → A → A) (common : M → M → M) (empty : M → Bool)
+  pub scan_compile : (meets : M → P → Bool) (dont_care : A) (joined : O → A → A → A) (common : M → M → M)
+      (empty : M → Bool)
       → ScanCompile meets dont_care joined common empty
-  pub node-chain : (meets : M → P → Bool) (dont_care : A) (joined : O → A → A → A) (common : M → M → M) (empty : M → Bool)
+  pub node_chain : (meets : M → P → Bool) (dont_care : A) (joined : O → A → A → A) (common : M → M → M)
+      (empty : M → Bool)
       → NodeChain meets dont_care joined common empty
-  pub join-size : (common : M → M → M) (empty : M → Bool) (op : A → A → A) → JoinSize common empty op
-  pub list-plant : ListPlant O
-  pub plant-list : PlantList O
-  pub scan-place : (meets : M → P → Bool) (dont_care : A) → ScanPlace meets dont_care
-  pub scan-none : (meets : M → P → Bool) (dont_care : A) → ScanNone meets dont_care
-  pub priorities-right : (over : ℕ → ℕ → Bool) (n : ℕ) → PrioritiesRight over n
-  pub priorities-range : (over : ℕ → ℕ → Bool) (n : ℕ) → PrioritiesRange over n
-  pub priorities-count : (over : ℕ → ℕ → Bool) (n : ℕ) → PrioritiesCount over n
-  pub fewest-priorities : (over : ℕ → ℕ → Bool) (n : ℕ) → FewestPriorities over n
-  pub chain-holds : (over : ℕ → ℕ → Bool) (n : ℕ) → ChainHolds over n
-  pub switch-scan : (meets : M → P → Bool) (dont_care : A) (overlap : M → M → Bool) → SwitchScan meets dont_care overlap
-  pub switch-priorities : (meets : M → P → Bool) (dont_care : A) (overlap : M → M → Bool) → SwitchPriorities meets dont_care overlap
-  pub switch-first : (meets : M → P → Bool) (dont_care : A) (overlap : M → M → Bool) → SwitchFirst meets dont_care overlap
-  pub scan-hidden : (meets : M → P → Bool) (dont_care : A) (inside : M → M → Bool) → ScanHidden meets dont_care inside
-  pub hidden-exactly : (inside : M → M → Bool) → HiddenExactly A inside
-  pub one-exactly : (inside : M → M → Bool) → OneExactly A inside
+  pub join_size : (common : M → M → M) (empty : M → Bool) (op : A → A → A) → JoinSize common empty op
+  pub list_plant : ListPlant O
+  pub plant_list : PlantList O
+  pub scan_place : (meets : M → P → Bool) (dont_care : A) → ScanPlace meets dont_care
+  pub scan_none : (meets : M → P → Bool) (dont_care : A) → ScanNone meets dont_care
+  pub priorities_right : (over : ℕ → ℕ → Bool) (n : ℕ) → PrioritiesRight over n
+  pub priorities_range : (over : ℕ → ℕ → Bool) (n : ℕ) → PrioritiesRange over n
+  pub priorities_count : (over : ℕ → ℕ → Bool) (n : ℕ) → PrioritiesCount over n
+  pub fewest_priorities : (over : ℕ → ℕ → Bool) (n : ℕ) → FewestPriorities over n
+  pub chain_holds : (over : ℕ → ℕ → Bool) (n : ℕ) → ChainHolds over n
+  pub switch_scan : (meets : M → P → Bool) (dont_care : A) (overlap : M → M → Bool) → SwitchScan meets dont_care overlap
+  pub switch_priorities : (meets : M → P → Bool) (dont_care : A) (overlap : M → M → Bool)
+      → SwitchPriorities meets dont_care overlap
+  pub switch_first : (meets : M → P → Bool) (dont_care : A) (overlap : M → M → Bool)
+      → SwitchFirst meets dont_care overlap
+  pub scan_hidden : (meets : M → P → Bool) (dont_care : A) (inside : M → M → Bool) → ScanHidden meets dont_care inside
+  pub hidden_exactly : (inside : M → M → Bool) → HiddenExactly A inside
+  pub one_exactly : (inside : M → M → Bool) → OneExactly A inside
   pub none_hidden : (inside : M → M → Bool) → NoneHidden A inside
-  pub hidden-again : (inside : M → M → Bool) → HiddenAgain A inside
-  pub hidden-step : (inside : M → M → Bool) → HiddenStep A inside
-  pub hidden-less : (inside : M → M → Bool) → HiddenLess A inside
-  pub has-where : (test : ℕ → Bool) → HasWhere test
-  pub where-rises : (test : ℕ → Bool) → WhereRises test
+  pub hidden_again : (inside : M → M → Bool) → HiddenAgain A inside
+  pub hidden_step : (inside : M → M → Bool) → HiddenStep A inside
+  pub hidden_less : (inside : M → M → Bool) → HiddenLess A inside
+  pub has_where : (test : ℕ → Bool) → HasWhere test
+  pub where_rises : (test : ℕ → Bool) → WhereRises test

@@ -9,7 +9,7 @@
 --   eval, evals          the action of a tree, and of children under a sibling operator
 --   table                a node's own table
 --   compile, compiles    the table of a tree, and of children under a sibling operator
-use Rattle.std.specs.Prelude.{Bool, cond, List, [], ◌∷◌}
+use Rattle.std.specs.Prelude.{Bool, List, [], ◌∷◌, if◌then◌else◌, ⊤}
 use Rattle.logic.specs.Lists.{All}
 use Rattle.theory.specs.declared.Row.{Row}
 use Rattle.theory.specs.Rows.{kept, join}
@@ -40,7 +40,7 @@ module _ {X : Type 0} (Q : X → Type 0) where
 
     -- The same of every tree of a forest.
     pub EveryNodes : Forest X → Type 0
-    EveryNodes bare = Unit {0}
+    EveryNodes bare = ⊤
     EveryNodes (t ▸ ts) = EveryNode t × EveryNodes ts
 
 -- The operators of a node have the property K, and its atoms the property T.
@@ -55,7 +55,7 @@ module _ {M P A O : Type 0} (meets : M → P → Bool) (dont_care : A) (joined :
   -- .. + A'ₖ + 0.
   abbrev pub own : O → List (Row M A) → P → A
   own i [] p = dont_care
-  own i (x ∷ xs) p = cond (meets x.matching p) (joined i x.action (own i xs p)) (own i xs p)
+  own i (x ∷ xs) p = if meets x.matching p then joined i x.action (own i xs p) else own i xs p
 
   abbrev mutual
     -- The node's own action on the left, that of its children on the right. Figure 1: eval = cmb(D, K) +P A₁.

@@ -8,11 +8,11 @@ use Rattle.flow.specs.declared.Packet.{Packet}
 use Rattle.action.specs.Operator.{join}
 use Rattle.action.specs.declared.Action.{Action}
 use Rattle.action.specs.declared.Action.TheVariants.{DontCare}
-use Rattle.section.specs.Numbers.{atom_length}
+use Rattle.policy.specs.Numbers.{atom_length}
 use Rattle.policy.specs.File.{PolicyTree}
 use Rattle.nodes.specs.Nodes.{node_at, cells_at, atom_words_at}
 use Rattle.nodes.specs.Walk.{Reached}
-use Rattle.section.specs.declared.Node.{Node}
+use Rattle.policy.specs.declared.Node.{Node}
 use Rattle.nodes.specs.declared.Spot.{Spot}
 use Rattle.nodes.proofs.Walk.{tree-here, after-tree, children-here, after-children, NoChild}
 use Rattle.tree.specs.Action.{eval_tree}

@@ -6,7 +6,7 @@
 --   action_after          what reading answered, carried on
 --   tree_action_of        the tree's action
 --   given                 the action of an answer
-use Rattle.std.specs.Prelude.{ℕ, cond, List, Result, Ok, Err}
+use Rattle.std.specs.Prelude.{ℕ, List, Result, Ok, Err, if◌then◌else◌}
 use Rattle.theory.specs.Tree.{eval}
 use Rattle.refusal.specs.Refusals.{refusal_at}
 use Rattle.refusal.specs.declared.Reason.TheVariants.{WrongPacket}
@@ -28,8 +28,7 @@ eval_tree t p = eval meets DontCare join t p
 -- an accepted file's tree and a right packet: eval of the tree
 unfoldable pub accepted_action : List ℕ → Layout → List ℕ → Result Action Refusal
 accepted_action f l p =
-    cond (right_packet_words p) (Ok (eval_tree (tree_of f l) (packet_of p)))
-    (Err (refusal_at WrongPacket 0))
+    if right_packet_words p then Ok (eval_tree (tree_of f l) (packet_of p)) else Err (refusal_at WrongPacket 0)
 
 -- what reading answered, carried on
 abbrev pub action_after : List ℕ → List ℕ → Result Layout Refusal → Result Action Refusal

@@ -3,7 +3,7 @@
 --
 --   own_action, with_atom    a node's own action, and one atom before the others
 --   TreeGave, ChildrenGave   what the walk gives of a subtree, and of some children
-use Rattle.std.specs.Prelude.{ℕ, ◌≡◌, cond, List}
+use Rattle.std.specs.Prelude.{ℕ, ◌≡◌, List, if◌then◌else◌}
 use Rattle.words.specs.Records.{rows_of}
 use Rattle.theory.specs.Tree.{own, evals}
 use Rattle.theory.specs.declared.Row.{Row}
@@ -26,7 +26,7 @@ own_action o atoms p = own meets DontCare join o (rows_of row_length row_of atom
 
 -- one atom before the others
 unfoldable pub with_atom : List ℕ → Row Match Action → Packet → Action → Action
-with_atom o atom p rest = cond (meets atom.matching p) (join o atom.action rest) rest
+with_atom o atom p rest = if meets atom.matching p then join o atom.action rest else rest
 
 -- the action is that of the tree at the place, and the next place is behind it
 pub record TreeGave (f : List ℕ) (s : Spot) (p : Packet) (r : SubtreeAction) : Type 0 where

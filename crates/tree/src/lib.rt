@@ -57,7 +57,8 @@ impl Query<'_> {
     // place the atoms start where those of the nodes before end, and fewer nodes are left.
     #[cycle(children_subtree)]
     fn subtree(self, at: Spot) -> SubtreeAction
-        requires { Reached self.file.words.now at × (0 < at.nodes_left) }
+        requires reached { Reached self.file.words.now at }
+        requires there { 0 < at.nodes_left }
         ensures { TreeGave self.entry.file.words.now at self.entry.packet result }
     {
         let node = self.file.node_at(at.nodes_left);

@@ -3,7 +3,7 @@
 --   word_of b     the word of four bytes
 --   words_in b    the words of some bytes; bytes behind the last whole word are left out
 --   bytes_of w    the bytes of a word
-use Rattle.std.specs.Prelude.{ℕ, ◌+◌, ◌*◌, ◌/◌, ◌%◌, List, [], ◌∷◌, get_or}
+use Rattle.std.specs.Prelude.{ℕ, ◌+◌, ◌*◌, ◌/◌, ◌%◌, List, [], ◌∷◌, slice_index}
 use Rattle.words.specs.Records.{rows_of}
 
 -- how many bytes a word has
@@ -12,7 +12,7 @@ word_bytes = 4
 
 -- the word of four bytes
 abbrev pub word_of : List ℕ → ℕ
-word_of b = get_or b 0 0 + 256 * get_or b 1 0 + 65536 * get_or b 2 0 + 16777216 * get_or b 3 0
+word_of b = slice_index b 0 + 256 * slice_index b 1 + 65536 * slice_index b 2 + 16777216 * slice_index b 3
 
 -- the words of some bytes
 abbrev pub words_in : List ℕ → List ℕ

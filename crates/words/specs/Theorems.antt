@@ -1,5 +1,5 @@
 -- What is proved of words and bytes. Each statement is proved in proofs/Bytes.antt under the name given behind it.
-use Rattle.std.specs.Prelude.{ℕ, ◌%◌, ◌<◌, ◌≡◌, List, [], ◌∷◌, length}
+use Rattle.std.specs.Prelude.{ℕ, ◌%◌, ◌<◌, ◌≡◌, List, [], ◌∷◌, length, ⊤}
 use Rattle.words.specs.Records.{flat}
 use Rattle.words.specs.Bytes.{word_bytes, words_in, bytes_of}
 
@@ -9,7 +9,7 @@ WordsRead = (words : List ℕ) → words_in (flat bytes_of words) ≡ words
 
 -- each is a byte
 abbrev pub EveryByte : List ℕ → Type 0
-EveryByte [] = Unit {0}
+EveryByte [] = ⊤
 EveryByte (b ∷ bytes) = (b < 256) × EveryByte bytes
 
 -- whole words of bytes are the bytes of those words, so no two inputs are one file (bytes_read)

@@ -1,5 +1,5 @@
 -- What the moves over a lent buffer leave in it, word by word.
-use Rattle.std.specs.Prelude.{ℕ, ◌+◌, ◌-◌, cond, List, ◌++◌, leb, length, take, replicate}
+use Rattle.std.specs.Prelude.{ℕ, ◌+◌, ◌-◌, List, ◌++◌, length, take, replicate, if◌then◌else◌, nat_le}
 use Rattle.std.proofs.lemmas.List.Edits.{sets}
 
 -- the words F stored one by one in l from the place a on; the other words stay, and so does the length
@@ -8,7 +8,7 @@ laid a F l = sets l a F
 
 -- the same if all of F fits; else l
 unfoldable pub copied : ℕ → List ℕ → List ℕ → List ℕ
-copied a F l = cond (leb (a + length F) (length l)) (laid a F l) l
+copied a F l = if nat_le (a + length F) (length l) then laid a F l else l
 
 -- so many zeros
 abbrev pub zeros : ℕ → List ℕ

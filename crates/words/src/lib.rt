@@ -2,7 +2,7 @@
 //! place: one outside the buffer reads 0 and stores nothing.
 #![tactic(auto)]
 
-ghost use Rattle.std.specs.Prelude.{◌≡◌, get_or};
+ghost use Rattle.std.specs.Prelude.{◌≡◌, slice_index};
 ghost use Rattle.words.specs.Words.{copied, cleared};
 ghost use Rattle.words.specs.Records.{flat};
 ghost use Rattle.words.specs.Bytes.{words_in, bytes_of};
@@ -16,7 +16,7 @@ pub const WORD_BYTES: usize = 4;
 
 /// The word at a place, 0 outside.
 pub fn word(words: &[u32], at: usize) -> u32
-    ensures { result ≡ get_or words.now at 0 }
+    ensures { result ≡ slice_index words.now at }
 {
     words.get(at).copied().unwrap_or(0)
 }

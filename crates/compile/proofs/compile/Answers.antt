@@ -10,7 +10,7 @@ use Rattle.compile.proofs.compile.Goals as goal
 pub returns-in_err-layout : goal.returns-in_err-layout
 returns-in_err-layout c =
     let p = err_from_is_err_and c.from_residual.result c.from_residual.ensures.1 in
-    rw (p.1, p.2) ((answered-in-order _ _ _).file-refused _ (sym c.read.ensures ∙ c.in_err-layout.was))
+    rw (p.1, p.2) ((answered-in-order _ _ _).file_refused _ (sym c.read.ensures ∙ c.in_err-layout.was))
 
 pub overflow_mul-words : goal.overflow_mul-words
 overflow_mul-words c = omega (arith, c.room_of-words.ensures)
@@ -18,7 +18,7 @@ overflow_mul-words c = omega (arith, c.room_of-words.ensures)
 pub returns-then-scratch-words : goal.returns-then-scratch-words
 returns-then-scratch-words c =
     compiles-as
-    ((answered-in-order _ c.args.table.now c.args.scratch.now).scratch-short _ (sym c.read.ensures ∙ c.in_ok-layout.was)
+    ((answered-in-order _ c.args.table.now c.args.scratch.now).scratch_short _ (sym c.read.ensures ∙ c.in_ok-layout.was)
     (omega (arith, c.room_of-words.ensures, c.if-scratch-words.true)))
     (ap Err c.at.ensures) refl refl
 

@@ -29,4 +29,4 @@ returns c =
     let g = c.args in
     let same = rw c.in_ok-table.was at c.try_from.ensures in
     let numbers = rw same at c.put_numbers.ensures in
-    numbered-right g.table.now g.priorities.now g.chain.now _ (rw (← same) c.in_ok-table.table.right, rw (← same) c.row_count-rows.ensures) c.if-not-fits.false _ numbers.0 _ numbers.1 _ numbers.2
+    numbered-right g.table.now g.priorities.now g.chain.now _ (rw (← same) c.in_ok-table.table.right, rw (← same) c.row_count-rows.ensures) c.if-not-fits.false _ numbers.count _ numbers.priorities_after _ numbers.chain_after

@@ -13,7 +13,7 @@ put-requires c =
     let g = c.args in
     let s = linking-start g.table.words.now g.levels.now g.chain.now g.count _ c.requires.1 c.if-count-eq0.false c.requires.2
     c.first_of_level-at.ensures in
-    (s.within, omega (arith, s.row, c.args.table.right.few))
+    record { within = s.within; word = omega (arith, s.row, c.args.table.right.few) }
 
 pub loop-l-init : goal.loop-l-init
 loop-l-init c =
@@ -26,13 +26,13 @@ loop-l-init c =
     }
 
 pub step_back-at-requires : goal.step_back-at-requires
-step_back-at-requires c = let g = c.loop-l.invariant.link in (c.requires.0, omega (arith, g.row))
+step_back-at-requires c = let g = c.loop-l.invariant.link in record { many = c.requires.0; within = omega (arith, g.row) }
 
 pub put-requires-in-loop-l : goal.put-requires-in-loop-l
 put-requires-in-loop-l c =
     let g = c.loop-l.invariant in
     let t = linking-turn _ _ _ _ _ _ _ _ _ g.link c.loop-l-test.true g.is c.step_back-at.ensures in
-    (t.within, omega (arith, t.row, c.args.table.right.few))
+    record { within = t.within; word = omega (arith, t.row, c.args.table.right.few) }
 
 pub loop-l-preserved : goal.loop-l-preserved
 loop-l-preserved c =

@@ -10,7 +10,8 @@ pub level-l-requires : goal.level-l-requires
 level-l-requires c = (omega arith, omega arith, omega (arith, c.args.table.right.few), levelling-below c.loop-i.invariant)
 
 pub loop-i-preserved : goal.loop-i-preserved
-loop-i-preserved c = levelling-turn c.loop-i.invariant (omega arith) _ c.level-l.ensures.0 _ c.max-count.ensures
+loop-i-preserved c = levelling-turn c.loop-i.invariant (omega arith) _ c.level-l.ensures.value _ c.max-count.ensures
 
 pub returns : goal.returns
-returns c = levelling-end c.loop-i.invariant c.requires (omega arith)
+returns c =
+    let all = levelling-end c.loop-i.invariant c.requires (omega arith) in record { count = all.0; levels_after = all.1 }

@@ -7,19 +7,20 @@ pub put_chain-requires : goal.put_chain-requires
 put_chain-requires c =
     let ws = c.args.table.words.now in
     let levels = c.put_levels-count.ensures in (
-      stored-many ws _ _ levels.0 levels.1,
-      stored-count ws _ _ levels.0 levels.1,
-      omega (arith, stored-few ws _ _ levels.0 levels.1),
+      stored-many ws _ _ levels.count levels.levels_after,
+      stored-count ws _ _ levels.count levels.levels_after,
+      omega (arith, stored-few ws _ _ levels.count levels.levels_after),
     )
 
 pub put_priorities-requires : goal.put_priorities-requires
-put_priorities-requires c = stored-below c.args.table.words.now _ _ c.put_levels-count.ensures.0 c.put_levels-count.ensures.1
+put_priorities-requires c = stored-below c.args.table.words.now _ _ c.put_levels-count.ensures.count c.put_levels-count.ensures.levels_after
 
 pub returns : goal.returns
 returns c =
     let ws = c.args.table.words.now in
-    let levels = c.put_levels-count.ensures in (
-      levels.0,
-      stored-priorities ws _ _ levels.0 levels.1 _ c.put_priorities.ensures,
-      stored-chain ws _ _ levels.0 levels.1 _ _ c.put_chain.ensures,
-    )
+    let levels = c.put_levels-count.ensures in
+    record {
+      count = levels.count;
+      priorities_after = stored-priorities ws _ _ levels.count levels.levels_after _ c.put_priorities.ensures;
+      chain_after = stored-chain ws _ _ levels.count levels.levels_after _ _ c.put_chain.ensures;
+    }

@@ -5,12 +5,13 @@ use Rattle.action.specs.Operator.{coded, join}
 use Rattle.action.specs.Laws.{shown}
 use Rattle.row.specs.Row.{row_action}
 use Rattle.table.specs.Table.{right_length}
-use Rattle.line.specs.Text.{digits, decimal, number, address, action_text, head, refusal}
+use Rattle.std.specs.Fmt.{digits}
+use Rattle.show.specs.Text.{number, address, action_text, head, refusal}
 use Rattle.text.specs.Listing.{right_input}
 use Rattle.promises.proofs.numbers.Goals as goal
 
 pub returns : goal.returns
-unfolding rows_of action_of coded join shown row_action right_length digits decimal number address action_text head refusal right_input
+unfolding rows_of action_of coded join shown row_action right_length digits number address action_text head refusal right_input
 returns c = record {
   file = λ f. refl;
   others = refl;
@@ -33,7 +34,7 @@ returns c = record {
   kinds = λ n. refl;
   actions = λ n. refl;
   cells = λ a b c d e f g h i m n. refl;
-  codes = refl;
+  cell_codes = refl;
   identity = λ o n. (refl, refl);
   supplied = (refl, refl);
   failures = λ a b c. (refl, refl);

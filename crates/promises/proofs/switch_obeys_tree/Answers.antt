@@ -1,4 +1,4 @@
-use Rattle.promises.proofs.Demand3.{switch-obeys-tree}
+use Rattle.promises.proofs.SmallestNumbering.{switch-obeys-tree}
 use Rattle.promises.proofs.switch_obeys_tree.Goals as goal
 
 pub returns : goal.returns

@@ -7,4 +7,7 @@ use Rattle.table.proofs.rows.Goals as goal
 pub returns : goal.returns
 returns c =
     let ws = c.args.table.now in
-    (c.as_chunks.ensures.front ∙ chunks-records (length ws / row_length) row_length ws, c.as_chunks.ensures.front_len)
+    record {
+      rows = c.as_chunks.ensures.front ∙ chunks-records (length ws / row_length) row_length ws;
+      count = c.as_chunks.ensures.front_len;
+    }

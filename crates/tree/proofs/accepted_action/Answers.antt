@@ -7,7 +7,8 @@ use Rattle.tree.proofs.Eval.{root-gave, accepted-gives, accepted-refuses}
 use Rattle.tree.proofs.accepted_action.Goals as goal
 
 pub subtree-found-requires : goal.subtree-found-requires
-subtree-found-requires c = start-reached _ _ c.requires _ c.root.ensures
+subtree-found-requires c =
+    let start = start-reached _ _ c.requires _ c.root.ensures in record { reached = start.0; there = start.1 }
 
 pub returns-in_err-try_from : goal.returns-in_err-try_from
 returns-in_err-try_from c =

@@ -19,5 +19,5 @@ pub returns : goal.returns
 returns c =
     let left : c.args.left ≡ DontCare → ⊥ = search rules in
     let right : c.args.right ≡ DontCare → ⊥ = search rules in
-    join-coded _ _ _ _ _ c.kind.ensures.0 c.kind-2.ensures.0 _ left right
+    join-coded _ _ _ _ _ c.kind.ensures.kind c.kind-2.ensures.kind _ left right
     (c.coded.ensures ∙ ap (λ n. coded n c.args.left c.args.right) c.word.ensures)

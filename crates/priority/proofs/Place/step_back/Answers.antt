@@ -21,4 +21,4 @@ returns c =
     let found : c.position-found.result ≡ position (pair-test m c.args.l) (zip (take i ls) rows) =
     position_from_yields_List (pair-test m c.args.l) c.position-found.new.self _ c.position-found.result c.position-found.ensures.ran pairs (λ x b q k. search (rules, tests)) in
     c.unwrap_or.ensures ∙ ap (λ o. unwrap_or o i) found
-    ∙ step-position ws ls rows i c.args.l m c.match_at-m.ensures c.rows.ensures.0 c.requires.1 (omega (arith, c.rows.ensures.1))
+    ∙ step-position ws ls rows i c.args.l m c.match_at-m.ensures c.rows.ensures.rows c.requires.within (omega (arith, c.rows.ensures.count))

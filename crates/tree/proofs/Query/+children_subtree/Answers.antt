@@ -15,15 +15,15 @@ children-returns t c =
     children-gave _ _ c.requires some.1 some.0 c.subtree-first.ensures c.children-rest.ensures c.join_at.ensures
 
 pub subtree-behind_own-requires-clause-within : goal.subtree-behind_own-requires-clause-within
-subtree-behind_own-requires-clause-within t c = omega (arith, atoms-within _ _ c.requires.0 c.requires.1 _ c.node_at-node.ensures)
+subtree-behind_own-requires-clause-within t c = omega (arith, atoms-within _ _ c.requires.reached c.requires.there _ c.node_at-node.ensures)
 
 pub subtree-children-below-requires : goal.subtree-children-below-requires
 subtree-children-below-requires t c = (
   omega (arith, ap (λ (x : Spot). x.nodes_left) c.behind_own.ensures),
-  rw c.behind_own.ensures (next-reached _ _ c.requires.0 c.requires.1 _ c.node_at-node.ensures),
+  rw c.behind_own.ensures (next-reached _ _ c.requires.reached c.requires.there _ c.node_at-node.ensures),
 )
 
 pub subtree-returns : goal.subtree-returns
 subtree-returns t c =
-    tree-gave c.requires.0 c.requires.1 c.node_at-node.ensures c.atoms_at-atoms.ensures c.own_action-own.ensures
+    tree-gave c.requires.reached c.requires.there c.node_at-node.ensures c.atoms_at-atoms.ensures c.own_action-own.ensures
     (rw c.behind_own.ensures at c.children-below.ensures) c.join_at.ensures

@@ -1,0 +1,4 @@
+mod Parts
+pub mod Found
+pub mod Takes
+pub mod Sessions

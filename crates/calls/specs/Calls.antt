@@ -1,0 +1,57 @@
+-- A call as it is sent, and the reply that it gets, both as bytes. See tests/README.md, "The calls of `answers`".
+--
+--   Call              a call, with the slices that it brings
+--   Within c          its slices are no longer than is taken
+--   Sent c s          the bytes s are the call c: its number, and its slices
+--   IsCall c s        the same of a call that is within
+--   reply_of c        the bytes that a call is answered
+use Rattle.std.specs.Prelude.{ℕ, ◌≡◌, ◌≤◌, List, ◌++◌, length}
+use Rattle.words.specs.Bytes.{bytes_of}
+use Rattle.calls.specs.Sent.{most_words, most_bytes, slice_bytes, padding, counted}
+use Rattle.text.specs.Listing.{listing_of}
+use Rattle.calls.specs.Replies.{read_reply, action_reply, compile_reply, scan_reply, number_reply, hidden_reply, text_reply}
+
+-- a call, with the slices that it brings: those of words, and of a listing its bytes
+pub data Call : Type 0 where
+  read : (file : List ℕ) → Call
+  tree_action : (file packet : List ℕ) → Call
+  compile : (file table scratch : List ℕ) → Call
+  scan : (table packet : List ℕ) → Call
+  number : (table priorities chain : List ℕ) → Call
+  list : (file : List ℕ) → Call
+  hidden : (table : List ℕ) → Call
+
+-- its slices are no longer than is taken
+abbrev pub Within : Call → Type 0
+Within (read f) = length f ≤ most_words
+Within (tree_action f p) = (length f ≤ most_words) × (length p ≤ most_words)
+Within (compile f t s) = (length f ≤ most_words) × (length t ≤ most_words) × (length s ≤ most_words)
+Within (scan t p) = (length t ≤ most_words) × (length p ≤ most_words)
+Within (number t ps cs) = (length t ≤ most_words) × (length ps ≤ most_words) × (length cs ≤ most_words)
+Within (list b) = length b ≤ most_bytes
+Within (hidden t) = length t ≤ most_words
+
+-- each call begins with its number
+abbrev pub Sent : Call → List ℕ → Type 0
+Sent (read f) s = s ≡ bytes_of 1 ++ slice_bytes f
+Sent (tree_action f p) s = s ≡ bytes_of 2 ++ (slice_bytes f ++ slice_bytes p)
+Sent (compile f t c) s = s ≡ bytes_of 3 ++ ((slice_bytes f ++ slice_bytes t) ++ slice_bytes c)
+Sent (scan t p) s = s ≡ bytes_of 4 ++ (slice_bytes t ++ slice_bytes p)
+Sent (number t ps cs) s = s ≡ bytes_of 5 ++ ((slice_bytes t ++ slice_bytes ps) ++ slice_bytes cs)
+Sent (list b) s = (pad : List ℕ) × (length pad ≡ padding (length b)) × (s ≡ bytes_of 6 ++ counted (length b) b pad)
+Sent (hidden t) s = s ≡ bytes_of 7 ++ slice_bytes t
+
+-- the bytes are that call, which is within
+pub record IsCall (call : Call) (bytes : List ℕ) : Type 0 where
+  pub within : Within call
+  pub sent : Sent call bytes
+
+-- the reply to each call
+abbrev pub reply_of : Call → List ℕ
+reply_of (read f) = read_reply f
+reply_of (tree_action f p) = action_reply f p
+reply_of (compile f t s) = compile_reply f t s
+reply_of (scan t p) = scan_reply t p
+reply_of (number t ps cs) = number_reply t ps cs
+reply_of (list b) = text_reply (listing_of b)
+reply_of (hidden t) = hidden_reply t

@@ -1,0 +1,260 @@
+//! Calls: how each is taken from an input, and answered into a sink.
+
+ghost use Rattle.std.specs.Prelude.{◌≤◌, length, take, IfSome};
+ghost use Rattle.std.specs.Option.{option_map};
+ghost use Rattle.calls.specs.Taken.{bytes_in, word_in, count_in, slice_in, text_in, Takes};
+
+use crate::put::padding;
+use crate::replies::{Reply, of_table, reply_compile, reply_hidden, reply_list, reply_number};
+use std::io::Read;
+use streams::{Input, Sink};
+use words::WORD_BYTES;
+
+// The longest slice taken, in words. A table of one row too many has 45067, so every refusal can be asked for.
+const MOST_WORDS: usize = 45100;
+
+// The longest input of a listing, in bytes. One that is refused as too long has 51341, or more.
+const MOST_BYTES: usize = 52000;
+
+/// Room for the slices of one call, so that no call fails for want of memory. What is in it between two calls, nobody
+/// sees.
+#[derive(Drop)]
+pub struct Room {
+    bytes: [u8; WORD_BYTES * MOST_WORDS],
+    first: [u32; MOST_WORDS],
+    second: [u32; MOST_WORDS],
+    third: [u32; MOST_WORDS],
+}
+
+impl Room {
+    ghost use Rattle.calls.specs.Taken.{two_in, three_in, body_in, call_in, Answers};
+
+    /// One that is blank.
+    pub fn new() -> Room {
+        Room {
+            bytes: [0; WORD_BYTES * MOST_WORDS],
+            first: [0; MOST_WORDS],
+            second: [0; MOST_WORDS],
+            third: [0; MOST_WORDS],
+        }
+    }
+
+    /// Takes one call and puts its reply into a sink. `None`, and nothing is put in, where the input ends within the
+    /// call, where its number is none, where a slice is too long and where a read failed; how far the input was read
+    /// then is left open.
+    pub fn answer<R: Read, S: Sink>(&mut self, input: &mut Input<R>, sink: &mut S) -> Option<()>
+        ensures { Answers R.remaining S.gives call_in input.old input.new sink.old sink.new result }
+    {
+        // The number of each call; `body_in` has them in the definitions.
+        match take_word(input)? {
+            1 => self.answer_read(input, sink),
+            2 => self.answer_tree_action(input, sink),
+            3 => self.answer_compile(input, sink),
+            4 => self.answer_scan(input, sink),
+            5 => self.answer_number(input, sink),
+            6 => self.answer_list(input, sink),
+            7 => self.answer_hidden(input, sink),
+            _ => None,
+        }
+    }
+
+    fn answer_read<R: Read, S: Sink>(&mut self, input: &mut Input<R>, sink: &mut S) -> Option<()>
+        ensures { Answers R.remaining S.gives (body_in 1) input.old input.new sink.old sink.new
+            result }
+    {
+        let file = self.take_one(input)?;
+        policy::read(&self.first[..file]).reply(sink);
+        Some(())
+    }
+
+    fn answer_tree_action<R: Read, S: Sink>(
+        &mut self,
+        input: &mut Input<R>,
+        sink: &mut S,
+    ) -> Option<()>
+        ensures { Answers R.remaining S.gives (body_in 2) input.old input.new sink.old sink.new
+            result }
+    {
+        let (file, packet) = self.take_two(input)?;
+        tree::tree_action(&self.first[..file], &self.second[..packet]).reply(sink);
+        Some(())
+    }
+
+    fn answer_compile<R: Read, S: Sink>(&mut self, input: &mut Input<R>, sink: &mut S) -> Option<()>
+        ensures { Answers R.remaining S.gives (body_in 3) input.old input.new sink.old sink.new
+            result }
+    {
+        let (file, table, scratch) = self.take_three(input)?;
+        let (second, third) = (&mut self.second[..], &mut self.third[..]);
+        reply_compile(
+            sink,
+            &self.first[..file],
+            &mut second[..table],
+            &mut third[..scratch],
+        );
+        Some(())
+    }
+
+    fn answer_scan<R: Read, S: Sink>(&mut self, input: &mut Input<R>, sink: &mut S) -> Option<()>
+        ensures { Answers R.remaining S.gives (body_in 4) input.old input.new sink.old sink.new
+            result }
+    {
+        let (table, packet) = self.take_two(input)?;
+        of_table(table::scan(&self.first[..table], &self.second[..packet])).reply(sink);
+        Some(())
+    }
+
+    fn answer_number<R: Read, S: Sink>(&mut self, input: &mut Input<R>, sink: &mut S) -> Option<()>
+        ensures { Answers R.remaining S.gives (body_in 5) input.old input.new sink.old sink.new
+            result }
+    {
+        let (table, priorities, chain) = self.take_three(input)?;
+        let (second, third) = (&mut self.second[..], &mut self.third[..]);
+        reply_number(
+            sink,
+            &self.first[..table],
+            &mut second[..priorities],
+            &mut third[..chain],
+        );
+        Some(())
+    }
+
+    fn answer_list<R: Read, S: Sink>(&mut self, input: &mut Input<R>, sink: &mut S) -> Option<()>
+        ensures { Answers R.remaining S.gives (body_in 6) input.old input.new sink.old sink.new
+            result }
+    {
+        let file = take_text(input, &mut self.bytes)?;
+        reply_list(sink, &self.bytes[..file]);
+        Some(())
+    }
+
+    fn answer_hidden<R: Read, S: Sink>(&mut self, input: &mut Input<R>, sink: &mut S) -> Option<()>
+        ensures { Answers R.remaining S.gives (body_in 7) input.old input.new sink.old sink.new
+            result }
+    {
+        let table = self.take_one(input)?;
+        reply_hidden(sink, &mut self.first[..table]);
+        Some(())
+    }
+
+    // Takes a slice into the first buffer: how many words there are.
+    fn take_one<R: Read>(&mut self, input: &mut Input<R>) -> Option<usize>
+        ensures within { IfSome result (λ n. n ≤ MOST_WORDS) }
+        ensures taken { Takes R.remaining slice_in input.old input.new
+            (option_map (λ n. take n self.new.first) result) }
+    {
+        take_slice(input, &mut self.bytes, &mut self.first)
+    }
+
+    // Takes two slices, into the first and the second buffer.
+    fn take_two<R: Read>(&mut self, input: &mut Input<R>) -> Option<(usize, usize)>
+        ensures first_within { IfSome result (λ n. n.0 ≤ MOST_WORDS) }
+        ensures second_within { IfSome result (λ n. n.1 ≤ MOST_WORDS) }
+        ensures taken { Takes R.remaining two_in input.old input.new
+            (option_map (λ n. (take n.0 self.new.first, take n.1 self.new.second)) result) }
+    {
+        let first = self.take_one(input)?;
+        let second = take_slice(input, &mut self.bytes, &mut self.second)?;
+        Some((first, second))
+    }
+
+    // Takes three slices, one into each buffer.
+    fn take_three<R: Read>(&mut self, input: &mut Input<R>) -> Option<(usize, usize, usize)>
+        ensures first_within { IfSome result (λ n. n.0 ≤ MOST_WORDS) }
+        ensures second_within { IfSome result (λ n. n.1 ≤ MOST_WORDS) }
+        ensures third_within { IfSome result (λ n. n.2 ≤ MOST_WORDS) }
+        ensures taken { Takes R.remaining three_in input.old input.new
+            (option_map (λ n. (
+              take n.0 self.new.first,
+              take n.1 self.new.second,
+              take n.2 self.new.third,
+            )) result) }
+    {
+        let (first, second) = self.take_two(input)?;
+        let third = take_slice(input, &mut self.bytes, &mut self.third)?;
+        Some((first, second, third))
+    }
+}
+
+// Takes a slice of words into a buffer: how many there are.
+fn take_slice<R: Read>(
+    input: &mut Input<R>,
+    bytes: &mut [u8; WORD_BYTES * MOST_WORDS],
+    words: &mut [u32; MOST_WORDS],
+) -> Option<usize>
+    ensures within { IfSome result (λ n. n ≤ MOST_WORDS) }
+    ensures taken { Takes R.remaining slice_in input.old input.new
+        (option_map (λ n. take n words.new) result) }
+{
+    let count = take_count(input, MOST_WORDS)?;
+    let sent = &mut bytes[..WORD_BYTES * count];
+    take_full(input, sent)?;
+    words::from_bytes(sent, words);
+    Some(count)
+}
+
+// Takes bytes into a buffer, and the words that hold them: how many there are.
+fn take_text<R: Read>(
+    input: &mut Input<R>,
+    bytes: &mut [u8; WORD_BYTES * MOST_WORDS],
+) -> Option<usize>
+    ensures within { IfSome result (λ n. n ≤ MOST_BYTES) }
+    ensures taken { Takes R.remaining text_in input.old input.new
+        (option_map (λ n. take n bytes.new) result) }
+{
+    let count = take_count(input, MOST_BYTES)?;
+    take_full(input, &mut bytes[..count])?;
+    let mut behind = [0u8; WORD_BYTES];
+    take_full(input, &mut behind[..padding(count)])?;
+    Some(count)
+}
+
+// Takes how many words or bytes come. `None` also where they are more than the caller takes.
+fn take_count<R: Read>(input: &mut Input<R>, most: usize) -> Option<usize>
+    ensures within { IfSome result (λ n. n ≤ most) }
+    ensures taken { Takes R.remaining (count_in most) input.old input.new result }
+{
+    let count = take_word(input)? as usize;
+    if count <= most { Some(count) } else { None }
+}
+
+// Takes one word.
+fn take_word<R: Read>(input: &mut Input<R>) -> Option<u32>
+    ensures { Takes R.remaining word_in input.old input.new result }
+{
+    let mut bytes = [0u8; WORD_BYTES];
+    take_full(input, &mut bytes)?;
+    Some(u32::from_le_bytes(bytes))
+}
+
+// Takes as many bytes as a buffer has. `None` where the input ends before, and where a read failed.
+fn take_full<R: Read>(input: &mut Input<R>, buf: &mut [u8]) -> Option<()>
+    ensures { Takes R.remaining (bytes_in (length buf.new)) input.old input.new
+        (option_map (λ _. buf.new) result) }
+{
+    let count = input.fill(buf)?;
+    if count < buf.len() { None } else { Some(()) }
+}
+
+#[cfg(test)]
+mod tests {
+    use super::*;
+    use std::test::Fail;
+    use streams::Output;
+
+    #[test]
+    fn takes_and_answers(rt: HostRuntime) -> Result<(), Fail> {
+        let sent = b"\x07\0\0\0\0\0\0\0\x06\0\0\0\x01\0\0\0abcd\x07\0\0\0";
+        let mut input = Input::new(sent.as_slice());
+        let mut writer = Vec::new(rt.alloc());
+        let mut output = Output::new(&mut writer);
+        let mut room = Room::new();
+        assert_eq!(rt; room.answer(&mut input, &mut output), Some(()));
+        assert_eq!(rt; room.answer(&mut input, &mut output), Some(()));
+        assert_eq!(rt; room.answer(&mut input, &mut output), None);
+        output.flush();
+        let replies = b"\0\0\0\0\0\0\0\0\0\0\0\0\x0d\0\0\0refused 18 0\n\0\0\0";
+        assert_eq!(rt; writer.as_slice(), replies.as_slice());
+        Ok(())
+    }
+}

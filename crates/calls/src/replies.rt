@@ -1,0 +1,311 @@
+//! Replies as words: number and place, for a policy file the law and three actions too, then the values, then every
+//! buffer that was lent for writing. A success has zeros for its number, a refusal for its values.
+
+ghost use Rattle.std.specs.Prelude.{◌≡◌, List, ℕ, length};
+ghost use Rattle.words.specs.Records.{flat};
+ghost use Rattle.words.specs.Bytes.{bytes_of};
+ghost use Rattle.compile.specs.Compile.{table_after, scratch_after};
+ghost use Rattle.priority.specs.Numbering.{priorities_after, chain_after};
+ghost use Rattle.hidden.specs.Hidden.{table_kept};
+ghost use Rattle.text.specs.Listing.{listing_of};
+ghost use Rattle.calls.specs.Replies.{action_width, failure_width, table_refusal_width, refusal_width};
+ghost use Rattle.calls.specs.Replies.{layout_width, found_width, law_number, action_words, refusal_words};
+ghost use Rattle.calls.specs.Replies.{failure_words, broken_words, table_refusal_words, of_table, layout_words};
+ghost use Rattle.calls.specs.Replies.{found_words, row_count_words, answer_words};
+ghost use Rattle.calls.specs.Replies.{compile_reply, number_reply, hidden_reply, text_reply};
+
+use crate::put::{padding, put_words, put_zeros};
+use action::{Action, ActionWords, LawFailure};
+use compile::compile;
+use hidden::drop_hidden;
+use policy::Layout;
+use priority::number;
+use refusal::Refusal;
+use streams::{Counter, Sink, low};
+use table::Found;
+use words::WORD_BYTES;
+
+/// What is put into a sink as words.
+pub trait Reply {
+    /// Its words.
+    ghost words: { Self → List ℕ };
+
+    /// Puts its words in.
+    fn reply<S: Sink>(&self, sink: &mut S)
+        ensures { S.gives sink.old (flat bytes_of (words self.now)) sink.new };
+}
+
+/// What has as many words for every value, so that zeros can stand in its place.
+pub trait Value: Reply {
+    /// How many words it is.
+    const WIDTH: usize;
+
+    ghost WIDTH: { ℕ };
+
+    ghost wide: { (x : Self) → length (Self.words x) ≡ WIDTH };
+}
+
+/// A refusal of a table, which breaks no law.
+#[derive(Clone, Copy)]
+pub struct TableRefusal {
+    pub refusal: Refusal,
+}
+
+impl From<Refusal> for TableRefusal {
+    ghost use Rattle.std.specs.Prelude.{◌≡◌};
+
+    ghost from_gives = { λ refusal r. r ≡ record { refusal = refusal } };
+
+    fn from(refusal: Refusal) -> TableRefusal {
+        TableRefusal { refusal }
+    }
+}
+
+/// Number and place, and the broken law.
+impl Reply for Refusal {
+    ghost words = { refusal_words };
+
+    fn reply<S: Sink>(&self, sink: &mut S) {
+        TableRefusal { refusal: *self }.reply(sink);
+        match self.reason.failure() {
+            Some(failure) => failure.reply(sink),
+            None => put_zeros(sink, LawFailure::WIDTH),
+        }
+    }
+}
+
+impl Value for Refusal {
+    ghost use Rattle.calls.specs.Widths.{refusal-wide};
+
+    const WIDTH: usize = TableRefusal::WIDTH + LawFailure::WIDTH;
+
+    ghost WIDTH = { refusal_width };
+
+    ghost wide = { refusal-wide };
+}
+
+/// The law's number, and three actions: don't care is the third where two show it.
+impl Reply for LawFailure {
+    ghost words = { failure_words };
+
+    fn reply<S: Sink>(&self, sink: &mut S) {
+        let actions = self.actions();
+        put_words(sink, &[law_number(*self)]);
+        // The law and the actions so far are put in.
+        for action in &actions {
+            action.reply(sink);
+        }
+    }
+}
+
+impl Value for LawFailure {
+    ghost use Rattle.calls.specs.Widths.{failure-wide};
+
+    const WIDTH: usize = 1 + 3 * Action::WIDTH;
+
+    ghost WIDTH = { failure_width };
+
+    ghost wide = { failure-wide };
+}
+
+/// Number and place.
+impl Reply for TableRefusal {
+    ghost words = { table_refusal_words };
+
+    fn reply<S: Sink>(&self, sink: &mut S) {
+        put_words(
+            sink,
+            &[self.refusal.reason.number(), low(self.refusal.place)],
+        );
+    }
+}
+
+impl Value for TableRefusal {
+    ghost use Rattle.calls.specs.Widths.{table_refusal-wide};
+
+    const WIDTH: usize = 2;
+
+    ghost WIDTH = { table_refusal_width };
+
+    ghost wide = { table_refusal-wide };
+}
+
+/// Kind and rate.
+impl Reply for Action {
+    ghost words = { action_words };
+
+    fn reply<S: Sink>(&self, sink: &mut S) {
+        put_words(sink, &ActionWords::from(*self));
+    }
+}
+
+impl Value for Action {
+    ghost use Rattle.calls.specs.Widths.{action-wide};
+
+    const WIDTH: usize = 2;
+
+    ghost WIDTH = { action_width };
+
+    ghost wide = { action-wide };
+}
+
+/// The three counts of a file.
+impl Reply for Layout {
+    ghost words = { layout_words };
+
+    fn reply<S: Sink>(&self, sink: &mut S) {
+        put_words(
+            sink,
+            &[low(self.operators), low(self.atoms), low(self.nodes)],
+        );
+    }
+}
+
+impl Value for Layout {
+    ghost use Rattle.calls.specs.Widths.{layout-wide};
+
+    const WIDTH: usize = 3;
+
+    ghost WIDTH = { layout_width };
+
+    ghost wide = { layout-wide };
+}
+
+/// The action, and how many rows were tried.
+impl Reply for Found {
+    ghost words = { found_words };
+
+    fn reply<S: Sink>(&self, sink: &mut S) {
+        self.action.reply(sink);
+        put_words(sink, &[low(self.tried)]);
+    }
+}
+
+impl Value for Found {
+    ghost use Rattle.calls.specs.Widths.{found-wide};
+
+    const WIDTH: usize = Action::WIDTH + 1;
+
+    ghost WIDTH = { found_width };
+
+    ghost wide = { found-wide };
+}
+
+/// A count of rows.
+impl Reply for usize {
+    ghost words = { row_count_words };
+
+    fn reply<S: Sink>(&self, sink: &mut S) {
+        put_words(sink, &[low(*self)]);
+    }
+}
+
+impl Value for usize {
+    ghost use Rattle.calls.specs.Widths.{word-wide};
+
+    const WIDTH: usize = 1;
+
+    ghost WIDTH = { 1 };
+
+    ghost wide = { word-wide };
+}
+
+/// A count of priorities.
+impl Reply for u32 {
+    ghost use Rattle.std.specs.Prelude.{◌∷◌, []};
+
+    ghost words = { λ n. n ∷ [] };
+
+    fn reply<S: Sink>(&self, sink: &mut S) {
+        put_words(sink, &[*self]);
+    }
+}
+
+impl Value for u32 {
+    ghost use Rattle.calls.specs.Widths.{word-wide};
+
+    const WIDTH: usize = 1;
+
+    ghost WIDTH = { 1 };
+
+    ghost wide = { word-wide };
+}
+
+/// The refusal, and then the value, zeros for the one that there is not.
+impl<T: Value, E: Value> Reply for Result<T, E> {
+    ghost words = { answer_words T.WIDTH T.words E.WIDTH E.words };
+
+    fn reply<S: Sink>(&self, sink: &mut S) {
+        match self {
+            Ok(value) => {
+                put_zeros(sink, E::WIDTH);
+                value.reply(sink);
+            }
+            Err(refusal) => {
+                refusal.reply(sink);
+                put_zeros(sink, T::WIDTH);
+            }
+        }
+    }
+}
+
+// The answer of a function that takes a table.
+pub(crate) fn of_table<T: Drop>(answer: Result<T, Refusal>) -> Result<T, TableRefusal>
+    ensures { result ≡ of_table answer }
+{
+    answer.map_err(TableRefusal::from)
+}
+
+/// Compiles a policy file; the table and the scratch are put in too. It and the two that follow stay three functions:
+/// each states what its own lent buffers hold.
+pub fn reply_compile<S: Sink>(sink: &mut S, file: &[u32], table: &mut [u32], scratch: &mut [u32])
+    ensures table_after { table.new ≡ table_after file.now table.old scratch.old }
+    ensures scratch_after { scratch.new ≡ scratch_after file.now table.old scratch.old }
+    ensures given { S.gives sink.old (compile_reply file.now table.old scratch.old) sink.new }
+{
+    compile(file, table, scratch).reply(sink);
+    put_words(sink, table);
+    put_words(sink, scratch);
+}
+
+/// Numbers a table; the priorities and the chain are put in too.
+pub fn reply_number<S: Sink>(sink: &mut S, table: &[u32], priorities: &mut [u32], chain: &mut [u32])
+    ensures priorities_after { priorities.new ≡ priorities_after table.now priorities.old
+        chain.old }
+    ensures chain_after { chain.new ≡ chain_after table.now priorities.old chain.old }
+    ensures given { S.gives sink.old (number_reply table.now priorities.old chain.old) sink.new }
+{
+    of_table(number(table, priorities, chain)).reply(sink);
+    put_words(sink, priorities);
+    put_words(sink, chain);
+}
+
+/// Takes the hidden rows out of a table, which is put in too.
+pub fn reply_hidden<S: Sink>(sink: &mut S, table: &mut [u32])
+    ensures table_after { table.new ≡ table_kept table.old }
+    ensures given { S.gives sink.old (hidden_reply table.old) sink.new }
+{
+    of_table(drop_hidden(table)).reply(sink);
+    put_words(sink, table);
+}
+
+/// Lists a file. The listing is counted before it is put in, since its length stands before it.
+pub fn reply_list<S: Sink>(sink: &mut S, file: &[u8])
+    ensures { S.gives sink.old (text_reply (listing_of file.now)) sink.new }
+{
+    let mut counter = Counter { low: 0 };
+    text::list(file, &mut counter);
+    put_words(sink, &[counter.low]);
+    text::list(file, sink);
+    sink.put(&[0; WORD_BYTES][..padding(counter.low as usize)]);
+}
+
+// The number of a broken law in a reply; it stands here alone.
+fn law_number(failure: LawFailure) -> u32
+    ensures { result ≡ law_number failure }
+{
+    match failure {
+        LawFailure::Commutativity(..) => 1,
+        LawFailure::Associativity(..) => 2,
+    }
+}

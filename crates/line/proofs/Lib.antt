@@ -1,4 +1,0 @@
-pub mod Putting
-pub mod Digits
-pub mod Lengths
-pub mod Numerals

@@ -1,3 +1,0 @@
-pub mod Text
-pub mod Puts
-pub mod Theorems

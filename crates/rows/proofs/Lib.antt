@@ -1,3 +1,0 @@
-pub mod Laid
-pub mod Grow
-pub mod Own

@@ -1,7 +1,0 @@
--- There is one edition, so that a match on it tells nothing, and what it would have told is shown here. Assumes nothing.
-use mathlib.Core.Path.{◌≡◌, refl}
-use Rattle.section.specs.declared.Edition.{Edition}
-use Rattle.section.specs.declared.Edition.TheVariants.{First}
-
-pub one-edition : (e : Edition) → e ≡ First
-one-edition First = refl

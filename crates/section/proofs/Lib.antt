@@ -1,6 +1,0 @@
-pub mod Editions
-pub mod Lengths
-pub mod Each
-pub mod Records
-pub mod Passed
-pub mod Due

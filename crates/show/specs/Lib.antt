@@ -1,0 +1,3 @@
+pub mod Text
+pub mod Sheet
+pub mod Theorems

@@ -1,2 +1,0 @@
-pub mod Known
-mod Blocks
