@@ -2,6 +2,7 @@
 use Rattle.std.proofs.Common.{◌≡◌, refl, sym, ap, ◌∙◌, subst, arith, ℕ, ◌+◌, ◌-◌, ◌^◌, ◌<◌, ◌≤◌, Bool, true, false, ◌&&◌, List, [], ◌++◌, append_assoc, append-nil, length, take, Some, None, IsNone, is_some, is_none}
 use Rattle.std.specs.declared.option.Option.{Option}
 use Rattle.std.specs.Option.{IfSome}
+use Rattle.std.proofs.lemmas.Option.{none-some, same_Some}
 use Rattle.std.proofs.lemmas.List.{take-append-le, take_all}
 use lib.Seq.{take_at}
 use Rattle.std.specs.Io.KnownBytes.{Appends}
@@ -42,26 +43,26 @@ pub record Reached (all replies : List ℕ) (now : Option (List ℕ)) (turns : �
   pub shorter : length rest + turns ≤ length all
 
 -- a call that was found, and its reply
-reached-more : (all replies rest : List ℕ) (now : Option (List ℕ)) (turns : ℕ) (call : Call) (o : Option (Call × List ℕ)) → call_in rest ≡ o
+reached-more : (all replies rest : List ℕ) (now : Option (List ℕ)) (turns : ℕ) (call : Call) (o : Option Call × List ℕ) → call_in rest ≡ o
     → session all ≡ replies ++ session rest → length rest + turns ≤ length all → TakenFrom o now (Some call)
     → Reached all (replies ++ reply_of call) now (turns + 1)
-reached-more all replies rest now turns call None e a l p = absurd (let f : Some call ≡ None = p in cc)
-reached-more all replies rest now turns call (Some (found, behind)) e a l p =
-    let same : call ≡ found = let f : Some call ≡ Some found = p.0 in cc in
+reached-more all replies rest now turns call (None, behind) e a l p = absurd (none-some call (sym p.0))
+reached-more all replies rest now turns call (Some found, behind) e a l p =
     record {
       rest = behind;
       left = p.1;
       answered =
           a
-          ∙ ap (λ r. replies ++ r) (session-step rest ∙ ap (λ o. replies_then o session) e ∙ ap (λ x. reply_of x ++ session behind) (sym same))
+          ∙ ap (λ r. replies ++ r) (session-step rest ∙ ap (λ o. replies_then o session) e)
+          ∙ ap (λ x. replies ++ (reply_of x ++ session behind)) (sym (same_Some call found p.0))
           ∙ sym (append_assoc replies (reply_of call) (session behind));
       shorter = omega (arith, call-shorter rest behind found e);
     }
 
 -- none was found, and there is no more reply
-no_more : (rest : List ℕ) (now : Option (List ℕ)) (o : Option (Call × List ℕ)) → call_in rest ≡ o → TakenFrom o now None → session rest ≡ []
-no_more rest now None e p = session-step rest ∙ ap (λ o. replies_then o session) e
-no_more rest now (Some (call, behind)) e p = absurd (let f : None ≡ Some call = p.0 in cc)
+no_more : (rest : List ℕ) (now : Option (List ℕ)) (o : Option Call × List ℕ) → call_in rest ≡ o → TakenFrom o now None → session rest ≡ []
+no_more rest now (None, behind) e p = session-step rest ∙ ap (λ o. replies_then o session) e
+no_more rest now (Some call, behind) e p = absurd (none-some call p.0)
 
 module _ {R W : Type 0} (remaining : R → Option (List ℕ)) (contents : W → Option (List ℕ)) where
   -- so many calls were taken, and their replies given

@@ -1,10 +1,10 @@
 -- What is found in bytes against what is sent: each part that was sent is found, and each that is found was sent. Assumes nothing.
-use Rattle.std.proofs.Common.{◌≡◌, refl, sym, ap, ◌∙◌, subst, arith, ℕ, ◌*◌, ◌%◌, ◌≤◌, Bool, true, false, cond, eqb, leb, List, [], ◌∷◌, ◌++◌, append_assoc, length, take, drop, Some, None, length-append}
+use Rattle.std.proofs.Common.{◌≡◌, refl, sym, ap, ◌∙◌, subst, arith, ℕ, ◌*◌, ◌%◌, ◌≤◌, Bool, true, false, cond, eqb, leb, List, [], ◌∷◌, ◌++◌, append_assoc, length, take, Some, None, length-append}
+use Rattle.std.proofs.lemmas.Option.{none-some, same_Some, cond_some}
 use Rattle.std.proofs.lemmas.List.{take-append-drop, length-take-le}
 use Rattle.std.specs.declared.option.Option.{Option}
-use borrow.Author.Tests.{le-leb, lt-leb, leb-true, eqb-true}
+use borrow.Author.Tests.{le-leb, leb-true, eqb-true}
 use lib.Seq.{take_at, drop_at}
-use Rattle.logic.proofs.Tests.{by_le}
 use Rattle.words.specs.Records.{flat}
 use Rattle.words.specs.Bytes.{word_bytes, word_of, words_in, bytes_of}
 use Rattle.words.specs.Theorems.{EveryByte}
@@ -15,30 +15,27 @@ use Rattle.calls.specs.Taken.{found, then_in, bytes_in, word_in, at_most, count_
 use Rattle.calls.specs.Theorems.{CallFound, FoundCall}
 
 -- a test decides
-pub chosen : {X Z : Type 0} (t : Bool) (x y v : X) → cond t x y ≡ v → (t ≡ true → x ≡ v → Z) → (t ≡ false → y ≡ v → Z) → Z
+chosen : {X Z : Type 0} (t : Bool) (x y v : X) → cond t x y ≡ v → (t ≡ true → x ≡ v → Z) → (t ≡ false → y ≡ v → Z) → Z
 chosen true x y v e f g = f refl e
 chosen false x y v e f g = g refl e
 
--- two answers that are one
-pub one_answer : {A : Type 0} (x y : A) (r s : List ℕ) → ◌≡◌ {A = Option (A × List ℕ)} (Some (x, r)) (Some (y, s)) → (x ≡ y) × (r ≡ s)
-one_answer {A} x y r s e =
-    let u : A × List ℕ = (x, r) in
-    let v : A × List ℕ = (y, s) in
-    let p : u ≡ v = cc in
-    (ap (λ (q : A × List ℕ). q.0) p, ap (λ (q : A × List ℕ). q.1) p)
+-- what was found and what is left, of two answers that are one
+pub halves : {A : Type 0} (p q : Option A × List ℕ) → p ≡ q → (p.0 ≡ q.0) × (p.1 ≡ q.1)
+halves {A} p q e = (ap (λ (r : Option A × List ℕ). r.0) e, ap (λ (r : Option A × List ℕ). r.1) e)
 
 -- what was found was found by its parts
-pub found_of : {A B : Type 0} (f : A → B) (o : Option (A × List ℕ)) (y : B) (rest : List ℕ) → found f o ≡ Some (y, rest)
-    → (x : A) × (o ≡ Some (x, rest)) × (f x ≡ y)
-found_of f None y rest e = cc
-found_of f (Some (x, r)) y rest e =
-    let p = one_answer (f x) y r rest e in
-    (x, ap (λ l. Some (x, l)) p.1, p.0)
+pub found_of : {A B : Type 0} (f : A → B) (o : Option A × List ℕ) (y : B) (rest : List ℕ) → found f o ≡ (Some y, rest)
+    → (x : A) × (o ≡ (Some x, rest)) × (f x ≡ y)
+found_of f (None, r) y rest e = absurd (none-some y (halves _ _ e).0)
+found_of {A} f (Some x, r) y rest e =
+    let p = halves _ _ e in
+    let pair : List ℕ → Option A × List ℕ = λ l. (Some x, l) in
+    (x, ap pair p.1, same_Some (f x) y p.0)
 
-pub then_of : {A B : Type 0} (o : Option (A × List ℕ)) (f : A → List ℕ → Option (B × List ℕ)) (y : B) (rest : List ℕ) → then_in o f ≡ Some (y, rest)
-    → (x : A) × (mid : List ℕ) × (o ≡ Some (x, mid)) × (f x mid ≡ Some (y, rest))
-then_of None f y rest e = cc
-then_of (Some (x, mid)) f y rest e = (x, mid, refl, e)
+pub then_of : {A B : Type 0} (o : Option A × List ℕ) (f : A → List ℕ → Option B × List ℕ) (y : B) (rest : List ℕ) → then_in o f ≡ (Some y, rest)
+    → (x : A) × (mid : List ℕ) × (o ≡ (Some x, mid)) × (f x mid ≡ (Some y, rest))
+then_of (None, r) f y rest e = absurd (none-some y (halves _ _ e).0)
+then_of (Some x, mid) f y rest e = (x, mid, refl, e)
 
 -- bytes that stand behind others are bytes
 every-left : (x y : List ℕ) → EveryByte (x ++ y) → EveryByte x
@@ -65,28 +62,25 @@ part_then : (bytes s mid t rest : List ℕ) → Part bytes s mid → Part mid t 
 part_then bytes s mid t rest p q h = part_of bytes (s ++ t) rest h (p.parts ∙ ap (λ l. s ++ l) q.parts ∙ sym (append_assoc s t rest))
 
 -- so many bytes
-bytes-found : (n : ℕ) (x rest : List ℕ) → length x ≡ n → bytes_in n (x ++ rest) ≡ Some (x, rest)
+bytes-found : (n : ℕ) (x rest : List ℕ) → length x ≡ n → bytes_in n (x ++ rest) ≡ (Some x, rest)
 unfolding bytes_in
 bytes-found n x rest e =
     let h : n ≤ length (x ++ rest) = omega (arith, length-append x rest) in
     rw (le-leb n (length (x ++ rest)) h, take_at x rest n e, drop_at x rest n e)
 
-pub found_bytes : (n : ℕ) (b x rest : List ℕ) → bytes_in n b ≡ Some (x, rest) → (b ≡ x ++ rest) × (length x ≡ n)
+pub found_bytes : (n : ℕ) (b x rest : List ℕ) → bytes_in n b ≡ (Some x, rest) → (b ≡ x ++ rest) × (length x ≡ n)
 unfolding bytes_in
 found_bytes n b x rest e =
-    by_le n (length b)
-    (λ h.
-    let f : Some (take n b, drop n b) ≡ Some (x, rest) = rw (le-leb n (length b) h) at e in
-    let p = one_answer (take n b) x (drop n b) rest f in
-    (rw (← p.0, ← p.1) (sym (take-append-drop n b)), rw (← p.0) (length-take-le n b h)))
-    (λ h. absurd (let f : None ≡ Some (x, rest) = rw (lt-leb n (length b) h) at e in cc))
+    let p = halves _ _ e in
+    let q = cond_some (leb n (length b)) (take n b) x p.0 in
+    (rw (← q.1, ← p.1) (sym (take-append-drop n b)), rw (← q.1) (length-take-le n b (leb-true n (length b) q.0)))
 
 -- a word
-word-found : (w : ℕ) (rest : List ℕ) → word_in (bytes_of w ++ rest) ≡ Some (w, rest)
+word-found : (w : ℕ) (rest : List ℕ) → word_in (bytes_of w ++ rest) ≡ (Some w, rest)
 unfolding word_in
 word-found w rest =
     let e : word_of (bytes_of w) ≡ w = omega arith in
-    ap (found word_of) (bytes-found word_bytes (bytes_of w) rest refl) ∙ ap (λ v. Some (v, rest)) e
+    ap (found word_of) (bytes-found word_bytes (bytes_of w) rest refl) ∙ ap (λ v. (Some v, rest)) e
 
 word-back : (b : List ℕ) → EveryByte b → length b ≡ word_bytes → bytes_of (word_of b) ≡ b
 word-back [] h e = absurd (omega arith)
@@ -96,7 +90,7 @@ word-back (p ∷ q ∷ r ∷ []) h e = absurd (omega arith)
 word-back (p ∷ q ∷ r ∷ s ∷ []) h e = bytes-of p q r s (word_of (p ∷ q ∷ r ∷ s ∷ [])) h.0 h.1.0 h.1.1.0 h.1.1.1.0 refl
 word-back (p ∷ q ∷ r ∷ s ∷ t ∷ b) h e = absurd (omega arith)
 
-found_word : (b rest : List ℕ) (w : ℕ) → EveryByte b → word_in b ≡ Some (w, rest) → Part b (bytes_of w) rest
+found_word : (b rest : List ℕ) (w : ℕ) → EveryByte b → word_in b ≡ (Some w, rest) → Part b (bytes_of w) rest
 unfolding word_in
 found_word b rest w h e =
     let p = found_of word_of (bytes_in word_bytes b) w rest e in
@@ -106,33 +100,30 @@ found_word b rest w h e =
     part_of b (bytes_of w) rest h (q.0 ∙ ap (λ s. s ++ rest) f)
 
 -- a count
-count-found : (most n : ℕ) (rest : List ℕ) → n ≤ most → count_in most (bytes_of n ++ rest) ≡ Some (n, rest)
+count-found : (most n : ℕ) (rest : List ℕ) → n ≤ most → count_in most (bytes_of n ++ rest) ≡ (Some n, rest)
 unfolding count_in
 count-found most n rest h = ap (λ o. then_in o (at_most most)) (word-found n rest) ∙ rw (le-leb n most h)
 
-found_count : (most n : ℕ) (b rest : List ℕ) → EveryByte b → count_in most b ≡ Some (n, rest) → Part b (bytes_of n) rest × (n ≤ most)
+found_count : (most n : ℕ) (b rest : List ℕ) → EveryByte b → count_in most b ≡ (Some n, rest) → Part b (bytes_of n) rest × (n ≤ most)
 unfolding count_in
 found_count most n b rest h e =
     let p = then_of (word_in b) (at_most most) n rest e in
     let q = found_word b p.1 p.0 h p.2 in
-    chosen (leb p.0 most) (Some (p.0, p.1)) None (Some (n, rest)) p.3
-    (λ t d.
-    let r = one_answer p.0 n p.1 rest d in (
-      subst (λ (m : ℕ). Part b (bytes_of m) rest) r.0 (subst (λ (l : List ℕ). Part b (bytes_of p.0) l) r.1 q),
-      subst (λ (m : ℕ). m ≤ most) r.0
-          (leb-true p.0 most t),
-    ))
-    (λ t d. absurd cc)
+    let r = halves _ _ p.3 in
+    let s = cond_some (leb p.0 most) p.0 n r.0 in (
+      subst (λ (m : ℕ). Part b (bytes_of m) rest) s.1 (subst (λ (l : List ℕ). Part b (bytes_of p.0) l) r.1 q),
+      subst (λ (m : ℕ). m ≤ most) s.1 (leb-true p.0 most s.0),
+    )
 
 -- a slice of words
-slice-found : (ws rest : List ℕ) → length ws ≤ most_words → slice_in (slice_bytes ws ++ rest) ≡ Some (ws, rest)
+slice-found : (ws rest : List ℕ) → length ws ≤ most_words → slice_in (slice_bytes ws ++ rest) ≡ (Some ws, rest)
 unfolding slice_in
 slice-found ws rest h =
     ap (λ o. then_in o (λ n behind. found words_in (bytes_in (word_bytes * n) behind))) (count-found most_words (length ws) (flat bytes_of ws ++ rest) h)
     ∙ ap (found words_in) (bytes-found (word_bytes * length ws) (flat bytes_of ws) rest (length-bytes ws))
-    ∙ ap (λ v. Some (v, rest)) (words-read ws)
+    ∙ ap (λ v. (Some v, rest)) (words-read ws)
 
-found_slice : (b ws rest : List ℕ) → EveryByte b → slice_in b ≡ Some (ws, rest) → Part b (slice_bytes ws) rest × (length ws ≤ most_words)
+found_slice : (b ws rest : List ℕ) → EveryByte b → slice_in b ≡ (Some ws, rest) → Part b (slice_bytes ws) rest × (length ws ≤ most_words)
 unfolding slice_in
 found_slice b ws rest h e =
     let p = then_of (count_in most_words b) (λ n behind. found words_in (bytes_in (word_bytes * n) behind)) ws rest e in
@@ -150,14 +141,14 @@ found_slice b ws rest h e =
     )
 
 -- two and three slices
-two-found : (x y rest : List ℕ) → length x ≤ most_words → length y ≤ most_words → two_in ((slice_bytes x ++ slice_bytes y) ++ rest) ≡ Some ((x, y), rest)
+two-found : (x y rest : List ℕ) → length x ≤ most_words → length y ≤ most_words → two_in ((slice_bytes x ++ slice_bytes y) ++ rest) ≡ (Some (x, y), rest)
 unfolding two_in
 two-found x y rest h k =
     ap (λ b. then_in (slice_in b) (λ x behind. found (λ y. (x, y)) (slice_in behind))) (append_assoc (slice_bytes x) (slice_bytes y) rest)
     ∙ ap (λ o. then_in o (λ x behind. found (λ y. (x, y)) (slice_in behind))) (slice-found x (slice_bytes y ++ rest) h)
     ∙ ap (found (λ y. (x, y))) (slice-found y rest k)
 
-found_two : (b rest : List ℕ) (x : List ℕ × List ℕ) → EveryByte b → two_in b ≡ Some (x, rest)
+found_two : (b rest : List ℕ) (x : List ℕ × List ℕ) → EveryByte b → two_in b ≡ (Some x, rest)
     → Part b (slice_bytes x.0 ++ slice_bytes x.1) rest × (length x.0 ≤ most_words) × (length x.1 ≤ most_words)
 unfolding two_in
 found_two b rest x h e =
@@ -168,14 +159,14 @@ found_two b rest x h e =
     rw (← r.2) (part_then b (slice_bytes p.0) p.1 (slice_bytes r.0) rest q.0 s.0 h, q.1, s.1)
 
 three-found : (x y z rest : List ℕ) → length x ≤ most_words → length y ≤ most_words → length z ≤ most_words
-    → three_in (((slice_bytes x ++ slice_bytes y) ++ slice_bytes z) ++ rest) ≡ Some ((x, y, z), rest)
+    → three_in (((slice_bytes x ++ slice_bytes y) ++ slice_bytes z) ++ rest) ≡ (Some (x, y, z), rest)
 unfolding three_in
 three-found x y z rest h k l =
     ap (λ b. then_in (two_in b) (λ x behind. found (λ z. (x.0, x.1, z)) (slice_in behind))) (append_assoc (slice_bytes x ++ slice_bytes y) (slice_bytes z) rest)
     ∙ ap (λ o. then_in o (λ x behind. found (λ z. (x.0, x.1, z)) (slice_in behind))) (two-found x y (slice_bytes z ++ rest) h k)
     ∙ ap (found (λ z. (x, y, z))) (slice-found z rest l)
 
-found_three : (b rest : List ℕ) (x : List ℕ × List ℕ × List ℕ) → EveryByte b → three_in b ≡ Some (x, rest)
+found_three : (b rest : List ℕ) (x : List ℕ × List ℕ × List ℕ) → EveryByte b → three_in b ≡ (Some x, rest)
     → Part b ((slice_bytes x.0 ++ slice_bytes x.1) ++ slice_bytes x.2) rest × (length x.0 ≤ most_words) × (length x.1 ≤ most_words) × (length x.2 ≤ most_words)
 unfolding three_in
 found_three b rest x h e =
@@ -186,7 +177,7 @@ found_three b rest x h e =
     rw (← r.2) (part_then b (slice_bytes p.0.0 ++ slice_bytes p.0.1) p.1 (slice_bytes r.0) rest q.0 s.0 h, q.1, q.2, s.1)
 
 -- a text
-text-found : (t pad rest : List ℕ) → length t ≤ most_bytes → length pad ≡ padding (length t) → text_in (counted (length t) t pad ++ rest) ≡ Some (t, rest)
+text-found : (t pad rest : List ℕ) → length t ≤ most_bytes → length pad ≡ padding (length t) → text_in (counted (length t) t pad ++ rest) ≡ (Some t, rest)
 unfolding text_in
 text-found t pad rest h e =
     ap (λ o. then_in o (λ n mid. then_in (bytes_in n mid) (λ text behind. found (λ pad. text) (bytes_in (padding n) behind))))
@@ -195,7 +186,7 @@ text-found t pad rest h e =
     ∙ ap (λ o. then_in o (λ text behind. found (λ pad. text) (bytes_in (padding (length t)) behind))) (bytes-found (length t) t (pad ++ rest) refl)
     ∙ ap (found (λ pad. t)) (bytes-found (padding (length t)) pad rest e)
 
-found_text : (b t rest : List ℕ) → EveryByte b → text_in b ≡ Some (t, rest)
+found_text : (b t rest : List ℕ) → EveryByte b → text_in b ≡ (Some t, rest)
     → (pad : List ℕ) × (length pad ≡ padding (length t)) × (b ≡ counted (length t) t pad ++ rest) × (length t ≤ most_bytes)
 unfolding text_in
 found_text b t rest h e =
@@ -255,7 +246,7 @@ called n k b mid rest call c body t w e d within sent = (
   w.parts ∙ ap (λ m. bytes_of m ++ mid) (eqb-true n k t) ∙ ap (λ s. bytes_of k ++ s) e ∙ sym (append_assoc (bytes_of k) body rest),
 )
 
-by_number : (b rest : List ℕ) (call : Call) (n : ℕ) (mid : List ℕ) → Part b (bytes_of n) mid → body_in n mid ≡ Some (call, rest) → Called b rest call
+by_number : (b rest : List ℕ) (call : Call) (n : ℕ) (mid : List ℕ) → Part b (bytes_of n) mid → body_in n mid ≡ (Some call, rest) → Called b rest call
 unfolding body_in
 by_number b rest call n mid w e =
     let h = w.left in
@@ -296,7 +287,7 @@ by_number b rest call n mid w e =
     let r = found_of (λ x. hidden x) (slice_in mid) call rest d in
     let s = found_slice mid r.0 rest h r.1 in
     called n 7 b mid rest call (hidden r.0) (slice_bytes r.0) t w s.0.parts r.2 s.1 refl)
-    (λ _ e. absurd (let f : None ≡ Some (call, rest) = e in cc))))))))
+    (λ _ e. absurd (none-some call (halves _ _ e).0))))))))
 
 pub found_call : FoundCall
 unfolding call_in Called

@@ -1,5 +1,5 @@
 -- Each call takes bytes, so that the replies are those to call after call. Assumes nothing.
-use Rattle.std.proofs.Common.{◌≡◌, refl, sym, ap, ◌∙◌, arith, ℕ, zero, suc, ◌+◌, ◌*◌, ◌<◌, ◌≤◌, Bool, true, false, cond, eqb, leb, List, [], ◌++◌, length, length-append, Some, None}
+use Rattle.std.proofs.Common.{◌≡◌, refl, sym, ap, ◌∙◌, arith, ℕ, zero, suc, ◌+◌, ◌*◌, ◌<◌, ◌≤◌, Bool, true, false, cond, eqb, List, [], ◌++◌, length, length-append, Some, None}
 use Rattle.std.specs.declared.option.Option.{Option}
 use Rattle.words.specs.Bytes.{word_bytes, word_of, words_in}
 use Rattle.calls.specs.Sent.{most_words, most_bytes, padding}
@@ -7,11 +7,11 @@ use Rattle.calls.specs.Calls.{Call, read, tree_action, compile, scan, number, li
 use Rattle.calls.specs.Taken.{found, then_in, bytes_in, word_in, at_most, count_in, slice_in, two_in, three_in, text_in, body_in, call_in}
 use Rattle.calls.specs.Session.{replies_then, session_up_to, session}
 use Rattle.calls.specs.Theorems.{CallShorter, SessionStep}
-use Rattle.calls.proofs.Found.{chosen, one_answer, found_of, then_of, found_bytes}
+use Rattle.calls.proofs.Found.{halves, found_of, then_of, found_bytes}
 
 -- what is left is no longer than what there was, less so much
-Shorter : {A : Type 0} → ℕ → (List ℕ → Option (A × List ℕ)) → Type 0
-Shorter {A} n find = (b rest : List ℕ) (x : A) → find b ≡ Some (x, rest) → length rest + n ≤ length b
+Shorter : {A : Type 0} → ℕ → (List ℕ → Option A × List ℕ) → Type 0
+Shorter {A} n find = (b rest : List ℕ) (x : A) → find b ≡ (Some x, rest) → length rest + n ≤ length b
 
 bytes-shorter : (n : ℕ) → Shorter n (bytes_in n)
 unfolding Shorter
@@ -19,20 +19,20 @@ bytes-shorter n b rest x e =
     let p = found_bytes n b x rest e in
     omega (arith, ap length p.0, length-append x rest, p.1)
 
-found-shorter : {A B : Type 0} (n : ℕ) (f : A → B) (find : List ℕ → Option (A × List ℕ)) → Shorter n find → Shorter n (λ b. found f (find b))
+found-shorter : {A B : Type 0} (n : ℕ) (f : A → B) (find : List ℕ → Option A × List ℕ) → Shorter n find → Shorter n (λ b. found f (find b))
 unfolding Shorter
 found-shorter n f find h b rest x e =
     let p = found_of f (find b) x rest e in
     h b rest p.0 p.1
 
-then-shorter : {A B : Type 0} (m n : ℕ) (find : List ℕ → Option (A × List ℕ)) (more : A → List ℕ → Option (B × List ℕ)) → Shorter m find
+then-shorter : {A B : Type 0} (m n : ℕ) (find : List ℕ → Option A × List ℕ) (more : A → List ℕ → Option B × List ℕ) → Shorter m find
     → ((x : A) → Shorter n (more x)) → Shorter (m + n) (λ b. then_in (find b) more)
 unfolding Shorter
 then-shorter m n find more h k b rest y e =
     let p = then_of (find b) more y rest e in
     omega (arith, h b p.1 p.0 p.2, k p.0 p.1 rest y p.3)
 
-less-shorter : {A : Type 0} (m n : ℕ) (find : List ℕ → Option (A × List ℕ)) → n ≤ m → Shorter m find → Shorter n find
+less-shorter : {A : Type 0} (m n : ℕ) (find : List ℕ → Option A × List ℕ) → n ≤ m → Shorter m find → Shorter n find
 unfolding Shorter
 less-shorter m n find l h b rest x e = omega (arith, h b rest x e)
 
@@ -43,9 +43,7 @@ word-shorter = found-shorter word_bytes word_of (bytes_in word_bytes) (bytes-sho
 most-shorter : (most n : ℕ) → Shorter 0 (at_most most n)
 unfolding Shorter
 most-shorter most n b rest x e =
-    chosen (leb n most) (Some (n, b)) None (Some (x, rest)) e
-    (λ _ d. omega (arith, ap length (one_answer n x b rest d).1))
-    (λ _ d. absurd cc)
+    omega (arith, ap length (halves _ _ e).1)
 
 count-shorter : (most : ℕ) → Shorter word_bytes (count_in most)
 unfolding count_in
@@ -85,14 +83,14 @@ text-shorter =
     (less-shorter n 0 (bytes_in n) (omega arith) (bytes-shorter n))
     (λ text. part-shorter (padding n) (λ pad. text))))
 
-either-shorter : {A : Type 0} (t : Bool) (f g : List ℕ → Option (A × List ℕ)) → Shorter 0 f → Shorter 0 g → Shorter 0 (λ b. cond t (f b) (g b))
+either-shorter : {A : Type 0} (t : Bool) (f g : List ℕ → Option A × List ℕ) → Shorter 0 f → Shorter 0 g → Shorter 0 (λ b. cond t (f b) (g b))
 unfolding Shorter
 either-shorter true f g h k = h
 either-shorter false f g h k = k
 
-none-shorter : (A : Type 0) → Shorter {A = A} 0 (λ b. None)
+none-shorter : (A : Type 0) → Shorter {A = A} 0 (λ b. (None, b))
 unfolding Shorter
-none-shorter A b rest x e = absurd cc
+none-shorter A b rest x e = omega (arith, ap length (halves _ _ e).1)
 
 body-shorter : (n : ℕ) → Shorter 0 (body_in n)
 unfolding body_in
@@ -110,15 +108,15 @@ unfolding call_in Shorter
 call-shorter bytes rest call e = then-shorter word_bytes 0 word_in body_in word-shorter body-shorter bytes rest call e
 
 -- the replies behind a call, by two functions that are one on what is shorter
-step : (b : List ℕ) (f g : List ℕ → List ℕ) → ((rest : List ℕ) → length rest < length b → f rest ≡ g rest) → (o : Option (Call × List ℕ)) → call_in b ≡ o
+step : (b : List ℕ) (f g : List ℕ → List ℕ) → ((rest : List ℕ) → length rest < length b → f rest ≡ g rest) → (o : Option Call × List ℕ) → call_in b ≡ o
     → replies_then o f ≡ replies_then o g
-step b f g h None e = refl
-step b f g h (Some (call, rest)) e = ap (λ l. reply_of call ++ l) (h rest (omega (arith, call-shorter b rest call e)))
+step b f g h (None, rest) e = refl
+step b f g h (Some call, rest) e = ap (λ l. reply_of call ++ l) (h rest (omega (arith, call-shorter b rest call e)))
 
 -- no bytes are no call
-no_call : (b : List ℕ) (f : List ℕ → List ℕ) → length b ≤ 0 → (o : Option (Call × List ℕ)) → call_in b ≡ o → replies_then o f ≡ []
-no_call b f h None e = refl
-no_call b f h (Some (call, rest)) e = absurd (omega (arith, call-shorter b rest call e))
+no_call : (b : List ℕ) (f : List ℕ → List ℕ) → length b ≤ 0 → (o : Option Call × List ℕ) → call_in b ≡ o → replies_then o f ≡ []
+no_call b f h (None, rest) e = refl
+no_call b f h (Some call, rest) e = absurd (omega (arith, call-shorter b rest call e))
 
 -- as many calls as there are bytes are all
 enough : (n m : ℕ) (b : List ℕ) → length b ≤ n → length b ≤ m → session_up_to n b ≡ session_up_to m b

@@ -1,6 +1,7 @@
 -- What was taken in parts, one behind the other. Assumes nothing.
 use Rattle.std.proofs.Common.{◌≡◌, refl, sym, ap, ◌∙◌, subst, ℕ, ◌<◌, ◌≤◌, List, [], length, take, drop, Some, None, IsSome, IsNone, is_some, arith}
 use Rattle.std.specs.Option.{IfSome}
+use Rattle.std.proofs.lemmas.Option.{none-some, same_Some}
 use Rattle.std.proofs.lemmas.List.{take_all, length-take-le}
 use borrow.Author.Tests.{le-leb, lt-leb}
 use Rattle.logic.proofs.Tests.{by_le}
@@ -18,24 +19,22 @@ failed_or None f g = g refl
 failed_or (Some e) f g = f refl
 
 -- nothing was found, so nothing is found behind it
-none-then : {A B : Type 0} (o : Option (A × List ℕ)) (f : A → List ℕ → Option (B × List ℕ)) (rest after : Option (List ℕ)) → TakenFrom o rest None
-    → TakenFrom (then_in o f) after None
-none-then None f rest after p = refl
-none-then (Some (x, behind)) f rest after p = absurd (let e : None ≡ Some x = p.0 in cc)
+none-then : {A B : Type 0} (o : Option A × List ℕ) (f : A → List ℕ → Option B × List ℕ) (rest : Option (List ℕ)) → TakenFrom o rest None
+    → TakenFrom (then_in o f) rest None
+none-then (None, behind) f rest p = (refl, p.1)
+none-then (Some x, behind) f rest p = absurd (none-some x p.0)
 
 -- one part was found, and then what is found behind it
-some-then : {A B : Type 0} (o : Option (A × List ℕ)) (f : A → List ℕ → Option (B × List ℕ)) (x : A) (t : Option B) (rest after : Option (List ℕ))
+some-then : {A B : Type 0} (o : Option A × List ℕ) (f : A → List ℕ → Option B × List ℕ) (x : A) (t : Option B) (rest after : Option (List ℕ))
     → TakenFrom o rest (Some x) → ((behind : List ℕ) → rest ≡ Some behind → TakenFrom (f x behind) after t) → TakenFrom (then_in o f) after t
-some-then None f x t rest after p q = absurd (let e : Some x ≡ None = p in cc)
-some-then {A} {B} (Some (y, behind)) f x t rest after p q =
-    let e : x ≡ y = let d : Some x ≡ Some y = p.0 in cc in
-    subst (λ (z : A). TakenFrom (f z behind) after t) e (q behind p.1)
+some-then (None, behind) f x t rest after p q = absurd (none-some x (sym p.0))
+some-then {A} {B} (Some y, behind) f x t rest after p q =
+    subst (λ (z : A). TakenFrom (f z behind) after t) (same_Some x y p.0) (q behind p.1)
 
 -- what was found, as a function has it
-map-found : {A B : Type 0} (o : Option (A × List ℕ)) (f : A → B) (t : Option A) (rest : Option (List ℕ)) → TakenFrom o rest t
+map-found : {A B : Type 0} (o : Option A × List ℕ) (f : A → B) (t : Option A) (rest : Option (List ℕ)) → TakenFrom o rest t
     → TakenFrom (found f o) rest (option_map f t)
-map-found None f t rest p = ap (option_map f) p
-map-found (Some (x, behind)) f t rest p = (ap (option_map f) p.0, p.1)
+map-found o f t rest p = (ap (option_map f) p.0, p.1)
 
 -- so many bytes are there, or fewer
 full : (all buf : List ℕ) (rest : Option (List ℕ)) → buf ≡ take (length buf) all → rest ≡ Some (drop (length buf) all)
@@ -46,13 +45,13 @@ full all buf rest e r =
     (λ h. rw (le-leb (length buf) (length all) h) (ap Some e, r))
     (λ h. absurd (omega (arith, ap length (e ∙ take_all (length buf) all (omega arith)))))
 
-short : (all buf : List ℕ) (rest : Option (List ℕ)) (m : ℕ) → take m buf ≡ take (length buf) all → m < length buf
-    → TakenFrom (bytes_in (length buf) all) rest None
+short : (all buf : List ℕ) (rest : Option (List ℕ)) (m : ℕ) → take m buf ≡ take (length buf) all → rest ≡ Some (drop (length buf) all)
+    → m < length buf → TakenFrom (bytes_in (length buf) all) rest None
 unfolding bytes_in
-short all buf rest m e h =
+short all buf rest m e r h =
     by_le (length buf) (length all)
     (λ l. absurd (omega (arith, ap length e, length-take-le m buf (omega arith), length-take-le (length buf) all l)))
-    (λ l. rw (lt-leb (length buf) (length all) l) refl)
+    (λ l. rw (lt-leb (length buf) (length all) l) (refl, r))
 
 none-map : {A B : Type 0} (f : A → B) (t : Option A) → IsNone t → IsNone (option_map f t)
 none-map f None h = h
@@ -60,18 +59,18 @@ none-map f (Some x) h = absurd (cc)
 
 module _ {R : Type 0} (remaining : R → Option (List ℕ)) where
   -- nothing was taken, so nothing is taken behind it
-  pub takes-none : {A B : Type 0} (find : List ℕ → Option (A × List ℕ)) (f : A → List ℕ → Option (B × List ℕ)) (a b : Input R) (t : Option B)
+  pub takes-none : {A B : Type 0} (find : List ℕ → Option A × List ℕ) (f : A → List ℕ → Option B × List ℕ) (a b : Input R) (t : Option B)
       → t ≡ None → Takes remaining find a b None → Takes remaining (λ all. then_in (find all) f) a b t
   takes-none {A} {B} find f a b t e p =
       let none : Option B = None in
       let q : Takes remaining (λ all. then_in (find all) f) a b none = record {
-        known = λ all e h. none-then (find all) f (left remaining b) (left remaining b) (p.known all e h);
+        known = λ all e h. none-then (find all) f (left remaining b) (p.known all e h);
         failed = λ _. refl;
       } in
       subst (λ (r : Option B). Takes remaining (λ all. then_in (find all) f) a b r) (sym e) q
 
   -- one part, and then what is behind it
-  pub takes-then : {A B : Type 0} (find : List ℕ → Option (A × List ℕ)) (f : A → List ℕ → Option (B × List ℕ)) (a b c : Input R) (x : A) (t : Option B)
+  pub takes-then : {A B : Type 0} (find : List ℕ → Option A × List ℕ) (f : A → List ℕ → Option B × List ℕ) (a b c : Input R) (x : A) (t : Option B)
       → Takes remaining find a b (Some x) → Takes remaining (f x) b c t → Takes remaining (λ all. then_in (find all) f) a c t
   takes-then find f a b c x t p q = record {
     known = λ all e h.
@@ -82,7 +81,7 @@ module _ {R : Type 0} (remaining : R → Option (List ℕ)) where
   }
 
   -- what was taken, as a function has it
-  pub takes-found : {A B : Type 0} (find : List ℕ → Option (A × List ℕ)) (f : A → B) (a b : Input R) (t : Option A) (u : Option B)
+  pub takes-found : {A B : Type 0} (find : List ℕ → Option A × List ℕ) (f : A → B) (a b : Input R) (t : Option A) (u : Option B)
       → u ≡ option_map f t → Takes remaining find a b t → Takes remaining (λ all. found f (find all)) a b u
   takes-found {A} {B} find f a b t u e p =
       let q : Takes remaining (λ all. found f (find all)) a b (option_map f t) = record {
@@ -92,7 +91,7 @@ module _ {R : Type 0} (remaining : R → Option (List ℕ)) where
       subst (λ (r : Option B). Takes remaining (λ all. found f (find all)) a b r) (sym e) q
 
   -- a number that is no more than so much, and one that is
-  pub takes-most : (find : List ℕ → Option (ℕ × List ℕ)) (most n : ℕ) (a b : Input R) → n ≤ most → Takes remaining find a b (Some n)
+  pub takes-most : (find : List ℕ → Option ℕ × List ℕ) (most n : ℕ) (a b : Input R) → n ≤ most → Takes remaining find a b (Some n)
       → Takes remaining (λ all. then_in (find all) (at_most most)) a b (Some n)
   takes-most find most n a b h p = record {
     known = λ all e k.
@@ -101,12 +100,12 @@ module _ {R : Type 0} (remaining : R → Option (List ℕ)) where
     failed = p.failed;
   }
 
-  pub takes-more : (find : List ℕ → Option (ℕ × List ℕ)) (most n : ℕ) (a b : Input R) → most < n → Takes remaining find a b (Some n)
+  pub takes-more : (find : List ℕ → Option ℕ × List ℕ) (most n : ℕ) (a b : Input R) → most < n → Takes remaining find a b (Some n)
       → Takes remaining (λ all. then_in (find all) (at_most most)) a b None
   takes-more find most n a b h p = record {
     known = λ all e k.
         some-then (find all) (at_most most) n None (left remaining b) (left remaining b) (p.known all e k)
-        (λ behind d. rw (lt-leb n most h) refl);
+        (λ behind d. rw (lt-leb n most h) (refl, d));
     failed = λ _. refl;
   }
 
@@ -130,12 +129,14 @@ module _ {R : Type 0} (remaining : R → Option (List ℕ)) where
   pub takes-short : (a b : Input R) (buf : List ℕ) (n : Option ℕ) (m : ℕ) → Fills remaining a b buf n → n ≡ Some m → m < length buf
       → Takes remaining (bytes_in (length buf)) a b None
   takes-short a b buf n m p e h = record {
-    known = λ all d k. short all buf (left remaining b) m (read-bytes all (left remaining b) buf m (reads a b buf all n m p e d)) h;
+    known = λ all d k.
+        let r = reads a b buf all n m p e d in
+        short all buf (left remaining b) m (read-bytes all (left remaining b) buf m r) (read-left all (left remaining b) buf m r) h;
     failed = λ _. refl;
   }
 
   -- no call was taken, so no reply was given
-  pub answers-none : {A S T : Type 0} (gives : S → List ℕ → S → Type 0) (find : List ℕ → Option (A × List ℕ)) (f : A → Call) (a b : Input R) (s : S)
+  pub answers-none : {A S T : Type 0} (gives : S → List ℕ → S → Type 0) (find : List ℕ → Option A × List ℕ) (f : A → Call) (a b : Input R) (s : S)
       (r : Option T)
       → gives s [] s → r ≡ None → Takes remaining find a b None → Answers remaining gives (λ all. found f (find all)) a b s s r
   answers-none gives find f a b s r h e p = record {
@@ -146,7 +147,7 @@ module _ {R : Type 0} (remaining : R → Option (List ℕ)) where
   }
 
   -- one was, and its reply was given
-  pub answers-some : {A S T : Type 0} (gives : S → List ℕ → S → Type 0) (find : List ℕ → Option (A × List ℕ)) (f : A → Call) (a b : Input R) (s t : S)
+  pub answers-some : {A S T : Type 0} (gives : S → List ℕ → S → Type 0) (find : List ℕ → Option A × List ℕ) (f : A → Call) (a b : Input R) (s t : S)
       (x : A) (u : T)
       → Takes remaining find a b (Some x) → gives s (reply_of (f x)) t → Answers remaining gives (λ all. found f (find all)) a b s t (Some u)
   answers-some gives find f a b s t x u p h = record {
@@ -179,7 +180,8 @@ module _ {R : Type 0} (remaining : R → Option (List ℕ)) where
   }
 
   pub answers-no_call : {S T : Type 0} (gives : S → List ℕ → S → Type 0) (a b : Input R) (s : S) (w : ℕ) (r : Option T)
-      → gives s [] s → r ≡ None → Takes remaining word_in a b (Some w) → ((body : List ℕ) → body_in w body ≡ None) → Answers remaining gives call_in a b s s r
+      → gives s [] s → r ≡ None → Takes remaining word_in a b (Some w) → ((body : List ℕ) → body_in w body ≡ (None, body))
+      → Answers remaining gives call_in a b s s r
   unfolding call_in
   answers-no_call gives a b s w r h e p f =
       let none : Option Call = None in
@@ -188,7 +190,7 @@ module _ {R : Type 0} (remaining : R → Option (List ℕ)) where
         taken = record {
           known = λ all d k.
               some-then (word_in all) body_in w none (left remaining b) (left remaining b) (p.known all d k)
-              (λ body _. subst (λ (o : Option (Call × List ℕ)). TakenFrom o (left remaining b) none) (sym (f body)) refl);
+              (λ body d. subst (λ (o : Option Call × List ℕ). TakenFrom o (left remaining b) none) (sym (f body)) (refl, d));
           failed = λ _. refl;
         };
         given = h;

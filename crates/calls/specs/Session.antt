@@ -8,9 +8,9 @@ use Rattle.calls.specs.Calls.{Call, reply_of}
 use Rattle.calls.specs.Taken.{call_in}
 
 -- the reply to a call that was found, and more for the bytes behind it; none where none was found
-abbrev pub replies_then : Option (Call × List ℕ) → (List ℕ → List ℕ) → List ℕ
-replies_then None more = []
-replies_then (Some (call, rest)) more = reply_of call ++ more rest
+abbrev pub replies_then : Option Call × List ℕ → (List ℕ → List ℕ) → List ℕ
+replies_then (None, rest) more = []
+replies_then (Some call, rest) more = reply_of call ++ more rest
 
 -- the replies to the first n calls
 unfoldable pub session_up_to : ℕ → List ℕ → List ℕ

@@ -14,16 +14,16 @@ use Rattle.calls.specs.Session.{replies_then, session}
 
 -- a call as it is sent is found, with what stands behind it left
 abbrev pub CallFound : Type 0
-CallFound = (call : Call) (sent rest : List ℕ) → IsCall call sent → call_in (sent ++ rest) ≡ Some (call, rest)
+CallFound = (call : Call) (sent rest : List ℕ) → IsCall call sent → call_in (sent ++ rest) ≡ (Some call, rest)
 
 -- and what is found is a call as it is sent, with what is left behind it
 abbrev pub FoundCall : Type 0
-FoundCall = (bytes rest : List ℕ) (call : Call) → EveryByte bytes → call_in bytes ≡ Some (call, rest)
+FoundCall = (bytes rest : List ℕ) (call : Call) → EveryByte bytes → call_in bytes ≡ (Some call, rest)
     → (sent : List ℕ) × IsCall call sent × (bytes ≡ sent ++ rest)
 
 -- each call takes at least its number from the bytes
 abbrev pub CallShorter : Type 0
-CallShorter = (bytes rest : List ℕ) (call : Call) → call_in bytes ≡ Some (call, rest)
+CallShorter = (bytes rest : List ℕ) (call : Call) → call_in bytes ≡ (Some call, rest)
     → length rest + word_bytes ≤ length bytes
 
 -- the replies are the one to the first call, and those to the calls behind it

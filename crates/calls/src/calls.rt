@@ -39,9 +39,10 @@ impl Room {
         }
     }
 
-    /// Takes one call and puts its reply into a sink. `None`, and nothing is put in, where the input ends within the
-    /// call, where its number is none, where a slice is too long and where a read failed; how far the input was read
-    /// then is left open.
+    /// Takes one call and puts its reply into a sink, and reads no byte behind the call. `None`, and nothing is put in,
+    /// where the input ends within the call, where its number is none, where a slice is too long and where a read
+    /// failed. No byte is read behind such a number or such a slice's length. Only where a read failed is it left open
+    /// how far the input was read.
     pub fn answer<R: Read, S: Sink>(&mut self, input: &mut Input<R>, sink: &mut S) -> Option<()>
         ensures { Answers R.remaining S.gives call_in input.old input.new sink.old sink.new result }
     {

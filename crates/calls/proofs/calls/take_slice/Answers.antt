@@ -10,7 +10,7 @@ use Rattle.calls.proofs.Takes.{takes-none, takes-then, takes-found}
 use Rattle.calls.proofs.calls.take_slice.Goals as goal
 
 -- what is found behind a count
-abbrev behind : ℕ → List ℕ → Option (List ℕ × List ℕ)
+abbrev behind : ℕ → List ℕ → Option (List ℕ) × List ℕ
 behind n rest = found words_in (bytes_in (word_bytes * n) rest)
 
 pub returns-in_err-count-clause-taken : goal.returns-in_err-count-clause-taken

@@ -11,10 +11,10 @@ use Rattle.calls.proofs.Takes.{takes-none, takes-then, takes-found}
 use Rattle.calls.proofs.calls.take_text.Goals as goal
 
 -- what is found behind the bytes, and behind the count
-abbrev last : ℕ → List ℕ → List ℕ → Option (List ℕ × List ℕ)
+abbrev last : ℕ → List ℕ → List ℕ → Option (List ℕ) × List ℕ
 last n text behind = found (λ pad. text) (bytes_in (padding n) behind)
 
-abbrev behind : ℕ → List ℕ → Option (List ℕ × List ℕ)
+abbrev behind : ℕ → List ℕ → Option (List ℕ) × List ℕ
 behind n rest = then_in (bytes_in n rest) (last n)
 
 pub returns-in_err-count-clause-taken : goal.returns-in_err-count-clause-taken

@@ -38,7 +38,7 @@ returns-in-7 g c =
     answers-number g.R.Read.remaining g.S.Sink.gives _ _ _ _ _ _ 7 _ c.in_ok-take_word.ensures c.in-7.is c.answer_hidden.ensures
 
 -- another number is that of no call
-no_body : (w : ℕ) (body : List ℕ) → w ≢ 1 → w ≢ 2 → w ≢ 3 → w ≢ 4 → w ≢ 5 → w ≢ 6 → w ≢ 7 → body_in w body ≡ None
+no_body : (w : ℕ) (body : List ℕ) → w ≢ 1 → w ≢ 2 → w ≢ 3 → w ≢ 4 → w ≢ 5 → w ≢ 6 → w ≢ 7 → body_in w body ≡ (None, body)
 unfolding body_in
 no_body w body a b c d e f g =
     rw (ne_eqb w 1 a, ne_eqb w 2 b, ne_eqb w 3 c, ne_eqb w 4 d, ne_eqb w 5 e, ne_eqb w 6 f, ne_eqb w 7 g) refl

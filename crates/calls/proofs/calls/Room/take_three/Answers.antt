@@ -7,7 +7,7 @@ use Rattle.calls.proofs.Takes.{takes-none, takes-then, takes-found}
 use Rattle.calls.proofs.calls.Room.take_three.Goals as goal
 
 -- what is found behind the first
-abbrev behind : (List ℕ × List ℕ) → List ℕ → Option ((List ℕ × List ℕ × List ℕ) × List ℕ)
+abbrev behind : (List ℕ × List ℕ) → List ℕ → Option (List ℕ × List ℕ × List ℕ) × List ℕ
 behind x rest = found (λ y. (x.0, x.1, y)) (slice_in rest)
 
 pub returns-in_err-first-clause-taken : goal.returns-in_err-first-clause-taken
