@@ -11,7 +11,8 @@ use Rattle.std.specs.Result.{IsErr, IsErrAnd, result_from_control_flow}
 use Rattle.std.specs.declared.ops.ControlFlow.TheVariants.{Continue, Break}
 use Rattle.std.proofs.lemmas.Result.{err_from_is_err_and}
 use Rattle.std.proofs.lemmas.Iterator.{YieldsList}
-use Rattle.std.specs.Prelude.{Option, Some, None}
+use Rattle.std.specs.Prelude.{Option, Some, None, drop}
+use Rattle.std.proofs.lemmas.List.{drop-map}
 use mathlib.Core.Logic.{⊎_elim}
 use mathlib.Core.Bool.{Bool, true, ◌&&◌}
 use mathlib.Core.List.Memᴰ
@@ -19,6 +20,7 @@ use mathlib.Core.List.{List, [], ◌∷◌, ◌++◌, map, foldr}
 use Rattle.logic.proofs.Tests.{and_left, and_right}
 use Rattle.std.specs.Prelude.{Ok, Err}
 use Rattle.action.specs.Laws.{◌else◌, ◌among◌, Searched, along, product}
+use Rattle.action.specs.Search.{later}
 use Rattle.action.specs.declared.LawFailure.{LawFailure}
 
 -- searches along a joined list, and along a list's images
@@ -26,13 +28,27 @@ else-assoc : (x y z : Searched) → ◌else◌ x (◌else◌ y z) ≡ ◌else◌
 else-assoc (Ok u) y z = refl
 else-assoc (Err f) y z = refl
 
-along-append : {X : Type 0} (t : X → Searched) (xs ys : List X) → along t (xs ++ ys) ≡ ◌else◌ (along t xs) (along t ys)
+pub along-append : {X : Type 0} (t : X → Searched) (xs ys : List X) → along t (xs ++ ys) ≡ ◌else◌ (along t xs) (along t ys)
 along-append t [] ys = refl
 along-append t (x ∷ xs) ys = ap (λ z. ◌else◌ (t x) z) (along-append t xs ys) ∙ else-assoc (t x) (along t xs) (along t ys)
 
-along-map : {X Y : Type 0} (t : Y → Searched) (f : X → Y) (xs : List X) → along t (map f xs) ≡ along (λ x. t (f x)) xs
+pub along-map : {X Y : Type 0} (t : Y → Searched) (f : X → Y) (xs : List X) → along t (map f xs) ≡ along (λ x. t (f x)) xs
 along-map t f [] = refl
 along-map t f (x ∷ xs) = ap (λ z. ◌else◌ (t (f x)) z) (along-map t f xs)
+
+-- what stands after an entry, of a list's images
+pub later-map : {X Y : Type 0} (f : X → Y) (i : ℕ) (xs : List X) → later i (map f xs) ≡ map f (later i xs)
+later-map f i xs = ap (drop 1) (drop-map f i xs) ∙ drop-map f 1 (drop i xs)
+
+-- searches that find the same at each entry find the same, and the second of two answers counts only where the first is nothing
+pub along-same : {X : Type 0} (t u : X → Searched) (xs : List X) → ((x : X) → x among xs → t x ≡ u x) → along t xs ≡ along u xs
+along-same t u [] f = refl
+along-same t u (x ∷ xs) f =
+    ap₂ (λ (y z : Searched). ◌else◌ y z) (f x (Memᴰ.head refl)) (along-same t u xs (λ y m. f y (Memᴰ.tail m)))
+
+pub else-same : (x x' y y' : Searched) → x ≡ x' → (x ≡ Ok tt → y ≡ y') → ◌else◌ x y ≡ ◌else◌ x' y'
+else-same (Ok u) x' y y' e f = rw (← e) (f refl)
+else-same (Err g) x' y y' e f = rw (← e) refl
 
 -- a search along all pairs is one along the first list, of searches along the second
 pub along-product : {X Y : Type 0} (t : X × Y → Searched) (xs : List X) (ys : List Y) → along t (product xs ys) ≡ along (λ x. along (λ y. t (x, y)) ys) xs
@@ -111,8 +127,10 @@ module _ {S A X F : Type 0} (steps : S → Option A → S → Type 0) (v : A →
 
 pub tried : {S A X F : Type 0} {steps : S → Option A → S → Type 0} {v : A → X} {g : Mut F (A × Unit {0}) Searched} {s : S} {all : List X}
     (t : X → Searched) (u : S) (f : F) (r : Searched)
-    → (xs : List A) × (o : Option A) × (j : F) × YieldsThen steps s xs o u × FoldsTo (TryForEachTurn g (λ w b. w ≡ result_from_control_flow b)) f xs j × Stops g r j o
+    → (xs : List A) × (o : Option A) × (j : F) × YieldsThen steps s xs o u
+    × FoldsTo (TryForEachTurn g (λ w b. w ≡ result_from_control_flow b)) f xs j × Stops g r j o
     → YieldsList steps v s all
     → ((x : A) (w : Searched) (q : F) → Called g f (x, tt) w q → (q ≡ f) × (w ≡ t (v x)))
     → r ≡ along t all
-tried {steps = steps} {v = v} {g = g} {s = s} {all = all} t u f r d e answers = tries steps v g t f answers d.0 all s d.3.0 u d.2 d.1 r e.runs d.3.1 d.4 d.3.2 d.5
+tried {steps = steps} {v = v} {g = g} {s = s} {all = all} t u f r d e answers =
+    tries steps v g t f answers d.0 all s d.3.0 u d.2 d.1 r e.runs d.3.1 d.4 d.3.2 d.5

@@ -7,9 +7,10 @@ use mathlib.Core.List.{List}
 use lib.Dec.{eqb, leb, ltb}
 use lib.ListN.{get_or}
 use borrow.Author.Tests.{eqb-true, leb-true}
+use Rattle.std.proofs.lemmas.List.{get_or_past}
 use Rattle.logic.proofs.Tests.{by-test, by_le, and_right}
 use Rattle.action.specs.Action.{gmb, kind_of, rate_of, action_of}
-use Rattle.action.specs.Operator.{kinds, cell_count, cell, rate_cell, rate_cells, largest_code, largest_rate_code, largest_in, coded, join}
+use Rattle.action.specs.Operator.{kinds, cell_count, cell, rate_cell, rate_cells, largest_code, largest_rate_code, largest_in, codes, coded, join}
 use Rattle.action.specs.Operator.{right_cell, RightCodes}
 use Rattle.action.specs.declared.Action.{Action}
 use Rattle.action.specs.declared.Action.TheVariants.{DontCare, Allow, Deny, Gmb}
@@ -36,6 +37,16 @@ by-rates P larger smaller sum c l h =
     (λ k. by_le c 6
     (λ j. let e : c ≡ 6 = omega arith in rw e smaller)
     (λ j. let e : c ≡ 7 = omega arith in rw e sum))
+
+-- any code: one that is unknown gives don't care
+pub by-code : (P : ℕ → Type 0) → ((c : ℕ) → c ≤ largest_code → P c) → P 5 → P 6 → P 7 → ((c : ℕ) → largest_rate_code < c → P c) → (c : ℕ) → P c
+by-code P plain larger smaller sum unknown c =
+    by_le c largest_code (plain c) (λ h.
+    by_le c largest_rate_code (by-rates P larger smaller sum c h) (unknown c))
+
+pub unknown-code : (c : ℕ) (a b : Action) → largest_rate_code < c → coded c a b ≡ DontCare
+unfolding coded
+unknown-code c a b h = get_or_past (codes a b) c DontCare (omega (arith, h))
 
 -- don't care, or another action
 pub by-care : {X : Type 0} (a : Action) → (a ≡ DontCare → X) → (¬ (a ≡ DontCare) → X) → X

@@ -4,7 +4,6 @@ use Prim.Native.Nat.{ℕ, ◌<◌}
 use native.Mathlib.Omega.{arith}
 use mathlib.Core.Path.{◌≡◌, refl}
 use Rattle.std.specs.Prelude.{Ok, Err}
-use mathlib.Core.Bool.{Bool, true, false}
 use mathlib.Core.List.{List}
 use lib.ListN.{get_or}
 use Rattle.logic.proofs.Tests.{by-test, by_le}
@@ -20,23 +19,17 @@ use Rattle.action.specs.declared.LawFailure.TheVariants.{Commutativity, Associat
 use Rattle.action.proofs.Along.{else-left, else-right, along-ok, ok-along, else-failure, along-failure, all_among}
 use Rattle.action.proofs.Product.{among-product, product-among}
 use Rattle.action.proofs.Joined.{identity}
-use Rattle.action.proofs.Same.{same-eq, eq-same, unequal}
+use Rattle.action.proofs.Same.{same-eq, unequal}
 use Rattle.action.proofs.Codes.{adding, by-care, rate-code}
+use Rattle.action.proofs.Commuting.{tested, kept, commutes-listed}
 use Rattle.action.proofs.Rates.{Ninth, Shown, Spread, spread, shown_of, one-shown, two-shown, four-shown, rising-follows, commutes-rerate, associates-rerate}
 use Rattle.action.proofs.Sums.{sums, rated-join, adding-follows, one-two, two-one, two-four, both-four, one-both}
-
-tested : (b : Bool) (f : LawFailure) → told b f ≡ Ok tt → b ≡ true
-tested true f e = refl
-tested false f e = cc
 
 -- where nothing is found, the laws hold at the actions of the list
 module _ (o : List ℕ) (quiet : law_search o ≡ Ok tt) where
   commutes-shown : (u v : Action) → u among shown → v among shown → join o u v ≡ join o v u
-  unfolding commutes pairs first_pair law_search
-  commutes-shown u v m n =
-      same-eq (join o u v) (join o v u)
-      (tested _ _
-      (along-ok (commutes o) pairs (else-left (first_pair o) (first_triple o) quiet) (u, v) (among-product (u, v) shown shown m n)))
+  unfolding law_search
+  commutes-shown = commutes-listed o (else-left (first_pair o) (first_triple o) quiet)
 
   associates-shown : (u v w : Action) → u among shown → v among shown → w among shown → join o (join o u v) w ≡ join o u (join o v w)
   unfolding associates pairs triples first_triple law_search
@@ -128,9 +121,6 @@ module _ (o : List ℕ) (r : RightCodes o) (quiet : law_search o ≡ Ok tt) wher
 pub shown-in-range : ShownInRange
 unfolding shown in_range
 shown-in-range = all_among in_range shown refl
-
-kept : (x y : Action) (f : LawFailure) → x ≡ y → told (same x y) f ≡ Ok tt
-kept x y f e = rw (eq-same x y e)
 
 pub lawful-quiet : (o : List ℕ) → Commutative o → Associative o → law_search o ≡ Ok tt
 unfolding commutes associates pairs triples first_pair first_triple law_search

@@ -1,11 +1,14 @@
 pub mod Cells
 pub mod Joined
 pub mod Along
+pub mod Mapped
 pub mod Product
 pub mod Words
 pub mod Codes
 pub mod Rates
 pub mod Sums
 pub mod Same
+pub mod Commuting
+pub mod Backwards
 pub mod Ranged
 pub mod Exact

@@ -38,7 +38,7 @@ abbrev pub Ninth : List ℕ → (ℕ → ℕ) → Action → Action → Type 0
 Ninth o f a b = (m n : ℕ) → a ≡ Gmb m → b ≡ Gmb n → Follows f (get_or o rate_cell 0) (Gmb m) (Gmb n)
 
 -- a plain code gives one of the two whole, or no rate
-plain-follows : (f : ℕ → ℕ) (c : ℕ) (a b : Action) → c ≤ largest_code → Follows f c a b
+pub plain-follows : (f : ℕ → ℕ) (c : ℕ) (a b : Action) → c ≤ largest_code → Follows f c a b
 unfolding coded
 plain-follows f c a b h = by-plain (λ c. Follows f c a b) refl refl refl refl refl c h
 
@@ -115,6 +115,14 @@ pub record Reached (f : ℕ → ℕ) (n : ℕ) : Type 0 where
   pub becomes : f from ≡ n
 
 -- those of the list
+pub allow-shown : Allow among shown
+unfolding shown
+allow-shown = Memᴰ.head refl
+
+pub deny-shown : Deny among shown
+unfolding shown
+deny-shown = Memᴰ.tail (Memᴰ.head refl)
+
 pub one-shown : Gmb 1 among shown
 unfolding shown
 one-shown = Memᴰ.tail (Memᴰ.tail (Memᴰ.head refl))

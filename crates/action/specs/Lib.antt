@@ -1,4 +1,5 @@
 pub mod Action
 pub mod Operator
 pub mod Laws
+pub mod Search
 pub mod Theorems

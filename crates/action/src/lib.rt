@@ -8,8 +8,8 @@ ghost use Rattle.action.specs.Action.{largest_rate, kind_of, rate_of, action_of,
 ghost use Rattle.action.specs.declared.Action.TheVariants.{DontCare};
 ghost use Rattle.action.specs.Operator.{kinds, cell_count, cells_of, coded, join, sibling, parent};
 ghost use Rattle.action.specs.Operator.{rate_cells, largest_in, right_cell};
-ghost use Rattle.action.specs.Laws.{first_pair, with_second, first_triple, with_pair, with_third, law_search};
-ghost use Rattle.action.specs.Laws.{actions_of};
+ghost use Rattle.action.specs.Laws.{law_search, actions_of};
+ghost use Rattle.action.specs.Search.{joins, joined, second_by, pair_by, third_by, second_pair_by, triple_by};
 
 use std::array;
 use words::word;
@@ -67,6 +67,9 @@ static SAMPLES: [Action; 5] = [
     Action::Gmb(2),
     Action::Gmb(4),
 ];
+
+// What an action gives with each of the samples.
+type Joins = [Action; 5];
 
 /// The words of an action: its kind and its rate.
 pub type ActionWords = [u32; 2];
@@ -135,8 +138,8 @@ impl From<Action> for ActionWords {
 
     ghost from_gives = { λ a r. r ≡ kind_of a ∷ rate_of a ∷ [] };
 
-    fn from(a: Action) -> ActionWords {
-        [a.kind(), a.rate()]
+    fn from(action: Action) -> ActionWords {
+        [action.kind(), action.rate()]
     }
 }
 
@@ -208,38 +211,56 @@ impl Operator {
     pub fn join(&self, left: Action, right: Action) -> Action
         ensures { result ≡ join self.now.cells left right }
     {
-        if left == Action::DONT_CARE {
-            return right;
-        }
-        if right == Action::DONT_CARE {
-            return left;
-        }
-        let cell = (left.kind() - 1) * KINDS + (right.kind() - 1);
-        coded(word(&self.cells, cell as usize), left, right)
+        join_by(&self.cells, left, right)
     }
 
     /// The first pair that breaks commutativity, or else the first triple that breaks associativity.
-    #[tactic(auto, unfolding(crate::specs::Laws::law_search))]
     pub fn law_search(self) -> Result<(), LawFailure>
         ensures { result ≡ law_search self.cells }
     {
-        self.first_pair()?;
-        self.first_triple()
+        let joined = self.joined();
+        self.first_pair(&joined)?;
+        self.first_triple(&joined)
+    }
+
+    // What each of the samples gives with each.
+    #[tactic(auto, unfolding(crate::specs::Laws::shown, crate::specs::Search::joined))]
+    fn joined(&self) -> [Joins; 5]
+        ensures { result ≡ joined self.now.cells }
+    {
+        let [a, b, c, d, e] = SAMPLES;
+        [
+            self.joins(a),
+            self.joins(b),
+            self.joins(c),
+            self.joins(d),
+            self.joins(e),
+        ]
+    }
+
+    // What an action gives with each of the samples.
+    fn joins(&self, a: Action) -> Joins
+        ensures { result ≡ joins self.now.cells a }
+    {
+        SAMPLES.map(|b| self.join(a, b))
     }
 
     // The pairs in order, the first action slowest.
-    fn first_pair(&self) -> Result<(), LawFailure>
-        ensures { result ≡ first_pair self.now.cells }
+    fn first_pair(&self, joined: &[Joins]) -> Result<(), LawFailure>
+        ensures { result ≡ pair_by self.now.cells joined.now }
     {
-        SAMPLES.iter().try_for_each(|a| self.with_second(*a))
+        SAMPLES
+            .iter()
+            .zip(joined)
+            .try_for_each(|(a, row)| self.with_second(*a, row))
     }
 
     // The first pair of this action and a second that breaks commutativity.
-    fn with_second(&self, a: Action) -> Result<(), LawFailure>
-        ensures { result ≡ with_second self.now.cells a }
+    fn with_second(&self, a: Action, row: &[Action]) -> Result<(), LawFailure>
+        ensures { result ≡ second_by self.now.cells a row.now }
     {
-        SAMPLES.iter().try_for_each(|b| {
-            if self.join(a, *b) == self.join(*b, a) {
+        SAMPLES.iter().zip(row).try_for_each(|(b, ab)| {
+            if *ab == self.join(*b, a) {
                 Ok(())
             } else {
                 Err(LawFailure::Commutativity(a, *b))
@@ -247,33 +268,70 @@ impl Operator {
         })
     }
 
-    // The triples in order, the first action slowest.
-    fn first_triple(&self) -> Result<(), LawFailure>
-        ensures { result ≡ first_triple self.now.cells }
+    // The triples in order, the first action slowest, but only those whose third action stands after the first: where
+    // the pairs commute, any other breaks the law only if it does read backwards, and that one comes before.
+    fn first_triple(&self, joined: &[Joins]) -> Result<(), LawFailure>
+        ensures { result ≡ triple_by self.now.cells joined.now }
     {
-        SAMPLES.iter().try_for_each(|a| self.with_pair(*a))
+        SAMPLES
+            .iter()
+            .zip(joined)
+            .enumerate()
+            .try_for_each(|(i, (a, row))| self.with_pair(i, *a, row, joined))
     }
 
-    // The first triple of this action and a pair that breaks associativity.
-    fn with_pair(&self, a: Action) -> Result<(), LawFailure>
-        ensures { result ≡ with_pair self.now.cells a }
+    // The first triple of this action, the sample at i, and a pair that breaks associativity.
+    fn with_pair(
+        &self,
+        i: usize,
+        a: Action,
+        row: &[Action],
+        joined: &[Joins],
+    ) -> Result<(), LawFailure>
+        ensures { result ≡ second_pair_by self.now.cells i a row.now joined.now }
     {
-        SAMPLES.iter().try_for_each(|b| self.with_third(a, *b))
+        SAMPLES
+            .iter()
+            .zip(row)
+            .zip(joined)
+            .try_for_each(|((b, ab), below)| self.with_third(i, a, *b, *ab, below))
     }
 
-    // The first triple of these two actions and a third that breaks associativity.
-    fn with_third(&self, a: Action, b: Action) -> Result<(), LawFailure>
-        ensures { result ≡ with_third self.now.cells a b }
+    // The first triple of these two actions and a third, after the sample at i, that breaks associativity. The pairs
+    // are joined already, so that two joins are left.
+    fn with_third(
+        &self,
+        i: usize,
+        a: Action,
+        b: Action,
+        ab: Action,
+        row: &[Action],
+    ) -> Result<(), LawFailure>
+        ensures { result ≡ third_by self.now.cells i a b ab row.now }
     {
-        let ab = self.join(a, b);
-        SAMPLES.iter().try_for_each(|c| {
-            if self.join(ab, *c) == self.join(a, self.join(b, *c)) {
+        SAMPLES.iter().zip(row).skip(i).skip(1).try_for_each(|(c, bc)| {
+            if self.join(ab, *c) == self.join(a, *bc) {
                 Ok(())
             } else {
                 Err(LawFailure::Associativity(a, b, *c))
             }
         })
     }
+}
+
+/// Two actions joined by an operator's cells, which some words begin with: only the cell is read that is asked for.
+/// Words that are missing count as 0, and a code that is not known gives don't care.
+pub fn join_by(cells: &[u32], left: Action, right: Action) -> Action
+    ensures { result ≡ join cells.now left right }
+{
+    if left == Action::DONT_CARE {
+        return right;
+    }
+    if right == Action::DONT_CARE {
+        return left;
+    }
+    let cell = (left.kind() - 1) * KINDS + (right.kind() - 1);
+    coded(word(cells, cell as usize), left, right)
 }
 
 /// What the public constants are: a constant has no contract of its own.

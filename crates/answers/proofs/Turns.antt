@@ -1,10 +1,8 @@
 -- The turns of the loop that answers call after call. Assumes nothing.
-use Rattle.std.proofs.Common.{◌≡◌, refl, sym, ap, ◌∙◌, subst, arith, ℕ, ◌+◌, ◌-◌, ◌^◌, ◌<◌, ◌≤◌, Bool, true, false, ◌&&◌, List, [], ◌++◌, append_assoc, append-nil, length, take, Some, None, IsNone, is_some, is_none}
-use Rattle.std.specs.declared.option.Option.{Option}
-use Rattle.std.specs.Option.{IfSome}
+use Rattle.std.proofs.Common.{◌≡◌, refl, sym, ap, ◌∙◌, subst, arith, ℕ, ◌+◌, ◌-◌, ◌^◌, ◌<◌, ◌≤◌, Bool, true, false, ◌&&◌, List, [], ◌++◌, append_assoc}
+use Rattle.std.proofs.Common.{append-nil, length, take, Some, None, IsNone, is_some, is_none, Option, IfSome, take_all, take_at}
 use Rattle.std.proofs.lemmas.Option.{none-some, same_Some}
-use Rattle.std.proofs.lemmas.List.{take-append-le, take_all}
-use lib.Seq.{take_at}
+use Rattle.std.proofs.lemmas.List.{take-append-le}
 use Rattle.std.specs.Io.KnownBytes.{Appends}
 use Rattle.logic.proofs.Tests.{by_le}
 use Rattle.streams.specs.declared.input.Input.{Input}

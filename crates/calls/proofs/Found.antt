@@ -1,16 +1,14 @@
 -- What is found in bytes against what is sent: each part that was sent is found, and each that is found was sent. Assumes nothing.
-use Rattle.std.proofs.Common.{◌≡◌, refl, sym, ap, ◌∙◌, subst, arith, ℕ, ◌*◌, ◌%◌, ◌≤◌, Bool, true, false, cond, eqb, leb, List, [], ◌∷◌, ◌++◌, append_assoc, length, take, Some, None, length-append}
+use Rattle.std.proofs.Common.{◌≡◌, refl, sym, ap, ◌∙◌, subst, arith, ℕ, ◌*◌, ◌%◌, ◌≤◌, Bool, true, false, cond, eqb, leb, List, [], ◌∷◌, ◌++◌, append_assoc}
+use Rattle.std.proofs.Common.{length, take, Some, None, length-append, take-append-drop, length-take-le, Option, le-leb, leb-true, eqb-true, take_at, drop_at}
 use Rattle.std.proofs.lemmas.Option.{none-some, same_Some, cond_some}
-use Rattle.std.proofs.lemmas.List.{take-append-drop, length-take-le}
-use Rattle.std.specs.declared.option.Option.{Option}
-use borrow.Author.Tests.{le-leb, leb-true, eqb-true}
-use lib.Seq.{take_at, drop_at}
 use Rattle.words.specs.Records.{flat}
 use Rattle.words.specs.Bytes.{word_bytes, word_of, words_in, bytes_of}
 use Rattle.words.specs.Theorems.{EveryByte}
 use Rattle.words.proofs.Bytes.{length-bytes, length-words, words-read, bytes-of, bytes_read}
 use Rattle.calls.specs.Sent.{most_words, most_bytes, slice_bytes, padding, counted}
 use Rattle.calls.specs.Calls.{Call, read, tree_action, compile, scan, number, list, hidden, Within, Sent, IsCall}
+use Rattle.calls.specs.Calls.{read_call, tree_action_call, compile_call, scan_call, number_call, list_call, hidden_call}
 use Rattle.calls.specs.Taken.{found, then_in, bytes_in, word_in, at_most, count_in, slice_in, two_in, three_in, text_in, body_in, call_in}
 use Rattle.calls.specs.Theorems.{CallFound, FoundCall}
 
@@ -215,23 +213,23 @@ sent n s body rest e = ap (λ b. call_in (b ++ rest)) e ∙ behind n (body ++ re
 
 pub call_found : CallFound
 unfolding body_in
-call_found (read f) s rest c = sent 1 s (slice_bytes f) rest c.sent ∙ ap (found (λ x. read x)) (slice-found f rest c.within)
+call_found (read f) s rest c = sent read_call s (slice_bytes f) rest c.sent ∙ ap (found (λ x. read x)) (slice-found f rest c.within)
 call_found (tree_action f p) s rest c =
-    sent 2 s (slice_bytes f ++ slice_bytes p) rest c.sent
+    sent tree_action_call s (slice_bytes f ++ slice_bytes p) rest c.sent
     ∙ ap (found (λ x. tree_action x.0 x.1)) (two-found f p rest c.within.0 c.within.1)
 call_found (compile f t x) s rest c =
-    sent 3 s ((slice_bytes f ++ slice_bytes t) ++ slice_bytes x) rest c.sent
+    sent compile_call s ((slice_bytes f ++ slice_bytes t) ++ slice_bytes x) rest c.sent
     ∙ ap (found (λ x. compile x.0 x.1 x.2)) (three-found f t x rest c.within.0 c.within.1 c.within.2)
 call_found (scan t p) s rest c =
-    sent 4 s (slice_bytes t ++ slice_bytes p) rest c.sent
+    sent scan_call s (slice_bytes t ++ slice_bytes p) rest c.sent
     ∙ ap (found (λ x. scan x.0 x.1)) (two-found t p rest c.within.0 c.within.1)
 call_found (number t ps cs) s rest c =
-    sent 5 s ((slice_bytes t ++ slice_bytes ps) ++ slice_bytes cs) rest c.sent
+    sent number_call s ((slice_bytes t ++ slice_bytes ps) ++ slice_bytes cs) rest c.sent
     ∙ ap (found (λ x. number x.0 x.1 x.2)) (three-found t ps cs rest c.within.0 c.within.1 c.within.2)
 call_found (list b) s rest c =
-    sent 6 s (counted (length b) b c.sent.0) rest c.sent.2
+    sent list_call s (counted (length b) b c.sent.0) rest c.sent.2
     ∙ ap (found (λ x. list x)) (text-found b c.sent.0 rest c.within c.sent.1)
-call_found (hidden t) s rest c = sent 7 s (slice_bytes t) rest c.sent ∙ ap (found (λ x. hidden x)) (slice-found t rest c.within)
+call_found (hidden t) s rest c = sent hidden_call s (slice_bytes t) rest c.sent ∙ ap (found (λ x. hidden x)) (slice-found t rest c.within)
 
 -- and what was found was sent
 Called : (b rest : List ℕ) → Call → Type 0
@@ -250,43 +248,43 @@ by_number : (b rest : List ℕ) (call : Call) (n : ℕ) (mid : List ℕ) → Par
 unfolding body_in
 by_number b rest call n mid w e =
     let h = w.left in
-    chosen (eqb n 1) _ _ _ e
+    chosen (eqb n read_call) _ _ _ e
     (λ t d.
     let r = found_of (λ f. read f) (slice_in mid) call rest d in
     let s = found_slice mid r.0 rest h r.1 in
-    called n 1 b mid rest call (read r.0) (slice_bytes r.0) t w s.0.parts r.2 s.1 refl)
-    (λ _ e. chosen (eqb n 2) _ _ _ e
+    called n read_call b mid rest call (read r.0) (slice_bytes r.0) t w s.0.parts r.2 s.1 refl)
+    (λ _ e. chosen (eqb n tree_action_call) _ _ _ e
     (λ t d.
     let r = found_of (λ x. tree_action x.0 x.1) (two_in mid) call rest d in
     let s = found_two mid rest r.0 h r.1 in
-    called n 2 b mid rest call (tree_action r.0.0 r.0.1) (slice_bytes r.0.0 ++ slice_bytes r.0.1) t w s.0.parts r.2 (s.1, s.2) refl)
-    (λ _ e. chosen (eqb n 3) _ _ _ e
+    called n tree_action_call b mid rest call (tree_action r.0.0 r.0.1) (slice_bytes r.0.0 ++ slice_bytes r.0.1) t w s.0.parts r.2 (s.1, s.2) refl)
+    (λ _ e. chosen (eqb n compile_call) _ _ _ e
     (λ t d.
     let r = found_of (λ x. compile x.0 x.1 x.2) (three_in mid) call rest d in
     let s = found_three mid rest r.0 h r.1 in
-    called n 3 b mid rest call (compile r.0.0 r.0.1 r.0.2) ((slice_bytes r.0.0 ++ slice_bytes r.0.1) ++ slice_bytes r.0.2) t w s.0.parts r.2
+    called n compile_call b mid rest call (compile r.0.0 r.0.1 r.0.2) ((slice_bytes r.0.0 ++ slice_bytes r.0.1) ++ slice_bytes r.0.2) t w s.0.parts r.2
     (s.1, s.2, s.3) refl)
-    (λ _ e. chosen (eqb n 4) _ _ _ e
+    (λ _ e. chosen (eqb n scan_call) _ _ _ e
     (λ t d.
     let r = found_of (λ x. scan x.0 x.1) (two_in mid) call rest d in
     let s = found_two mid rest r.0 h r.1 in
-    called n 4 b mid rest call (scan r.0.0 r.0.1) (slice_bytes r.0.0 ++ slice_bytes r.0.1) t w s.0.parts r.2 (s.1, s.2) refl)
-    (λ _ e. chosen (eqb n 5) _ _ _ e
+    called n scan_call b mid rest call (scan r.0.0 r.0.1) (slice_bytes r.0.0 ++ slice_bytes r.0.1) t w s.0.parts r.2 (s.1, s.2) refl)
+    (λ _ e. chosen (eqb n number_call) _ _ _ e
     (λ t d.
     let r = found_of (λ x. number x.0 x.1 x.2) (three_in mid) call rest d in
     let s = found_three mid rest r.0 h r.1 in
-    called n 5 b mid rest call (number r.0.0 r.0.1 r.0.2) ((slice_bytes r.0.0 ++ slice_bytes r.0.1) ++ slice_bytes r.0.2) t w s.0.parts r.2
+    called n number_call b mid rest call (number r.0.0 r.0.1 r.0.2) ((slice_bytes r.0.0 ++ slice_bytes r.0.1) ++ slice_bytes r.0.2) t w s.0.parts r.2
     (s.1, s.2, s.3) refl)
-    (λ _ e. chosen (eqb n 6) _ _ _ e
+    (λ _ e. chosen (eqb n list_call) _ _ _ e
     (λ t d.
     let r = found_of (λ x. list x) (text_in mid) call rest d in
     let s = found_text mid r.0 rest h r.1 in
-    called n 6 b mid rest call (list r.0) (counted (length r.0) r.0 s.0) t w s.2 r.2 s.3 (s.0, s.1, refl))
-    (λ _ e. chosen (eqb n 7) _ _ _ e
+    called n list_call b mid rest call (list r.0) (counted (length r.0) r.0 s.0) t w s.2 r.2 s.3 (s.0, s.1, refl))
+    (λ _ e. chosen (eqb n hidden_call) _ _ _ e
     (λ t d.
     let r = found_of (λ x. hidden x) (slice_in mid) call rest d in
     let s = found_slice mid r.0 rest h r.1 in
-    called n 7 b mid rest call (hidden r.0) (slice_bytes r.0) t w s.0.parts r.2 s.1 refl)
+    called n hidden_call b mid rest call (hidden r.0) (slice_bytes r.0) t w s.0.parts r.2 s.1 refl)
     (λ _ e. absurd (none-some call (halves _ _ e).0))))))))
 
 pub found_call : FoundCall

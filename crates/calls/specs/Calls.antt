@@ -1,10 +1,11 @@
 -- A call as it is sent, and the reply that it gets, both as bytes. See tests/README.md, "The calls of `answers`".
 --
---   Call              a call, with the slices that it brings
---   Within c          its slices are no longer than is taken
---   Sent c s          the bytes s are the call c: its number, and its slices
---   IsCall c s        the same of a call that is within
---   reply_of c        the bytes that a call is answered
+--   Call                       a call, with the slices that it brings
+--   Within c                   its slices are no longer than is taken
+--   read_call .. hidden_call   the number that each call begins with
+--   Sent c s                   the bytes s are the call c: its number, and its slices
+--   IsCall c s                 the same of a call that is within
+--   reply_of c                 the bytes that a call is answered
 use Rattle.std.specs.Prelude.{ℕ, ◌≡◌, ◌≤◌, List, ◌++◌, length}
 use Rattle.words.specs.Bytes.{bytes_of}
 use Rattle.calls.specs.Sent.{most_words, most_bytes, slice_bytes, padding, counted}
@@ -31,15 +32,38 @@ Within (number t ps cs) = (length t ≤ most_words) × (length ps ≤ most_words
 Within (list b) = length b ≤ most_bytes
 Within (hidden t) = length t ≤ most_words
 
+-- the number that each call begins with
+abbrev pub read_call : ℕ
+read_call = 1
+
+abbrev pub tree_action_call : ℕ
+tree_action_call = 2
+
+abbrev pub compile_call : ℕ
+compile_call = 3
+
+abbrev pub scan_call : ℕ
+scan_call = 4
+
+abbrev pub number_call : ℕ
+number_call = 5
+
+abbrev pub list_call : ℕ
+list_call = 6
+
+abbrev pub hidden_call : ℕ
+hidden_call = 7
+
 -- each call begins with its number
 abbrev pub Sent : Call → List ℕ → Type 0
-Sent (read f) s = s ≡ bytes_of 1 ++ slice_bytes f
-Sent (tree_action f p) s = s ≡ bytes_of 2 ++ (slice_bytes f ++ slice_bytes p)
-Sent (compile f t c) s = s ≡ bytes_of 3 ++ ((slice_bytes f ++ slice_bytes t) ++ slice_bytes c)
-Sent (scan t p) s = s ≡ bytes_of 4 ++ (slice_bytes t ++ slice_bytes p)
-Sent (number t ps cs) s = s ≡ bytes_of 5 ++ ((slice_bytes t ++ slice_bytes ps) ++ slice_bytes cs)
-Sent (list b) s = (pad : List ℕ) × (length pad ≡ padding (length b)) × (s ≡ bytes_of 6 ++ counted (length b) b pad)
-Sent (hidden t) s = s ≡ bytes_of 7 ++ slice_bytes t
+Sent (read f) s = s ≡ bytes_of read_call ++ slice_bytes f
+Sent (tree_action f p) s = s ≡ bytes_of tree_action_call ++ (slice_bytes f ++ slice_bytes p)
+Sent (compile f t c) s = s ≡ bytes_of compile_call ++ ((slice_bytes f ++ slice_bytes t) ++ slice_bytes c)
+Sent (scan t p) s = s ≡ bytes_of scan_call ++ (slice_bytes t ++ slice_bytes p)
+Sent (number t ps cs) s = s ≡ bytes_of number_call ++ ((slice_bytes t ++ slice_bytes ps) ++ slice_bytes cs)
+Sent (list b) s =
+    (pad : List ℕ) × (length pad ≡ padding (length b)) × (s ≡ bytes_of list_call ++ counted (length b) b pad)
+Sent (hidden t) s = s ≡ bytes_of hidden_call ++ slice_bytes t
 
 -- the bytes are that call, which is within
 pub record IsCall (call : Call) (bytes : List ℕ) : Type 0 where

@@ -11,6 +11,7 @@
 --   slice_in b                a slice of words
 --   two_in, three_in          two slices, and three
 --   text_in b                 bytes: how many there are, they, and what stands behind them up to a whole word
+--   read_in .. hidden_in      the call of that name, by what stands behind its number
 --   body_in n b               the call of a number, by what stands behind the number
 --   call_in b                 a call
 --   TakenFrom o rest taken    what was taken is what is found, and the bytes behind it are left
@@ -24,6 +25,7 @@ use Rattle.streams.specs.declared.input.Input.{Input}
 use Rattle.streams.specs.Input.{read_failure, left}
 use Rattle.calls.specs.Sent.{most_words, most_bytes, padding}
 use Rattle.calls.specs.Calls.{Call, read, tree_action, compile, scan, number, list, hidden, reply_of}
+use Rattle.calls.specs.Calls.{read_call, tree_action_call, compile_call, scan_call, number_call, list_call, hidden_call}
 
 -- what was found, as f has it
 abbrev pub found : {A B : Type 0} → (A → B) → Option A × List ℕ → Option B × List ℕ
@@ -68,16 +70,38 @@ text_in b =
     then_in (count_in most_bytes b)
     (λ n rest. then_in (bytes_in n rest) (λ text behind. found (λ pad. text) (bytes_in (padding n) behind)))
 
+-- each call, by what stands behind its number
+abbrev pub read_in : List ℕ → Option Call × List ℕ
+read_in b = found (λ f. read f) (slice_in b)
+
+abbrev pub tree_action_in : List ℕ → Option Call × List ℕ
+tree_action_in b = found (λ s. tree_action s.0 s.1) (two_in b)
+
+abbrev pub compile_in : List ℕ → Option Call × List ℕ
+compile_in b = found (λ s. compile s.0 s.1 s.2) (three_in b)
+
+abbrev pub scan_in : List ℕ → Option Call × List ℕ
+scan_in b = found (λ s. scan s.0 s.1) (two_in b)
+
+abbrev pub number_in : List ℕ → Option Call × List ℕ
+number_in b = found (λ s. number s.0 s.1 s.2) (three_in b)
+
+abbrev pub list_in : List ℕ → Option Call × List ℕ
+list_in b = found (λ t. list t) (text_in b)
+
+abbrev pub hidden_in : List ℕ → Option Call × List ℕ
+hidden_in b = found (λ t. hidden t) (slice_in b)
+
 -- the call of a number, by what stands behind the number
 unfoldable pub body_in : ℕ → List ℕ → Option Call × List ℕ
 body_in n b =
-    if n == 1 then found (λ f. read f) (slice_in b)
-    else (if n == 2 then found (λ s. tree_action s.0 s.1) (two_in b)
-    else (if n == 3 then found (λ s. compile s.0 s.1 s.2) (three_in b)
-    else (if n == 4 then found (λ s. scan s.0 s.1) (two_in b)
-    else (if n == 5 then found (λ s. number s.0 s.1 s.2) (three_in b)
-    else (if n == 6 then found (λ t. list t) (text_in b)
-    else (if n == 7 then found (λ t. hidden t) (slice_in b)
+    if n == read_call then read_in b
+    else (if n == tree_action_call then tree_action_in b
+    else (if n == compile_call then compile_in b
+    else (if n == scan_call then scan_in b
+    else (if n == number_call then number_in b
+    else (if n == list_call then list_in b
+    else (if n == hidden_call then hidden_in b
     else (None, b)))))))
 
 -- A CALL: its number, then its slices

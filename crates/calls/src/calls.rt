@@ -27,7 +27,8 @@ pub struct Room {
 }
 
 impl Room {
-    ghost use Rattle.calls.specs.Taken.{two_in, three_in, body_in, call_in, Answers};
+    ghost use Rattle.calls.specs.Taken.{two_in, three_in, read_in, tree_action_in, compile_in, scan_in, number_in};
+    ghost use Rattle.calls.specs.Taken.{list_in, hidden_in, call_in, Answers};
 
     /// One that is blank.
     pub fn new() -> Room {
@@ -43,10 +44,11 @@ impl Room {
     /// where the input ends within the call, where its number is none, where a slice is too long and where a read
     /// failed. No byte is read behind such a number or such a slice's length. Only where a read failed is it left open
     /// how far the input was read.
+    #[tactic(auto, using(crate::proofs::Takes::answers_number, crate::proofs::Takes::answers_no_number))]
     pub fn answer<R: Read, S: Sink>(&mut self, input: &mut Input<R>, sink: &mut S) -> Option<()>
         ensures { Answers R.remaining S.gives call_in input.old input.new sink.old sink.new result }
     {
-        // The number of each call; `body_in` has them in the definitions.
+        // The number of each call.
         match take_word(input)? {
             1 => self.answer_read(input, sink),
             2 => self.answer_tree_action(input, sink),
@@ -59,82 +61,84 @@ impl Room {
         }
     }
 
+    #[tactic(auto, using(crate::proofs::Takes::answers_none))]
     fn answer_read<R: Read, S: Sink>(&mut self, input: &mut Input<R>, sink: &mut S) -> Option<()>
-        ensures { Answers R.remaining S.gives (body_in 1) input.old input.new sink.old sink.new
-            result }
+        ensures { Answers R.remaining S.gives read_in input.old input.new sink.old sink.new result }
     {
         let file = self.take_one(input)?;
         policy::read(&self.first[..file]).reply(sink);
         Some(())
     }
 
+    #[tactic(auto, using(crate::proofs::Takes::answers_none))]
     fn answer_tree_action<R: Read, S: Sink>(
         &mut self,
         input: &mut Input<R>,
         sink: &mut S,
     ) -> Option<()>
-        ensures { Answers R.remaining S.gives (body_in 2) input.old input.new sink.old sink.new
-            result }
+        ensures { Answers R.remaining S.gives tree_action_in input.old input.new sink.old sink.new result }
     {
         let (file, packet) = self.take_two(input)?;
         tree::tree_action(&self.first[..file], &self.second[..packet]).reply(sink);
         Some(())
     }
 
+    #[tactic(auto, using(crate::proofs::Takes::answers_none))]
     fn answer_compile<R: Read, S: Sink>(&mut self, input: &mut Input<R>, sink: &mut S) -> Option<()>
-        ensures { Answers R.remaining S.gives (body_in 3) input.old input.new sink.old sink.new
-            result }
+        ensures { Answers R.remaining S.gives compile_in input.old input.new sink.old sink.new result }
     {
         let (file, table, scratch) = self.take_three(input)?;
+        // The borrow checker lends parts of two fields at once only by way of the whole.
         let (second, third) = (&mut self.second[..], &mut self.third[..]);
         reply_compile(
-            sink,
             &self.first[..file],
             &mut second[..table],
             &mut third[..scratch],
+            sink,
         );
         Some(())
     }
 
+    #[tactic(auto, using(crate::proofs::Takes::answers_none))]
     fn answer_scan<R: Read, S: Sink>(&mut self, input: &mut Input<R>, sink: &mut S) -> Option<()>
-        ensures { Answers R.remaining S.gives (body_in 4) input.old input.new sink.old sink.new
-            result }
+        ensures { Answers R.remaining S.gives scan_in input.old input.new sink.old sink.new result }
     {
         let (table, packet) = self.take_two(input)?;
         of_table(table::scan(&self.first[..table], &self.second[..packet])).reply(sink);
         Some(())
     }
 
+    #[tactic(auto, using(crate::proofs::Takes::answers_none))]
     fn answer_number<R: Read, S: Sink>(&mut self, input: &mut Input<R>, sink: &mut S) -> Option<()>
-        ensures { Answers R.remaining S.gives (body_in 5) input.old input.new sink.old sink.new
-            result }
+        ensures { Answers R.remaining S.gives number_in input.old input.new sink.old sink.new result }
     {
         let (table, priorities, chain) = self.take_three(input)?;
+        // As in the compile.
         let (second, third) = (&mut self.second[..], &mut self.third[..]);
         reply_number(
-            sink,
             &self.first[..table],
             &mut second[..priorities],
             &mut third[..chain],
+            sink,
         );
         Some(())
     }
 
+    #[tactic(auto, using(crate::proofs::Takes::answers_none))]
     fn answer_list<R: Read, S: Sink>(&mut self, input: &mut Input<R>, sink: &mut S) -> Option<()>
-        ensures { Answers R.remaining S.gives (body_in 6) input.old input.new sink.old sink.new
-            result }
+        ensures { Answers R.remaining S.gives list_in input.old input.new sink.old sink.new result }
     {
         let file = take_text(input, &mut self.bytes)?;
-        reply_list(sink, &self.bytes[..file]);
+        reply_list(&self.bytes[..file], sink);
         Some(())
     }
 
+    #[tactic(auto, using(crate::proofs::Takes::answers_none))]
     fn answer_hidden<R: Read, S: Sink>(&mut self, input: &mut Input<R>, sink: &mut S) -> Option<()>
-        ensures { Answers R.remaining S.gives (body_in 7) input.old input.new sink.old sink.new
-            result }
+        ensures { Answers R.remaining S.gives hidden_in input.old input.new sink.old sink.new result }
     {
         let table = self.take_one(input)?;
-        reply_hidden(sink, &mut self.first[..table]);
+        reply_hidden(&mut self.first[..table], sink);
         Some(())
     }
 
@@ -148,6 +152,7 @@ impl Room {
     }
 
     // Takes two slices, into the first and the second buffer.
+    #[tactic(auto, using(crate::proofs::Takes::parts), unfolding(crate::specs::Taken::two_in))]
     fn take_two<R: Read>(&mut self, input: &mut Input<R>) -> Option<(usize, usize)>
         ensures first_within { IfSome result (λ n. n.0 ≤ MOST_WORDS) }
         ensures second_within { IfSome result (λ n. n.1 ≤ MOST_WORDS) }
@@ -160,6 +165,7 @@ impl Room {
     }
 
     // Takes three slices, one into each buffer.
+    #[tactic(auto, using(crate::proofs::Takes::parts), unfolding(crate::specs::Taken::three_in))]
     fn take_three<R: Read>(&mut self, input: &mut Input<R>) -> Option<(usize, usize, usize)>
         ensures first_within { IfSome result (λ n. n.0 ≤ MOST_WORDS) }
         ensures second_within { IfSome result (λ n. n.1 ≤ MOST_WORDS) }
@@ -178,6 +184,7 @@ impl Room {
 }
 
 // Takes a slice of words into a buffer: how many there are.
+#[tactic(auto, using(crate::proofs::Takes::takes_none), unfolding(crate::specs::Taken::slice_in))]
 fn take_slice<R: Read>(
     input: &mut Input<R>,
     bytes: &mut [u8; WORD_BYTES * MOST_WORDS],
@@ -195,6 +202,7 @@ fn take_slice<R: Read>(
 }
 
 // Takes bytes into a buffer, and the words that hold them: how many there are.
+#[tactic(auto, using(crate::proofs::Takes::takes_none), unfolding(crate::specs::Taken::text_in))]
 fn take_text<R: Read>(
     input: &mut Input<R>,
     bytes: &mut [u8; WORD_BYTES * MOST_WORDS],
@@ -211,6 +219,7 @@ fn take_text<R: Read>(
 }
 
 // Takes how many words or bytes come. `None` also where they are more than the caller takes.
+#[tactic(auto, using(crate::proofs::Takes::counts), unfolding(crate::specs::Taken::count_in))]
 fn take_count<R: Read>(input: &mut Input<R>, most: usize) -> Option<usize>
     ensures within { IfSome result (λ n. n ≤ most) }
     ensures taken { Takes R.remaining (count_in most) input.old input.new result }
@@ -220,6 +229,7 @@ fn take_count<R: Read>(input: &mut Input<R>, most: usize) -> Option<usize>
 }
 
 // Takes one word.
+#[tactic(auto, using(crate::proofs::Takes::takes_found), unfolding(crate::specs::Taken::word_in))]
 fn take_word<R: Read>(input: &mut Input<R>) -> Option<u32>
     ensures { Takes R.remaining word_in input.old input.new result }
 {
@@ -229,6 +239,7 @@ fn take_word<R: Read>(input: &mut Input<R>) -> Option<u32>
 }
 
 // Takes as many bytes as a buffer has. `None` where the input ends before, and where a read failed.
+#[tactic(auto, using(crate::proofs::Takes::takes_full))]
 fn take_full<R: Read>(input: &mut Input<R>, buf: &mut [u8]) -> Option<()>
     ensures { Takes R.remaining (bytes_in (length buf.new)) input.old input.new
         (option_map (λ _. buf.new) result) }

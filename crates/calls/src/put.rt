@@ -14,16 +14,17 @@ use words::WORD_BYTES;
 const BLOCK: usize = 1024;
 
 /// Puts words in.
-pub fn put_words<S: Sink>(sink: &mut S, words: &[u32])
+pub fn put_words<S: Sink>(words: &[u32], sink: &mut S)
     ensures { S.gives sink.old (flat bytes_of words.now) sink.new }
 {
     // The words of the blocks so far are put in.
     for block in words.chunks(BLOCK) {
-        put_block(sink, block);
+        put_block(block, sink);
     }
 }
 
-fn put_block<S: Sink>(sink: &mut S, words: &[u32])
+#[tactic(auto, using(crate::proofs::Parts::bytes_stored, std::proofs::lemmas::Grind::common_steps))]
+fn put_block<S: Sink>(words: &[u32], sink: &mut S)
     requires { length words.now ≤ BLOCK }
     ensures { S.gives sink.old (flat bytes_of words.now) sink.new }
 {
@@ -34,12 +35,12 @@ fn put_block<S: Sink>(sink: &mut S, words: &[u32])
 }
 
 // Puts so many zeros in.
-pub(crate) fn put_zeros<S: Sink>(sink: &mut S, count: usize)
+pub(crate) fn put_zeros<S: Sink>(count: usize, sink: &mut S)
     ensures { S.gives sink.old (flat bytes_of (zeros count)) sink.new }
 {
     // The zeros so far are put in.
     for _ in 0..count {
-        put_words(sink, &[0]);
+        put_words(&[0], sink);
     }
 }
 

@@ -69,7 +69,7 @@ impl Reply for Refusal {
         TableRefusal { refusal: *self }.reply(sink);
         match self.reason.failure() {
             Some(failure) => failure.reply(sink),
-            None => put_zeros(sink, LawFailure::WIDTH),
+            None => put_zeros(LawFailure::WIDTH, sink),
         }
     }
 }
@@ -90,7 +90,7 @@ impl Reply for LawFailure {
 
     fn reply<S: Sink>(&self, sink: &mut S) {
         let actions = self.actions();
-        put_words(sink, &[law_number(*self)]);
+        put_words(&[law_number(*self)], sink);
         // The law and the actions so far are put in.
         for action in &actions {
             action.reply(sink);
@@ -114,8 +114,8 @@ impl Reply for TableRefusal {
 
     fn reply<S: Sink>(&self, sink: &mut S) {
         put_words(
-            sink,
             &[self.refusal.reason.number(), low(self.refusal.place)],
+            sink,
         );
     }
 }
@@ -135,7 +135,7 @@ impl Reply for Action {
     ghost words = { action_words };
 
     fn reply<S: Sink>(&self, sink: &mut S) {
-        put_words(sink, &ActionWords::from(*self));
+        put_words(&ActionWords::from(*self), sink);
     }
 }
 
@@ -155,8 +155,8 @@ impl Reply for Layout {
 
     fn reply<S: Sink>(&self, sink: &mut S) {
         put_words(
-            sink,
             &[low(self.operators), low(self.atoms), low(self.nodes)],
+            sink,
         );
     }
 }
@@ -177,7 +177,7 @@ impl Reply for Found {
 
     fn reply<S: Sink>(&self, sink: &mut S) {
         self.action.reply(sink);
-        put_words(sink, &[low(self.tried)]);
+        put_words(&[low(self.tried)], sink);
     }
 }
 
@@ -196,7 +196,7 @@ impl Reply for usize {
     ghost words = { row_count_words };
 
     fn reply<S: Sink>(&self, sink: &mut S) {
-        put_words(sink, &[low(*self)]);
+        put_words(&[low(*self)], sink);
     }
 }
 
@@ -217,7 +217,7 @@ impl Reply for u32 {
     ghost words = { λ n. n ∷ [] };
 
     fn reply<S: Sink>(&self, sink: &mut S) {
-        put_words(sink, &[*self]);
+        put_words(&[*self], sink);
     }
 }
 
@@ -238,12 +238,12 @@ impl<T: Value, E: Value> Reply for Result<T, E> {
     fn reply<S: Sink>(&self, sink: &mut S) {
         match self {
             Ok(value) => {
-                put_zeros(sink, E::WIDTH);
+                put_zeros(E::WIDTH, sink);
                 value.reply(sink);
             }
             Err(refusal) => {
                 refusal.reply(sink);
-                put_zeros(sink, T::WIDTH);
+                put_zeros(T::WIDTH, sink);
             }
         }
     }
@@ -258,44 +258,47 @@ pub(crate) fn of_table<T: Drop>(answer: Result<T, Refusal>) -> Result<T, TableRe
 
 /// Compiles a policy file; the table and the scratch are put in too. It and the two that follow stay three functions:
 /// each states what its own lent buffers hold.
-pub fn reply_compile<S: Sink>(sink: &mut S, file: &[u32], table: &mut [u32], scratch: &mut [u32])
+#[tactic(auto, unfolding(crate::specs::Replies::compile_reply))]
+pub fn reply_compile<S: Sink>(file: &[u32], table: &mut [u32], scratch: &mut [u32], sink: &mut S)
     ensures table_after { table.new ≡ table_after file.now table.old scratch.old }
     ensures scratch_after { scratch.new ≡ scratch_after file.now table.old scratch.old }
     ensures given { S.gives sink.old (compile_reply file.now table.old scratch.old) sink.new }
 {
     compile(file, table, scratch).reply(sink);
-    put_words(sink, table);
-    put_words(sink, scratch);
+    put_words(table, sink);
+    put_words(scratch, sink);
 }
 
 /// Numbers a table; the priorities and the chain are put in too.
-pub fn reply_number<S: Sink>(sink: &mut S, table: &[u32], priorities: &mut [u32], chain: &mut [u32])
+#[tactic(auto, unfolding(crate::specs::Replies::number_reply))]
+pub fn reply_number<S: Sink>(table: &[u32], priorities: &mut [u32], chain: &mut [u32], sink: &mut S)
     ensures priorities_after { priorities.new ≡ priorities_after table.now priorities.old
         chain.old }
     ensures chain_after { chain.new ≡ chain_after table.now priorities.old chain.old }
     ensures given { S.gives sink.old (number_reply table.now priorities.old chain.old) sink.new }
 {
     of_table(number(table, priorities, chain)).reply(sink);
-    put_words(sink, priorities);
-    put_words(sink, chain);
+    put_words(priorities, sink);
+    put_words(chain, sink);
 }
 
 /// Takes the hidden rows out of a table, which is put in too.
-pub fn reply_hidden<S: Sink>(sink: &mut S, table: &mut [u32])
+#[tactic(auto, unfolding(crate::specs::Replies::hidden_reply))]
+pub fn reply_hidden<S: Sink>(table: &mut [u32], sink: &mut S)
     ensures table_after { table.new ≡ table_kept table.old }
     ensures given { S.gives sink.old (hidden_reply table.old) sink.new }
 {
     of_table(drop_hidden(table)).reply(sink);
-    put_words(sink, table);
+    put_words(table, sink);
 }
 
 /// Lists a file. The listing is counted before it is put in, since its length stands before it.
-pub fn reply_list<S: Sink>(sink: &mut S, file: &[u8])
+pub fn reply_list<S: Sink>(file: &[u8], sink: &mut S)
     ensures { S.gives sink.old (text_reply (listing_of file.now)) sink.new }
 {
     let mut counter = Counter { low: 0 };
     text::list(file, &mut counter);
-    put_words(sink, &[counter.low]);
+    put_words(&[counter.low], sink);
     text::list(file, sink);
     sink.put(&[0; WORD_BYTES][..padding(counter.low as usize)]);
 }

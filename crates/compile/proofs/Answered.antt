@@ -1,11 +1,5 @@
 -- What the answer tells: 12 exactly where the rows outnumber the room, and of rows that they are right and in the table. Assumes nothing.
-use Prim.Native.Nat.{ℕ, ◌*◌, ◌-◌}
-use native.Mathlib.Omega.{arith}
-use mathlib.Core.Path.{◌≡◌, sym, ap, ◌∙◌}
-use mathlib.Core.List.{List, ◌++◌}
-use lib.ListN.{length}
-use lib.Seq.{take_at}
-use Rattle.std.specs.Prelude.{Ok}
+use Rattle.std.proofs.Common.{ℕ, ◌*◌, ◌-◌, arith, ◌≡◌, sym, ap, ◌∙◌, List, ◌++◌, length, take_at, Ok}
 use Rattle.logic.proofs.Tests.{by_le}
 use Rattle.theory.specs.declared.Row.{Row}
 use Rattle.flow.specs.declared.Match.{Match}

@@ -1,10 +1,5 @@
 -- The steps of the walk that builds tables: a part that does not fit means that the whole does not, since a join holds both its parts. Assumes nothing.
-use Prim.Native.Nat.{ℕ, ◌+◌, ◌-◌, ◌≤◌, ◌<◌}
-use native.Mathlib.Omega.{arith}
-use mathlib.Core.Path.{◌≡◌, refl, sym, ap, ap₂, subst, ◌∙◌}
-use mathlib.Core.List.{List}
-use lib.ListN.{length}
-use Rattle.std.specs.Prelude.{Option, Some, None}
+use Rattle.std.proofs.Common.{ℕ, ◌+◌, ◌-◌, ◌≤◌, ◌<◌, arith, ◌≡◌, refl, sym, ap, ap₂, subst, ◌∙◌, List, length, Option, Some, None}
 use Rattle.words.proofs.Laid.{length-laid}
 use Rattle.theory.specs.Tree.{Forest, ◌▸◌, table}
 use Rattle.flow.specs.Match.{is_empty, common}
@@ -54,7 +49,8 @@ module _ {a : ℕ} {C D old mid here new : List ℕ} {N P Q : Spot → Type 0} {
       let t : Lays p.end D mid here None = subst (BuildsBy p.end D mid here P) e k.is in
       record { is = too_long new t refl same (omega (arith, f.end, join-holds o C D)) }
 
-  both-built : {n : BuiltTable} (r : Option BuiltTable) → m ≡ Some n → JoinBuilt o a p.end n here new r → ((s : Spot) → P s → Q s) → Builds a (join_words o C D) old new Q r
+  both-built : {n : BuiltTable} (r : Option BuiltTable) → m ≡ Some n → JoinBuilt o a p.end n here new r → ((s : Spot) → P s → Q s)
+      → Builds a (join_words o C D) old new Q r
   both-built {n} (Some t) e j f =
       let l : Lays a C old mid (Some p.end) = (built-done g q).0 in
       let d = built-done k e in
@@ -84,7 +80,8 @@ children-words f s k o ts e =
 
 -- THE ANSWERS OF THE WALK: a node's own rows
 module _ (f : List ℕ) (s : Spot) {a : ℕ} {old new : List ℕ} (n : Node) {o atoms : List ℕ} {m : Option ℕ}
-    (e : n ≡ node_at f s.nodes_left) (u : o ≡ cells_at f n.inner) (v : atoms ≡ atom_words_at f s.next_atom n.own) (l : Lays a (own_words o atoms) old new m) where
+    (e : n ≡ node_at f s.nodes_left) (u : o ≡ cells_at f n.inner) (v : atoms ≡ atom_words_at f s.next_atom n.own)
+    (l : Lays a (own_words o atoms) old new m) where
   own-lays : Lays a (own_at f s) old new m
   own-lays =
       let words : own_words o atoms ≡ own_at f s =
@@ -108,7 +105,8 @@ module _ {f : List ℕ} {s : Spot} {a : ℕ} {old : List ℕ} where
     pub tree-rest : (last : List ℕ) → m ≡ None → TreeBuilt f s a old last None
     tree-rest last w = rw (tree-words f s reached h) (rest-full _ g q (rw ((built-done g q).1, e) at k) w)
 
-    pub tree-done : {new : List ℕ} {c : BuiltTable} (r : Option BuiltTable) → m ≡ Some c → JoinBuilt (cells_at f n.parent) a p.end c here new r → TreeBuilt f s a old new r
+    pub tree-done : {new : List ℕ} {c : BuiltTable} (r : Option BuiltTable) → m ≡ Some c → JoinBuilt (cells_at f n.parent) a p.end c here new r
+        → TreeBuilt f s a old new r
     tree-done r w j =
         rw (tree-words f s reached h) (both-built _ g q (rw ((built-done g q).1, e) at k) r w (rw e at j) (λ x u. after-tree f s reached h u))
 
@@ -117,7 +115,8 @@ module _ {f : List ℕ} {s : Spot} {a : ℕ} {old : List ℕ} where
   unfolding children_words
   children-none o n h = record { is = (lays-none (ap (λ ts. words_of (compile_trees ts (cells_at f o))) n.none) h, n.after) }
 
-  module _ (k o : ℕ) {mid : List ℕ} {x : Option BuiltTable} (g : TreeBuilt f s a old mid x) (reached : Reached f s) (some : 0 < k) (more : 0 < s.nodes_left) where
+  module _ (k o : ℕ) {mid : List ℕ} {x : Option BuiltTable} (g : TreeBuilt f s a old mid x) (reached : Reached f s) (some : 0 < k)
+      (more : 0 < s.nodes_left) where
     pub children-full : (last : List ℕ) → x ≡ None → ChildrenBuilt f s o k a old last None
     children-full last q = rw (children-words f s k o _ (children-more f s reached more k some)) (part-full last _ _ g q)
 

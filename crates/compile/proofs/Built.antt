@@ -1,13 +1,8 @@
 -- The answer of the compile, from what was built: the rows that were laid are the file's, and the buffers are cleared behind them. Assumes nothing.
-use Prim.Native.Nat.{ℕ, ◌+◌, ◌*◌, ◌-◌, ◌/◌, ◌≤◌, ◌<◌}
-use native.Mathlib.Omega.{arith}
-use mathlib.Core.Path.{◌≡◌, sym, ap, ap₂, ◌∙◌}
-use mathlib.Core.List.{List, ◌++◌, append_assoc}
-use lib.ListN.{length, take, drop, length-append, length-drop}
-use lib.Seq.{take_at, length-take-le}
+use Rattle.std.proofs.Common.{ℕ, ◌+◌, ◌*◌, ◌-◌, ◌/◌, ◌≤◌, ◌<◌, arith, ◌≡◌, sym, ap, ap₂, ◌∙◌, List, ◌++◌, append_assoc, length, take, drop, length-append}
+use Rattle.std.proofs.Common.{length-drop, take_at, length-take-le, Ok, Err, Option, Some, None}
 use Rattle.words.specs.Words.{laid, cleared, zeros}
 use Rattle.words.proofs.Laid.{laid-is}
-use Rattle.std.specs.Prelude.{Ok, Err, Option, Some, None}
 use Rattle.row.specs.Row.{row_length, words_of}
 use Rattle.row.proofs.RowLaws.{words_count}
 use Rattle.refusal.specs.Refusals.{refusal_at}

@@ -8,18 +8,13 @@
 --                                     part
 --   lays-ends, too_long               where a lay ends; a part that does not fit
 --   lays-none, lays-same, lays-case   where nothing is to be laid; equal words, and equal answers
-use Prim.Native.Nat.{ℕ, ◌+◌, ◌≤◌, ◌<◌}
-use native.Mathlib.Omega.{arith}
-use mathlib.Core.Path.{◌≡◌, refl, sym, ap, subst, ◌∙◌}
-use mathlib.Core.List.{List, [], ◌++◌}
-use lib.Dec.{leb}
-use lib.ListN.{length, length-append}
-use borrow.Author.Tests.{leb-true, leb-false, le-leb, lt-leb}
+use Rattle.std.proofs.Common.{ℕ, ◌+◌, ◌≤◌, ◌<◌, arith, ◌≡◌, refl, sym, ap, subst, ◌∙◌, List, [], ◌++◌, leb, length, length-append, leb-true, leb-false, le-leb}
+use Rattle.std.proofs.Common.{Option, Some, None}
+use borrow.Author.Tests.{lt-leb}
 use Rattle.logic.proofs.Tests.{by-test}
 use Rattle.words.specs.Words.{laid}
-use Rattle.std.specs.Prelude.{Option, Some, None}
 use Rattle.compile.specs.Lays.{made_of, Lays}
-use Rattle.words.proofs.Laid.{laid_none, laid_then}
+use Rattle.words.proofs.Laid.{laid_none, laid_then, put-laid}
 
 -- words that fit into the room, and where they end
 pub record Fitted (at : ℕ) (F : List ℕ) (room e : ℕ) : Type 0 where
@@ -128,3 +123,6 @@ pub too_long : {a b : ℕ} {C D : List ℕ} {old mid new : List ℕ} (last : Lis
     → b + length C ≤ a + length D → Lays a D old last None
 too_long {a} {b} {C} {D} {old} {mid} last l q s h =
     let f : length mid < b + length C = made-full b C (length mid) (sym q ∙ l.answer) in lays-full a D old last (omega arith)
+
+-- words that are put behind what is there, or do not fit
+pub ruleset put_words = (put-laid, lays-full, lays-words)

@@ -6,12 +6,8 @@
 --   put-none, put_full, put_all  words put before a table: none, too many, and all
 --   join-full, join-put          two tables one behind the other, joined: no room for the common rows, and the common rows put before them
 --   joins                        two tables that were laid one behind the other, replaced by their join
-use Prim.Native.Nat.{ℕ, ◌+◌, ◌-◌, ◌≤◌}
-use native.Mathlib.Omega.{arith}
-use mathlib.Core.Path.{◌≡◌, refl, sym, ap, ap₂, ◌∙◌}
-use mathlib.Core.List.{List, [], ◌++◌}
-use lib.ListN.{length, take, drop, length-append, length-drop}
-use lib.Seq.{length-take-le, take-add, drop-drop}
+use Rattle.std.proofs.Common.{ℕ, ◌+◌, ◌-◌, ◌≤◌, arith, ◌≡◌, refl, sym, ap, ap₂, ◌∙◌, List, [], ◌++◌, length, take, drop, length-append, length-drop}
+use Rattle.std.proofs.Common.{length-take-le, take-add, drop-drop, Option, Some, None}
 use Rattle.words.specs.Words.{laid, copied}
 use Rattle.words.proofs.Laid.{copied-fits, length-laid, laid_then}
 use Rattle.words.proofs.RecordLaws.{flat_append, rows_none, rows-flat}
@@ -23,7 +19,6 @@ use Rattle.action.specs.Operator as operator
 use Rattle.action.specs.declared.Action.{Action}
 use Rattle.row.specs.Row.{row_length, row_of, row_words, rows_in, words_of}
 use Rattle.row.specs.Spelled.{row_back, row-long}
-use Rattle.std.specs.Prelude.{Option, Some, None}
 use Rattle.compile.specs.Lays.{made_of, Lays}
 use Rattle.compile.specs.Tables.{common_rows_words, join_rows, join_words}
 use Rattle.compile.specs.Places.{part}

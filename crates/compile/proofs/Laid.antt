@@ -1,10 +1,6 @@
 -- Laws of words laid over a buffer, part after part: laid one behind the other, read back, and hidden by what is laid over them. Assumes nothing.
-use Prim.Native.Nat.{ℕ, ◌+◌, ◌-◌, ◌≤◌}
-use native.Mathlib.Omega.{arith}
-use mathlib.Core.Path.{◌≡◌, refl, sym, ap, ◌∙◌}
-use mathlib.Core.List.{List, ◌++◌, append_assoc}
-use lib.ListN.{length, take, drop, length-append, length-drop, take-append-drop}
-use lib.Seq.{length-take-le, take_at, drop_at, drop-drop}
+use Rattle.std.proofs.Common.{ℕ, ◌+◌, ◌-◌, ◌≤◌, arith, ◌≡◌, refl, sym, ap, ◌∙◌, List, ◌++◌, append_assoc, length, take, drop, length-append, length-drop}
+use Rattle.std.proofs.Common.{take-append-drop, length-take-le, take_at, drop_at, drop-drop}
 use Rattle.words.specs.Words.{laid}
 use Rattle.words.proofs.Laid.{laid_then, laid-is, length-laid}
 

@@ -1,13 +1,5 @@
 -- The compile's answers and what it leaves, in the order of its refusals, from their definition. Assumes nothing.
-use Prim.Native.Nat.{ℕ, ◌*◌, ◌-◌, ◌≤◌, ◌<◌}
-use native.Mathlib.Omega.{arith}
-use mathlib.Core.Path.{◌≡◌, refl}
-use mathlib.Core.Bool.{true, false}
-use mathlib.Core.List.{List, ◌++◌}
-use lib.Dec.{ltb}
-use lib.ListN.{length}
-use borrow.Author.Tests.{lt-ltb, le-ltb}
-use Rattle.std.specs.Prelude.{Result, Ok, Err}
+use Rattle.std.proofs.Common.{ℕ, ◌*◌, ◌-◌, ◌≤◌, ◌<◌, arith, ◌≡◌, refl, true, false, List, ◌++◌, ltb, length, lt-ltb, le-ltb, Result, Ok, Err}
 use Rattle.logic.proofs.Tests.{by_le}
 use Rattle.row.specs.Row.{row_length, words_of}
 use Rattle.refusal.specs.Refusals.{refusal_at}

@@ -1,14 +1,8 @@
 -- A node's own table grows by one atom at a time, from the last: the atom's row is joined with the table that stands there. Assumes nothing.
-use Prim.Native.Nat.{ℕ, ◌+◌, ◌-◌, ◌≤◌, ◌<◌}
-use native.Mathlib.Omega.{arith}
-use mathlib.Core.Path.{◌≡◌, refl, sym, ap, ap₂, subst, ◌∙◌}
-use mathlib.Core.Bool.{Bool, true, false, cond}
-use mathlib.Core.List.{List, [], ◌∷◌, ◌++◌, append_assoc, append-nil}
-use lib.Dec.{leb}
-use lib.ListN.{length, take, drop, length-append, length-drop, drop_of_length-le}
-use lib.Seq.{take_all}
+use Rattle.std.proofs.Common.{ℕ, ◌+◌, ◌-◌, ◌≤◌, ◌<◌, arith, ◌≡◌, refl, sym, ap, ap₂, subst, ◌∙◌, Bool, true, false, cond, List, [], ◌∷◌, ◌++◌, append_assoc}
+use Rattle.std.proofs.Common.{append-nil, leb, length, take, drop, length-append, length-drop, drop_of_length-le, take_all, Option, Some, None}
 use Rattle.words.specs.Words.{laid}
-use Rattle.words.proofs.Laid.{length-laid, laid_then}
+use Rattle.words.proofs.Laid.{length-laid, laid_then, put-laid}
 use Rattle.words.proofs.RecordLaws.{rows-flat}
 use Rattle.theory.specs.declared.Row.{Row}
 use Rattle.theory.specs.Rows.{kept, common_with, common_rows}
@@ -21,7 +15,6 @@ use Rattle.row.specs.Spelled.{row_back, row-long}
 use Rattle.compile.specs.Lays.{made_of, Lays}
 use Rattle.compile.specs.Tables.{common_with_words, common_rows_words, own_rows, join_words, atom_words, own_words}
 use Rattle.compile.specs.Places.{part, PutUpTo, Grows}
-use Rattle.std.specs.Prelude.{Option, Some, None}
 use Rattle.compile.proofs.Turns.{some_words}
 use Rattle.compile.proofs.Going.{Fitted, made-words, made-full, lays-full, lays-same, too_long}
 use Rattle.compile.proofs.Grow.{join-parts, join-flat, join-length, join-none, laid-back}
@@ -198,7 +191,8 @@ behind-start o atoms rest {a} {old} {s} e h n = record {
 }
 
 -- the steps: one more atom, no room for it, and all atoms joined
-module _ (o : List ℕ) (x : Row Match Action) (left : List (Row Match Action)) {atoms rest : List (Row Match Action)} {a e : ℕ} {old here new s s' : List ℕ} {m : Option ℕ}
+module _ (o : List ℕ) (x : Row Match Action) (left : List (Row Match Action)) {atoms rest : List (Row Match Action)} {a e : ℕ}
+    {old here new s s' : List ℕ} {m : Option ℕ}
     (b : Behind o atoms rest a e old here s) (parts : rest ≡ left ++ (x ∷ []))
     (j : Grows a (join_words o (atom_words x) (drop e s)) here new s' m) where
   with_atom : Grows a (gone_words o (x ∷ b.gone)) old new s' m
@@ -232,7 +226,8 @@ module _ (o : List ℕ) (x : Row Match Action) (left : List (Row Match Action)) 
       ap (λ k. length (gone_words o k)) (all_parts ∙ sym same) in
       lays-full a (gone_words o (rows_in words)) old last (omega (arith, own-hold o left (x ∷ b.gone), b.scratch))
 
-pub behind-end : (o words : List ℕ) {rest : List (Row Match Action)} {a e : ℕ} {old here new s : List ℕ} {m : Option ℕ} → Behind o (rows_in words) rest a e old here s
+pub behind-end : (o words : List ℕ) {rest : List (Row Match Action)} {a e : ℕ} {old here new s : List ℕ} {m : Option ℕ}
+    → Behind o (rows_in words) rest a e old here s
     → rest ≡ [] → Lays a (take (length s - e) (drop e s)) here new m → Lays a (own_words o words) old new m
 unfolding own_words
 behind-end o words {rest} {a} {e} {old} {here} {new} {s} {m} b none l =
@@ -243,3 +238,6 @@ behind-end o words {rest} {a} {e} {old} {here} {new} {s} {m} b none l =
       answer = l'.answer ∙ ap (made_of a (gone_words o b.gone)) b.table;
       words = λ c. l'.words (omega (arith, b.table)) ∙ b.grown.hidden e refl (gone_words o b.gone) (omega arith) c;
     })
+
+-- the rows up to one are put, or do not fit
+pub ruleset put_up = (put-laid, put-up-full, put-up-words)

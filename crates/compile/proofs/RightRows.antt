@@ -1,12 +1,6 @@
 -- The rows of an accepted file are right: right codes keep rates in their range as they are joined, common matches of right ones are right, and every row is
 -- made by joining atoms. Assumes nothing.
-use Prim.Native.Nat.{ℕ, suc, ◌+◌, ◌<◌}
-use native.Mathlib.Omega.{arith}
-use mathlib.Core.Path.{◌≡◌, sym, subst}
-use mathlib.Core.Bool.{true}
-use mathlib.Core.List.{List, [], ◌∷◌}
-use lib.ListN.{length, get_or, drop}
-use Rattle.std.specs.Prelude.{Ok}
+use Rattle.std.proofs.Common.{ℕ, suc, ◌+◌, ◌<◌, arith, ◌≡◌, sym, subst, true, List, [], ◌∷◌, length, get_or, drop, Ok}
 use Rattle.logic.specs.Lists.{All}
 use Rattle.logic.proofs.Lists.{all_take, all_drop, all_map, all_then}
 use Rattle.words.proofs.RecordLaws.{length-records}

@@ -4,14 +4,8 @@
 --   with_chunks                        the common rows of a row and the rows that some chunks are; with-all, with-next,
 --                                      with-end
 --   both_rows, both-next, both-end     those of the rows that are left and a table
-use Prim.Native.Nat.{ℕ, suc, ◌+◌, ◌/◌, ◌≤◌, ◌<◌}
-use native.Mathlib.Omega.{arith}
-use native.Mathlib.Numerals.{add-one}
-use mathlib.Core.Path.{◌≡◌, sym, ap, ap₂, ◌∙◌}
-use mathlib.Core.Bool.{Bool, true, false, not}
-use mathlib.Core.List.{List, [], ◌∷◌, ◌++◌, map}
-use lib.ListN.{length, get_or, drop, drop_of_length-le}
-use lib.Seq.{drop-cons}
+use Rattle.std.proofs.Common.{ℕ, suc, ◌+◌, ◌/◌, ◌≤◌, ◌<◌, arith, add-one, ◌≡◌, sym, ap, ap₂, ◌∙◌, Bool, true, false, not, List, [], ◌∷◌, ◌++◌, map, length}
+use Rattle.std.proofs.Common.{get_or, drop, drop_of_length-le, drop-cons}
 use Rattle.std.specs.Simd.{first_chunks}
 use Rattle.words.specs.Records.{rows_of}
 use Rattle.words.proofs.RecordLaws.{flat_append}

@@ -73,6 +73,7 @@ fn add_common(
 }
 
 // Stores some words from a place on, if they fit.
+#[tactic(auto, using(crate::proofs::Going::put_words))]
 pub(crate) fn append(out: &mut [u32], at: usize, words: &[u32]) -> Option<usize>
     requires { at ≤ length out.old }
     ensures { Lays at words.now out.old out.new result }

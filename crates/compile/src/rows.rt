@@ -105,6 +105,7 @@ fn join_atom(
 
 // Puts some words before a place, if there is room for them from the start on. Answers where they
 // start.
+#[tactic(auto, using(crate::proofs::Own::put_up))]
 fn put_up_to(out: &mut [u32], start: usize, place: usize, words: &[u32]) -> Option<usize>
     requires order { start ≤ place }
     requires within { place ≤ length out.old }

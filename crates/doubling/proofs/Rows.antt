@@ -1,6 +1,6 @@
 -- The compile answers 2 ^ k - 1 rows for the file of k atoms, where k is at most 12, and the refusal 12 for that of 13. The
 -- files are read, and their trees found, by computation; their rows are counted by induction over the atoms.
-use Rattle.std.proofs.Common.{◌≡◌, refl, sym, ap, ◌∙◌, arith, List, Ok, Err, ℕ, zero, suc, ◌*◌, ◌-◌, ◌^◌, ◌≤◌, ◌<◌, length, replicate, false}
+use Rattle.std.proofs.Common.{◌≡◌, refl, rules, sym, ap, ◌∙◌, arith, List, Ok, Err, ℕ, zero, suc, ◌*◌, ◌-◌, ◌^◌, ◌≤◌, ◌<◌, length, replicate, false}
 use Rattle.std.proofs.lemmas.List.{length-replicate}
 use Rattle.std.proofs.Math.Pow.{pow_mono}
 use Rattle.theory.specs.declared.Row.{Row}
@@ -66,28 +66,7 @@ unfolding file root one ones right_prefix zero_beyond right_value is_none is_pla
     right_action in_range operator.coded operator.join operator.right_cell commutes associates shown pairs triples first_pair first_triple
     law_search row_action right_row_match right_row_action count_fault cells_fault atom_fault node_fault section_fault shape_fault sum_fault
     operator_fault laws_fault whole_stages stages read_as
-all_accepted = (
-  (refl, refl),
-  (
-    (refl, refl),
-    (
-      (refl, refl),
-      (
-        (refl, refl),
-        (
-          (refl, refl),
-          (
-            (refl, refl),
-            (
-              (refl, refl),
-              ((refl, refl), ((refl, refl), ((refl, refl), ((refl, refl), ((refl, refl), ((refl, refl), ((refl, refl), tt))))))),
-            ),
-          ),
-        ),
-      ),
-    ),
-  ),
-)
+all_accepted = search rules depth 60
 
 module _ (k : ℕ) (below : k < 14) where
   reads : read_of (file k) ≡ Ok (layout 1 k 1)

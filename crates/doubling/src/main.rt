@@ -34,6 +34,7 @@ fn main(rt: HostRuntime) -> io::Result<()> {
 }
 
 // The two numbers that are written.
+#[tactic(auto, using(crate::proofs::Rows::few, crate::proofs::Rows::many))]
 fn numbers() -> [usize; 2]
     ensures { result ≡ 4095 ∷ 12 ∷ [] }
 {

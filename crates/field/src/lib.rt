@@ -4,7 +4,7 @@
 ghost use Rattle.std.specs.Prelude.{◌≡◌};
 ghost use Rattle.field.specs.Prefix.{address_bits, in_prefix, right_prefix, prefixes_meet, covers};
 ghost use Rattle.field.specs.Longer.{longer};
-ghost use Rattle.field.specs.Value.{meets_value, values_meet, value_inside, common_value, right_value};
+ghost use Rattle.field.specs.Value.{meets_value, values_meet, common_value, right_value};
 
 /// How many bits an address has.
 pub const ADDRESS_BITS: u32 = 32;
@@ -20,10 +20,10 @@ pub struct Prefix {
 impl Prefix {
     /// Whether an address lies in the prefix: the first bit in which the two differ, if there is one, stands beyond the
     /// length.
-    pub fn contains(self, x: u32) -> bool
-        ensures { result ≡ in_prefix address_bits self.address self.length x }
+    pub fn contains(self, address: u32) -> bool
+        ensures { result ≡ in_prefix address_bits self.address self.length address }
     {
-        u32::min(self.length, ADDRESS_BITS) <= u32::leading_zeros(self.address ^ x)
+        u32::min(self.length, ADDRESS_BITS) <= u32::leading_zeros(self.address ^ address)
     }
 
     /// Whether the prefix is right: a length of at most 32, and 0 in the bits beyond it, so that the address has no
@@ -66,41 +66,33 @@ impl Prefix {
     }
 }
 
-// A value of a match and the flag that says whether it is constrained stay two parameters: as an Option, whether two
-// matches overlap took 1.4 to 3.3 times as long; with a struct of the two, `number pruned` took 1.2 times Rust's time
-// for 1,024 mixed rows, where the bar is 1.1.
+// A value of a match and the flag that says whether it is constrained stay two parameters: an Option makes the test of
+// whether two matches overlap up to 3.3 times slower, a struct of the two the numbering slower than it is to be.
 
-/// Whether x meets the value v, which is constrained where on says so.
-pub fn meets_value(on: bool, v: u32, x: u32) -> bool
-    ensures { result ≡ meets_value on v x }
+/// Whether a number meets a value, which is constrained where `on` says so.
+pub fn meets_value(on: bool, value: u32, number: u32) -> bool
+    ensures { result ≡ meets_value on value number }
 {
-    !on | (v == x)
+    !on | (value == number)
 }
 
-/// Whether some number meets both v, constrained where a says so, and w, constrained where b says so.
-pub fn values_meet(a: bool, v: u32, b: bool, w: u32) -> bool
-    ensures { result ≡ values_meet a v b w }
+/// Whether some number meets both of two values, each constrained where the flag before it says so.
+pub fn values_meet(on: bool, value: u32, other_on: bool, other: u32) -> bool
+    ensures { result ≡ values_meet on value other_on other }
 {
-    !a | (!b | (w == v))
-}
-
-/// Whether every number that meets v, constrained where a says so, meets w, constrained where b says so.
-pub fn value_inside(a: bool, v: u32, b: bool, w: u32) -> bool
-    ensures { result ≡ value_inside a v b w }
-{
-    !b | (a & (w == v))
+    !on | (!other_on | (other == value))
 }
 
 /// The value that two such values that meet are together: the first if it is constrained, else the second.
-pub fn common_value(on: bool, v: u32, w: u32) -> u32
-    ensures { result ≡ common_value on v w }
+pub fn common_value(on: bool, value: u32, other: u32) -> u32
+    ensures { result ≡ common_value on value other }
 {
-    if on { v } else { w }
+    if on { value } else { other }
 }
 
 /// Whether a value is right: below the limit, and 0 where it is unconstrained.
-pub fn right_value(on: bool, limit: u32, v: u32) -> bool
-    ensures { result ≡ right_value on limit v }
+pub fn right_value(on: bool, limit: u32, value: u32) -> bool
+    ensures { result ≡ right_value on limit value }
 {
-    (v < limit) & (on | (v == 0))
+    (value < limit) & (on | (value == 0))
 }

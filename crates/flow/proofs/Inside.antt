@@ -1,8 +1,7 @@
 -- A match that lies inside another. Where it does not, a packet in range shows it: the own packet of the one with one value changed; its
 -- protocol is changed to the other that has ports. Assumes nothing.
-use mathlib.Core.Path.{◌≡◌, refl, sym, ap, ◌∙◌}
-use mathlib.Core.Bool.{Bool, true, false, not, ◌||◌, or-true}
-use mathlib.Core.Logic.{⊎_elim}
+use mathlib.Core.Path.{◌≡◌, refl, ap}
+use mathlib.Core.Bool.{Bool, true, false, not}
 use Prim.Native.Nat.{ℕ, ◌^◌, ◌<◌}
 use native.Mathlib.Omega.{arith}
 use borrow.Author.Tests.{lt-ltb, not-true}
@@ -16,28 +15,18 @@ use Rattle.flow.specs.Match.{is_empty, right_match, inside, LiesIn}
 use Rattle.flow.specs.Theorems.{InsideMeets, InsideTrans, InsideExactly}
 use Rattle.flow.specs.declared.Match.{Match}
 use Rattle.flow.specs.declared.Packet.{Packet}
-use Rattle.flow.proofs.Flags.{flag-either}
+use Rattle.flow.proofs.ByFlags.{port-on}
 use Rattle.flow.proofs.Laws.{ranges, unflagged, own_protocol, own-protocol-met, own-protocol-ports, own-protocol-below}
 use Rattle.flow.proofs.Parts.{Parts, parts, whole}
 use Rattle.flow.proofs.Tests.{Tests, tests, tested, met-lives}
-use Rattle.logic.proofs.Tests.{by-test, and_both, or_split}
+use Rattle.logic.proofs.Tests.{by-test, and_both}
 
 -- an empty match lies inside every match
 empty-inside : (a b : Match) → is_empty a ≡ true → inside a b ≡ true
 unfolding inside
 empty-inside a b e = rw e
 
--- a match that lies inside one with a port has a port
-port-on : (a b : Match) → Parts a b → constrains port_flags b ≡ true → constrains port_flags a ≡ true
-port-on a b h e =
-    flag-either source_port_flag destination_port_flag a.flags
-    ∙ ⊎_elim
-    (λ s. ap (λ (x : Bool). x || constrains destination_port_flag a) (value_on _ a.source_port _ b.source_port h.source_port s))
-    (λ d. ap (λ (x : Bool). constrains source_port_flag a || x) (value_on _ a.destination_port _ b.destination_port h.destination_port d)
-    ∙ or-true (constrains source_port_flag a))
-    (or_split _ _ (sym (flag-either source_port_flag destination_port_flag b.flags) ∙ e))
-
--- so a protocol that passes the ports of the one passes those of the other
+-- a protocol that passes the ports of a match passes those of one that has no port where that has none
 passes_on : (on on' : Bool) (q : ℕ) → (on' ≡ true → on ≡ true) → meets_ports on q ≡ true → meets_ports on' q ≡ true
 unfolding meets_ports
 passes_on on false q narrow e = refl
@@ -50,7 +39,9 @@ inside-meets a b p e f =
     let h : Parts a b = parts a b (met-lives a p f) e in
     tested b p (record {
       unflagged = ap not (unflagged b (not-true (is_empty b) h.live));
-      ports = passes_on _ _ p.protocol (port-on a b h) t.ports;
+      ports = passes_on _ _ p.protocol
+          (port-on a b (value_on _ a.source_port _ b.source_port h.source_port)
+          (value_on _ a.destination_port _ b.destination_port h.destination_port)) t.ports;
       in_port = value-meets _ a.in_port _ b.in_port p.in_port h.in_port t.in_port;
       protocol = value-meets _ a.protocol _ b.protocol p.protocol h.protocol t.protocol;
       source_port = value-meets _ a.source_port _ b.source_port p.source_port h.source_port t.source_port;

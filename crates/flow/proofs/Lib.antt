@@ -1,3 +1,4 @@
+pub mod ByFlags
 pub mod Flags
 pub mod Inside
 pub mod Laws

@@ -62,6 +62,7 @@ pub packet-none : (l : List ℕ) (x : InvalidPacket) → packet_in l ≡ Err x �
 unfolding packet_in
 packet-none l x e = go (right_packet_words l) refl e
   where
-    go : (t : Bool) → right_packet_words l ≡ t → ◌≡◌ {A = Result Packet InvalidPacket} (cond t (Ok (packet_of l)) (Err (record {}))) (Err x) → right_packet_words l ≡ false
+    go : (t : Bool) → right_packet_words l ≡ t → ◌≡◌ {A = Result Packet InvalidPacket} (cond t (Ok (packet_of l)) (Err (record {}))) (Err x)
+        → right_packet_words l ≡ false
     go true q h = cc
     go false q h = q

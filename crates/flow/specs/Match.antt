@@ -3,28 +3,28 @@
 -- constrained by their prefixes. A port is met only by packets of a protocol that has ports. Flag 16 is an empty match.
 -- See docs/FORMAT.md, "Matches".
 --
---   match_of, match_words   the match that some words are, and its words
---   port_flags              the flags of the two ports
---   known_flags             the flags that may stand together
---   flagged k f             a flag of k is among the flags f; constrains k m: among those of m
---   has_ports q             the protocol q has ports
---   meets_ports on q        no port is constrained, or the protocol q has ports
---   clash f q               the flags f ask for a port, and for the protocol q, which has none; contradicts m: those of
---                           m
---   unmet f q               no packet meets a match with the flags f and the protocol q
---   is_empty m              no packet meets m
---   none, is_none m         the empty match of flag 16 in its only right form, and that m's words are its words
---   is_plain m              m is right without flag 16
---   right_match m           the words are right: those of none, or of a plain match
---   fits m p                p meets m if every packet is taken to have ports
---   meets m p               the packet p meets the match m
---   agree a b               no field of the two keeps a packet from meeting both
---   both a b                the two together
---   overlap a b             some packet meets both
---   common a b              the match that exactly the packets meet that meet both
---   inside a b              every packet that meets a meets b
---   SharedPacket a b        a packet in range that meets both
---   LiesIn a b              every packet in range that meets a meets b
+--   match_of, match_words     the match that some words are, and its words
+--   port_flags                the flags of the two ports
+--   known_flags               the flags that may stand together
+--   flagged asked flags       a flag that is asked for is among the flags; constrains asked m: among those of m
+--   has_flags_of a b          a has every flag that b has
+--   has_ports protocol        the protocol has ports
+--   meets_ports on protocol   no port is constrained, or the protocol has ports
+--   clash flags protocol      the flags ask for a port, and for the protocol, which has none; contradicts m: those of m
+--   unmet flags protocol      no packet meets a match with these flags and this protocol
+--   is_empty m                no packet meets m
+--   none, is_none m           the empty match of flag 16 in its only right form, and that m's words are its words
+--   is_plain m                m is right without flag 16
+--   right_match m             the words are right: those of none, or of a plain match
+--   fits m p                  p meets m if every packet is taken to have ports
+--   meets m p                 the packet p meets the match m
+--   agree a b                 no field of the two keeps a packet from meeting both
+--   both a b                  the two together
+--   overlap a b               some packet meets both
+--   common a b                the match that exactly the packets meet that meet both
+--   inside a b                every packet that meets a meets b
+--   SharedPacket a b          a packet in range that meets both
+--   LiesIn a b                every packet in range that meets a meets b
 use Rattle.std.specs.Prelude.{ℕ, ◌+◌, ◌-◌, ◌≡◌, Bool, true, false, not, ◌&&◌, ◌||◌, List, [], ◌∷◌, ◌++◌, replicate, if◌then◌else◌, ◌==◌, slice_index}
 use Rattle.std.specs.Int.Bits.{bit_and, bit_or}
 use Rattle.field.specs.Prefix.{address_bits, in_prefix, right_prefix, prefixes_meet, covers}
@@ -96,13 +96,26 @@ match_words m =
 abbrev pub none : Match
 none = match_of (replicate (match_length - 1) 0 ++ empty_flag ∷ [])
 
--- a flag of k is among the flags f
+-- a flag that is asked for is among the flags
 abbrev pub flagged : ℕ → ℕ → Bool
-flagged k f = not (bit_and f k == 0)
+flagged asked flags = not (bit_and flags asked == 0)
 
--- a flag of k is among those of m
+-- a flag that is asked for is among those of m
 abbrev pub constrains : ℕ → Match → Bool
-constrains k m = flagged k m.flags
+constrains asked m = flagged asked m.flags
+
+-- a has a flag where b has it
+abbrev pub has_flag_of : ℕ → Match → Match → Bool
+has_flag_of asked a b = not (constrains asked b) || constrains asked a
+
+-- a has every flag that b has
+unfoldable pub has_flags_of : Match → Match → Bool
+has_flags_of a b =
+    has_flag_of in_port_flag a b
+    && has_flag_of protocol_flag a b
+    && has_flag_of source_port_flag a b
+    && has_flag_of destination_port_flag a b
+    && has_flag_of empty_flag a b
 
 -- the protocols that have ports
 abbrev pub tcp : ℕ
@@ -112,23 +125,24 @@ abbrev pub udp : ℕ
 udp = 17
 
 abbrev pub has_ports : ℕ → Bool
-has_ports q = q == tcp || q == udp
+has_ports protocol = protocol == tcp || protocol == udp
 
--- a packet of the protocol q passes the ports of a match, whatever their values: none is constrained, or q has ports
+-- a packet of the protocol passes the ports of a match, whatever their values: none is constrained, or the protocol has
+-- ports
 unfoldable pub meets_ports : Bool → ℕ → Bool
-meets_ports on q = not on || has_ports q
+meets_ports on protocol = not on || has_ports protocol
 
--- a match with the flags f and the protocol q constrains a port and a protocol without ports
+-- a match with these flags and this protocol constrains a port and a protocol without ports
 unfoldable pub clash : ℕ → ℕ → Bool
-clash f q = flagged port_flags f && flagged protocol_flag f && not (has_ports q)
+clash flags protocol = flagged port_flags flags && flagged protocol_flag flags && not (has_ports protocol)
 
 -- the match contradicts itself
 unfoldable pub contradicts : Match → Bool
 contradicts m = clash m.flags m.protocol
 
--- no packet meets a match with the flags f and the protocol q: it has flag 16, or the two clash
+-- no packet meets a match with these flags and this protocol: it has flag 16, or the two clash
 unfoldable pub unmet : ℕ → ℕ → Bool
-unmet f q = flagged empty_flag f || clash f q
+unmet flags protocol = flagged empty_flag flags || clash flags protocol
 
 -- no packet meets the match
 unfoldable pub is_empty : Match → Bool

@@ -38,6 +38,9 @@ const EMPTY_FLAGS: u32 = PORTS + EMPTY;
 // The flags that may stand together.
 const KNOWN_FLAGS: u32 = IN_PORT + PROTOCOL + PORTS;
 
+// All flags.
+const FLAGS: u32 = KNOWN_FLAGS + EMPTY;
+
 // In-ports and ports are below the one, protocols below the other.
 const PORT_LIMIT: u32 = 65536;
 

@@ -2,16 +2,16 @@
 //! are.
 
 ghost use Rattle.std.specs.Prelude.{◌≡◌};
-ghost use Rattle.field.specs.Value.{values_meet, value_inside};
-ghost use Rattle.flow.specs.Match.{constrains, has_ports, clash, contradicts};
+ghost use Rattle.field.specs.Value.{values_meet};
+ghost use Rattle.flow.specs.Match.{constrains, has_flags_of, has_ports, clash, contradicts};
 ghost use Rattle.flow.specs.Match.{unmet, is_empty, is_none, is_plain, right_match, meets, overlap, inside, both};
 ghost use Rattle.flow.specs.Match.{common};
 
 use crate::{
-    DESTINATION_PORT, EMPTY, EMPTY_FLAGS, IN_PORT, KNOWN_FLAGS, MATCH_WORDS, Match, MatchWords,
-    PORT_LIMIT, PORTS, PROTOCOL, PROTOCOL_LIMIT, Packet, SOURCE_PORT, TCP, UDP,
+    DESTINATION_PORT, EMPTY, EMPTY_FLAGS, FLAGS, IN_PORT, KNOWN_FLAGS, MATCH_WORDS, Match,
+    MatchWords, PORT_LIMIT, PORTS, PROTOCOL, PROTOCOL_LIMIT, Packet, SOURCE_PORT, TCP, UDP,
 };
-use field::{Prefix, common_value, meets_value, right_value, value_inside, values_meet};
+use field::{Prefix, common_value, meets_value, right_value, values_meet};
 use words::{Spelling, Written, copy, word};
 
 impl Match {
@@ -33,25 +33,25 @@ impl Match {
     };
 
     /// Whether a packet meets the match. The addresses are tested first, as in overlap.
-    pub fn meets(self, p: Packet) -> bool
-        ensures { result ≡ meets self p }
+    pub fn meets(self, packet: Packet) -> bool
+        ensures { result ≡ meets self packet }
     {
-        self.destination.contains(p.destination)
-            && self.source.contains(p.source)
+        self.destination.contains(packet.destination)
+            && self.source.contains(packet.source)
             && (!self.constrains(EMPTY)
-                & meets_value(self.constrains(IN_PORT), self.in_port, p.in_port)
-                & meets_value(self.constrains(PROTOCOL), self.protocol, p.protocol)
+                & meets_value(self.constrains(IN_PORT), self.in_port, packet.in_port)
+                & meets_value(self.constrains(PROTOCOL), self.protocol, packet.protocol)
                 & meets_value(
                     self.constrains(SOURCE_PORT),
                     self.source_port,
-                    p.source_port,
+                    packet.source_port,
                 )
                 & meets_value(
                     self.constrains(DESTINATION_PORT),
                     self.destination_port,
-                    p.destination_port,
+                    packet.destination_port,
                 )
-                & (!self.constrains(PORTS) | has_ports(p.protocol)))
+                & (!self.constrains(PORTS) | has_ports(packet.protocol)))
     }
 
     /// Whether some packet meets both matches. The addresses are tested first: most that do not overlap differ there.
@@ -75,23 +75,27 @@ impl Match {
             )
     }
 
-    /// Whether every packet that meets the match meets the other. The addresses are tested first, as in overlap.
+    /// Whether every packet that meets the match meets the other. The addresses are tested first, as in overlap; of an
+    /// other that is empty, this one has not all flags, or both are.
     pub fn lies_inside(self, other: Match) -> bool
         ensures { result ≡ inside self other }
     {
         self.is_empty()
             || (other.destination.covers(self.destination)
                 && other.source.covers(self.source)
-                && self.inside_in(
-                    other,
-                    DESTINATION_PORT,
-                    self.destination_port,
-                    other.destination_port,
-                )
-                && self.inside_in(other, SOURCE_PORT, self.source_port, other.source_port)
-                && (!other.is_empty()
-                    & self.inside_in(other, IN_PORT, self.in_port, other.in_port)
-                    & self.inside_in(other, PROTOCOL, self.protocol, other.protocol)))
+                && (self.has_flags_of(other)
+                    & meets_value(other.constrains(IN_PORT), other.in_port, self.in_port)
+                    & meets_value(other.constrains(PROTOCOL), other.protocol, self.protocol)
+                    & meets_value(
+                        other.constrains(SOURCE_PORT),
+                        other.source_port,
+                        self.source_port,
+                    )
+                    & meets_value(
+                        other.constrains(DESTINATION_PORT),
+                        other.destination_port,
+                        self.destination_port,
+                    )))
     }
 
     /// The match that exactly the packets meet that meet both: empty where there are none.
@@ -150,19 +154,18 @@ impl Match {
             & self.destination.is_right()
     }
 
-    // Whether two matches agree in the value that a flag is for: v in the one, w in the other. It and `inside_in` stay
-    // two: one, with the test as a parameter, is no shorter.
+    // Whether two matches agree in the value that a flag is for: v in the one, w in the other.
     fn agrees_in(self, other: Match, flag: u32, v: u32, w: u32) -> bool
         ensures { result ≡ values_meet (constrains flag self) v (constrains flag other) w }
     {
         values_meet(self.constrains(flag), v, other.constrains(flag), w)
     }
 
-    // Whether the match lies inside another in the value that a flag is for: v in the one, w in the other.
-    fn inside_in(self, other: Match, flag: u32, v: u32, w: u32) -> bool
-        ensures { result ≡ value_inside (constrains flag self) v (constrains flag other) w }
+    // Whether the match has every flag that another has.
+    fn has_flags_of(self, other: Match) -> bool
+        ensures { result ≡ has_flags_of self other }
     {
-        value_inside(self.constrains(flag), v, other.constrains(flag), w)
+        (other.flags & !self.flags & FLAGS) == 0
     }
 
     // Both matches together, where they overlap: what either constrains, and the longer prefixes.
@@ -251,17 +254,17 @@ impl From<Match> for MatchWords {
 
     ghost from_gives = { λ m r. r ≡ match_words m };
 
-    fn from(m: Match) -> MatchWords {
+    fn from(matching: Match) -> MatchWords {
         [
-            m.in_port,
-            m.source.address,
-            m.destination.address,
-            m.protocol,
-            m.source_port,
-            m.destination_port,
-            m.source.length,
-            m.destination.length,
-            m.flags,
+            matching.in_port,
+            matching.source.address,
+            matching.destination.address,
+            matching.protocol,
+            matching.source_port,
+            matching.destination_port,
+            matching.source.length,
+            matching.destination.length,
+            matching.flags,
         ]
     }
 }

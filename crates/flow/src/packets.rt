@@ -90,14 +90,14 @@ impl From<Packet> for PacketWords {
 
     ghost from_gives = { λ p r. r ≡ packet_words p };
 
-    fn from(p: Packet) -> PacketWords {
+    fn from(packet: Packet) -> PacketWords {
         [
-            p.in_port,
-            p.source,
-            p.destination,
-            p.protocol,
-            p.source_port,
-            p.destination_port,
+            packet.in_port,
+            packet.source,
+            packet.destination,
+            packet.protocol,
+            packet.source_port,
+            packet.destination_port,
         ]
     }
 }

@@ -49,9 +49,17 @@ fn keep_rows(table: &mut [u32]) -> usize
     to
 }
 
-// Whether a match lies inside that of one of some rows.
+// Whether a match lies inside that of one of some rows. Inlined into its caller, which leaves it fewer registers, it
+// takes up to 1.3 times as long for disjoint rows.
+#[inline(never)]
 fn inside_one(m: Match, rows: &[u32]) -> bool
     ensures { result ≡ inside_one inside m (rows_in rows.now) }
 {
-    Rows::of(rows).any(|row| m.lies_inside(row.matching))
+    // It lies inside none of the rows before the next.
+    for row in Rows::of(rows) {
+        if m.lies_inside(row.matching) {
+            return true;
+        }
+    }
+    false
 }

@@ -1,6 +1,5 @@
 -- What is listed of a buffer that holds the first bytes of an input, and what is left of it.
-use Rattle.std.proofs.Common.{◌≡◌, ◌∙◌, ap, List, ℕ, length, take, drop, None, Some, IfSome, subst}
-use Rattle.std.specs.declared.option.Option.{Option}
+use Rattle.std.proofs.Common.{◌≡◌, ◌∙◌, ap, List, ℕ, length, take, drop, None, Some, IfSome, subst, Option}
 use Rattle.streams.specs.Input.{ReadsBytes}
 use Rattle.streams.proofs.Filled.{read-bytes, read-left}
 use Rattle.text.specs.declared.TheConstants.{INPUT_ROOM}

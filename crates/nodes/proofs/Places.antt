@@ -5,15 +5,17 @@ use Rattle.std.specs.Option.{unwrap_or}
 use Rattle.std.specs.declared.option.Option.{Option}
 use Rattle.std.specs.declared.option.Option.TheVariants.{None, Some}
 use Rattle.std.specs.Slice.{IsGetRangeResult}
-use Prim.Native.Nat.{ℕ, zero, suc, ◌+◌, ◌*◌, ◌-◌, ◌/◌, ◌≤◌, ◌<◌}
+use Rattle.std.proofs.Math.Nat.{min-eq_left, min-eq_right}
+use Prim.Native.Nat.{ℕ, zero, suc, ◌+◌, ◌*◌, ◌-◌, ◌/◌, ◌^◌, ◌≤◌, ◌<◌, min}
 use native.Mathlib.Omega.{arith}
+use native.Mathlib.Nat.{le_of_lt}
 use mathlib.Core.Path.{◌≡◌, refl, sym, ap, ap₂, ◌∙◌}
 use mathlib.Core.List.{List, [], ◌∷◌, map}
 use mathlib.Core.Bool.{cond}
 use lib.Dec.{leb}
 use lib.ListN.{get_or, length, take, drop, length-drop, drop_of_length-le}
-use lib.Seq.{get_or-take, get_or-drop, drop-drop, drop-cons, take_all, take-add, take_at, drop_at, length-take-le}
-use borrow.Author.Tests.{le-leb, lt-leb, le-ltb}
+use lib.Seq.{get_or-take, get_or-drop, drop-drop, drop-cons, take-add, take_at, drop_at, length-take-le}
+use borrow.Author.Tests.{le-leb, lt-leb, le-ltb, lt-ltb}
 use Rattle.words.specs.Records.{records, rows_of}
 use Rattle.words.proofs.RecordLaws.{length-records, rows_more, rows_none}
 use Rattle.theory.specs.declared.Row.{Row}
@@ -33,50 +35,66 @@ use Rattle.policy.specs.Due.{RightNode}
 use Rattle.policy.specs.WellFormed.{Otherwise}
 use Rattle.policy.proofs.Accepted.{accepted-exactly}
 use Rattle.logic.proofs.Tests.{by_le}
-use Rattle.nodes.specs.Nodes.{node_place, node_at, from_operator, cells_at, atom_words_at}
+use Rattle.nodes.specs.Nodes.{spot_behind_own, node_place, node_at, from_operator, cells_at, atom_words_at}
 use Rattle.nodes.specs.Walk.{layout_of, list_of, records_of, node_index, Reached, next_spot}
+use Rattle.policy.specs.declared.Layout.{Layout}
 use Rattle.policy.specs.Node.{node_of as spelled}
 use Rattle.policy.specs.declared.Node.{Node}
 use Rattle.nodes.specs.declared.Spot.{Spot}
 
--- what a part of some words is, or no words where it is no part of them: all from a place on, and the first n
-pub rest-or-none : (ws : List ℕ) (at : ℕ) (o : Option (Bor (List ℕ))) (none : Bor (List ℕ)) → IsGetRangeResult ws at (length ws) o
-    → none.now ≡ [] → (unwrap_or o none).now ≡ drop at ws
-rest-or-none ws at None none g e = e ∙ sym (drop_of_length-le ws {i = at} (omega arith))
-rest-or-none ws at (Some x) none g e = g.0.2 ∙ take_all (length ws - at) (drop at ws) (rw length-drop (omega arith))
+-- what a part of some words is, or no words where they have no such part
+pub part-or-none : (ws : List ℕ) (from to : ℕ) (o : Option (Bor (List ℕ))) (none : Bor (List ℕ)) → IsGetRangeResult ws from to o → none.now ≡ []
+    → from ≤ to → (unwrap_or o none).now ≡ cond (leb to (length ws)) (take (to - from) (drop from ws)) []
+part-or-none ws from to None none g e h = e ∙ rw (lt-leb to (length ws) (omega arith)) refl
+part-or-none ws from to (Some x) none g e h = g.0.2 ∙ rw (le-leb to (length ws) g.0.1) refl
 
-pub front-or-none : (ws : List ℕ) (n : ℕ) (o : Option (Bor (List ℕ))) (none : Bor (List ℕ)) → IsGetRangeResult ws 0 n o
-    → none.now ≡ [] → (unwrap_or o none).now ≡ cond (leb n (length ws)) (take n ws) []
-front-or-none ws n None none g e = e ∙ rw (lt-leb n (length ws) (omega arith)) refl
-front-or-none ws n (Some x) none g e =
-    let same : n - 0 ≡ n = omega arith in
-    g.0.2 ∙ rw (le-leb n (length ws) g.0.1) (ap (λ (k : ℕ). take k ws) same)
+-- a node's place has its words behind it, or it is the end of the file
+whole-or-end : (f : List ℕ) (left at : ℕ) → at ≡ node_place (length f) left → length f < at + node_length → length f ≤ at
+unfolding node_place
+whole-or-end f left at p h =
+    by_le left (length f / node_length)
+    (λ l. let e : at ≡ length f - node_length * left = p ∙ rw (le-ltb (length f / node_length) left l) refl in omega arith)
+    (λ l. let e : at ≡ length f = p ∙ rw (lt-ltb (length f / node_length) left l) refl in omega arith)
 
 -- the node whose words stand from a place on
-pub node-read : (f : List ℕ) (left at : ℕ) {n : Node} → at ≡ node_place (length f) left → at ≤ length f
-    → n ≡ spelled (take (length f - at) (drop at f)) → n ≡ node_at f left
+pub node-read : (f : List ℕ) (left at : ℕ) {n : Node} {ws : List ℕ} → at ≡ node_place (length f) left
+    → ws ≡ cond (leb (at + node_length) (length f)) (take (at + node_length - at) (drop at f)) [] → n ≡ spelled ws → n ≡ node_at f left
 unfolding node_at
-node-read f left at p h e =
-    e
-    ∙ ap spelled (take_all (length f - at) (drop at f) (rw length-drop (omega arith)))
-    ∙ rw (get_or-drop at f 0 0, get_or-drop at f 1 0, get_or-drop at f 2 0, get_or-drop at f 3 0, get_or-drop at f 4 0, p)
-
--- atoms are all there exactly if their words are among those from the first atom on
-pub atoms-from : (f : List ℕ) (from n : ℕ) {rest : List ℕ} → rest ≡ drop from f
-    → cond (leb (atom_length * n) (length rest)) (take (atom_length * n) rest) [] ≡ atom_words_at f from n
-unfolding atom_words_at
-atoms-from f from n e =
-    rw e
-    (rw length-drop
-    (by_le (from + atom_length * n) (length f)
-    (λ h. rw (le-leb (from + atom_length * n) (length f) h, le-leb (atom_length * n) (length f - from) (omega arith)) refl)
-    (λ h. rw (lt-leb (from + atom_length * n) (length f) h) (by_le (atom_length * n) (length f - from)
-    (λ l. rw (le-leb (atom_length * n) (length f - from) l, drop_of_length-le f {i = from} (omega arith)) (none (atom_length * n)))
-    (λ l. rw (lt-leb (atom_length * n) (length f - from) l) refl)))))
+node-read f left at {n} {ws} p w e =
+    e ∙ same ∙ rw (get_or-drop at f 0 0, get_or-drop at f 1 0, get_or-drop at f 2 0, get_or-drop at f 3 0, get_or-drop at f 4 0, p)
   where
-    none : (k : ℕ) → take {A = ℕ} k [] ≡ []
-    none zero = refl
-    none (suc k) = refl
+    same : spelled ws ≡ spelled (drop at f)
+    same =
+        by_le (at + node_length) (length f)
+        (λ h.
+        let k : at + node_length - at ≡ node_length = omega arith in
+        let r : List ℕ = drop at f in
+        let front : ws ≡ take node_length r = w ∙ rw (le-leb (at + node_length) (length f) h, k) refl in
+        ap spelled front
+        ∙ rw (
+          get_or-take 5 r 0 0 (omega arith),
+          get_or-take 5 r 1 0 (omega arith),
+          get_or-take 5 r 2 0 (omega arith),
+          get_or-take 5 r 3 0 (omega arith),
+          get_or-take 5 r 4 0 (omega arith),
+        ))
+        (λ h.
+        let none : ws ≡ [] = w ∙ rw (lt-leb (at + node_length) (length f) h) refl in
+        ap spelled (none ∙ sym (drop_of_length-le f {i = at} (whole-or-end f left at p h))))
+
+-- atoms are all there exactly if they end within the file, of which no word has the last place that a word can have
+pub atoms-part : (f : List ℕ) (from n to : ℕ) → length f < 2 ^ 64 - 1 → to ≡ min (from + atom_length * n) (2 ^ 64 - 1)
+    → cond (leb to (length f)) (take (to - from) (drop from f)) [] ≡ atom_words_at f from n
+unfolding atom_words_at
+atoms-part f from n to small e =
+    by_le (from + atom_length * n) (2 ^ 64 - 1)
+    (λ h.
+    let same : to ≡ from + atom_length * n = e ∙ min-eq_left h in
+    let long : to - from ≡ atom_length * n = omega arith in
+    rw (long, same))
+    (λ h.
+    let last : to ≡ 2 ^ 64 - 1 = e ∙ min-eq_right (le_of_lt h) in
+    rw (lt-leb to (length f) (omega arith), lt-leb (from + atom_length * n) (length f) (omega arith)))
 
 -- a word of a record is a word of the list
 pub record-at : (n k : ℕ) (ws : List ℕ) (i j : ℕ) → i < n → j < k → get_or (get_or (records n k ws) i []) j 0 ≡ get_or ws (k * i + j) 0
@@ -259,13 +277,18 @@ here f s reached h =
         (record { what = record { inner = p₁; parent = p₂; sibling = p₃; atoms = y }; child_count = l })
     same-node a b c d e = rw (a, b, c, d, e)
 
--- the same with a node's words as the code has them
-module _ (f : List ℕ) (s : Spot) (reached : Reached f s) (h : 0 < s.nodes_left) (n : Node) (e : n ≡ node_at f s.nodes_left) where
-  pub atoms-within : s.next_atom + atom_length * n.own ≤ length f
-  atoms-within = rw e (here f s reached h).atoms-fit
+-- the place behind the node's own atoms is reached, and it is the one that the code has: an accepted file has no place that is too large
+module _ (f : List ℕ) (s : Spot) (reached : Reached f s) (h : 0 < s.nodes_left) where
+  pub next-reached : Reached f (next_spot f s)
+  next-reached = (here f s reached h).next
 
-  pub next-spot : record { nodes_left = s.nodes_left - 1; next_atom = s.next_atom + atom_length * n.own } ≡ next_spot f s
-  next-spot = rw e
-
-  pub next-reached : Reached f (record { nodes_left = s.nodes_left - 1; next_atom = s.next_atom + atom_length * n.own })
-  next-reached = rw e (here f s reached h).next
+  pub behind-own : (n : Node) → n ≡ node_at f s.nodes_left → spot_behind_own s n ≡ next_spot f s
+  unfolding spot_behind_own
+  behind-own n e =
+      let l : Layout = layout_of f in
+      let w : Otherwise f l.operators l.atoms l.nodes = ((accepted-exactly f l).0 reached.accepted).otherwise in
+      let ends : length f ≡ end_of l.operators l.atoms l.nodes = w.ends in
+      let within : s.next_atom + atom_length * (node_at f s.nodes_left).own ≤ length f = (here f s reached h).atoms-fit in
+      rw e
+      (ap (λ k. record { nodes_left = s.nodes_left - 1; next_atom = k })
+      (min-eq_left (omega (arith, within, ends, w.operators.most, w.atoms.most, w.nodes.most))))

@@ -2,10 +2,11 @@
 -- policy file".
 --
 --   root_spot l                         the place of the root
+--   spot_behind_own s n                 the place behind a node's own atoms
 --   node_place n left, node_at f left   where the node stands that has so many left, and its words
 --   from_operator f i, cells_at f i     the words from the operator of an index on, and its cells
 --   atom_words_at f from n              the words of n atoms
-use Rattle.std.specs.Prelude.{ℕ, ◌+◌, ◌-◌, ◌*◌, ◌/◌, List, [], length, take, drop, if◌then◌else◌, nat_le, nat_lt, slice_index}
+use Rattle.std.specs.Prelude.{ℕ, ◌+◌, ◌-◌, ◌*◌, ◌/◌, ◌^◌, min, List, [], length, take, drop, if◌then◌else◌, nat_le, nat_lt, slice_index}
 use Rattle.action.specs.Operator.{cells_of}
 use Rattle.policy.specs.Numbers.{first_operator, operator_length, atom_length, node_length}
 use Rattle.policy.specs.Read.{first_atom}
@@ -16,6 +17,14 @@ use Rattle.nodes.specs.declared.Spot.{Spot}
 -- the place of the root: all nodes are left, and the first atom is the next
 unfoldable pub root_spot : Layout → Spot
 root_spot l = record { nodes_left = l.nodes; next_atom = first_atom l.operators }
+
+-- the place behind a node's own atoms: a node less is left, and the next atom is the one behind them, at the last place
+-- at most that a word can have
+unfoldable pub spot_behind_own : Spot → Node → Spot
+spot_behind_own s n = record {
+  nodes_left = s.nodes_left - 1;
+  next_atom = min (s.next_atom + atom_length * n.own) (2 ^ 64 - 1);
+}
 
 -- the word where the node stands that has so many nodes left from it on; the end of the file if it has not so many
 unfoldable pub node_place : ℕ → ℕ → ℕ

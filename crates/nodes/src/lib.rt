@@ -1,15 +1,13 @@
-//! Where a node, its operators and its atoms stand in a policy file. Each function but the place behind
-//! a node's own atoms is total, so that only the walks know that a place was reached: outside the file
-//! all is 0, and there are no atoms.
+//! Where a node, its operators and its atoms stand in a policy file. Each function is total, so that only
+//! the walks know that a place was reached: outside the file all is 0, and there are no atoms.
 #![tactic(auto)]
 
-ghost use Rattle.std.specs.Prelude.{◌≡◌, ◌≤◌, ◌<◌, ◌+◌, ◌-◌, ◌*◌, ◌^◌};
+ghost use Rattle.std.specs.Prelude.{◌≡◌, ◌≤◌};
 ghost use Rattle.action.specs.Operator.{join};
-ghost use Rattle.policy.specs.Numbers.{atom_length};
 ghost use Rattle.nodes.specs.Nodes.{node_place, node_at, from_operator, cells_at};
-ghost use Rattle.nodes.specs.Nodes.{atom_words_at, root_spot};
+ghost use Rattle.nodes.specs.Nodes.{atom_words_at, root_spot, spot_behind_own};
 
-use action::{Action, Operator};
+use action::{Action, Operator, join_by};
 use policy::{ATOM_WORDS, FIRST_OPERATOR, Layout, NODE_WORDS, Node, OPERATOR_WORDS};
 use words::Spelling;
 
@@ -39,17 +37,14 @@ pub fn root(layout: Layout) -> Spot
 
 impl Spot {
     /// The place behind a node's own atoms: that of its first child.
+    #[tactic(auto, unfolding(crate::specs::Nodes::spot_behind_own))]
     pub fn behind_own(self, node: Node) -> Spot
-        requires there { 0 < self.nodes_left }
-        requires within { self.next_atom + atom_length * node.own < 2 ^ 64 }
-        ensures { result ≡ record {
-          nodes_left = self.nodes_left - 1;
-          next_atom = self.next_atom + atom_length * node.own;
-        } }
+        ensures { result ≡ spot_behind_own self node }
     {
+        let own = ATOM_WORDS * (node.own as usize);
         Spot {
-            nodes_left: self.nodes_left - 1,
-            next_atom: self.next_atom + ATOM_WORDS * (node.own as usize),
+            nodes_left: self.nodes_left.saturating_sub(1),
+            next_atom: self.next_atom.saturating_add(own),
         }
     }
 }
@@ -59,8 +54,9 @@ impl<'a> File<'a> {
     pub fn node_at(self, nodes_left: usize) -> Node
         ensures { result ≡ node_at self.entry.words.now nodes_left }
     {
+        // A known length spares a test for each word.
         let at = node_place(self.words.len(), nodes_left);
-        Node::read(&self.words[at..])
+        Node::read(self.words.get(at..at + NODE_WORDS).unwrap_or(&[]))
     }
 
     /// The operator of an index.
@@ -70,26 +66,19 @@ impl<'a> File<'a> {
         Operator::from_words(self.from_operator(index))
     }
 
-    /// Two actions joined by the operator of an index. It is not read where one of them is don't care.
+    /// Two actions joined by the operator of an index.
     pub fn join_at(self, index: u32, left: Action, right: Action) -> Action
         ensures { result ≡ join (cells_at self.entry.words.now index) left right }
     {
-        if left == Action::DONT_CARE {
-            return right;
-        }
-        if right == Action::DONT_CARE {
-            return left;
-        }
-        self.operator_at(index).join(left, right)
+        join_by(self.from_operator(index), left, right)
     }
 
     /// The words of so many atoms, from a word of the file on.
     pub fn atoms_at(self, from: usize, count: u32) -> &'a [u32]
         ensures { result.now ≡ atom_words_at self.entry.words.now from count }
     {
-        let words = ATOM_WORDS * (count as usize);
-        let rest = self.words.get(from..).unwrap_or(&[]);
-        rest.get(..words).unwrap_or(&[])
+        let end = from.saturating_add(ATOM_WORDS * (count as usize));
+        self.words.get(from..end).unwrap_or(&[])
     }
 
     // The words from the operator of an index on, none if it stands outside the file.
@@ -97,7 +86,7 @@ impl<'a> File<'a> {
         ensures { result.now ≡ from_operator self.entry.words.now index }
     {
         let at = FIRST_OPERATOR + OPERATOR_WORDS * (index as usize);
-        self.words.get(at..).unwrap_or(&[])
+        &self.words[at.min(self.words.len())..]
     }
 }
 

@@ -1,13 +1,7 @@
 -- A file is accepted exactly when it is well formed: every stage is passed exactly when its part of well-formedness holds. Assumes nothing.
-use Prim.Native.Nat.{ℕ, ◌+◌, ◌≤◌}
-use native.Mathlib.Omega.{arith}
-use mathlib.Core.Path.{◌≡◌, refl, sym, ap, ◌∙◌}
-use mathlib.Core.List.{List, [], ◌∷◌, ◌++◌, map, append-nil, append_assoc}
-use lib.Dec.{eqb}
-use lib.ListN.{get_or, length, take, drop, length-map, take-append-drop, drop_of_length-le}
-use lib.Seq.{drop-drop}
-use borrow.Author.Tests.{eqb-true, eq-eqb}
-use Rattle.std.specs.Prelude.{Ok, Err}
+use Rattle.std.proofs.Common.{ℕ, ◌+◌, ◌≤◌, arith, ◌≡◌, refl, sym, ap, ◌∙◌, List, [], ◌∷◌, ◌++◌, map, append-nil, append_assoc, eqb, get_or, length, take, drop}
+use Rattle.std.proofs.Common.{take-append-drop, drop_of_length-le, drop-drop, eqb-true, eq-eqb, Ok, Err}
+use lib.ListN.{length-map}
 use Rattle.policy.specs.Sections.{Test}
 use Rattle.logic.specs.Lists.{All}
 use Rattle.words.proofs.RecordLaws.{length-records}

@@ -1,13 +1,6 @@
 -- The places of a tree: the stack by which `shape` goes is empty where the tree has ended, and else is as high as the next node is deep. Assumes nothing.
-use Prim.Native.Nat.{ℕ, zero, suc, ◌+◌, ◌≤◌, ◌<◌, pred}
-use native.Mathlib.Omega.{arith}
-use mathlib.Core.Path.{◌≡◌, refl, sym, ap, ◌∙◌}
-use mathlib.Core.Bool.{true, false, cond, ◌&&◌}
-use mathlib.Core.List.{List, [], ◌∷◌}
-use mathlib.Core.Logic.{◌⊎◌, inl, inr}
-use lib.Dec.{eqb, leb}
-use lib.ListN.{length, take}
-use borrow.Author.Tests.{leb-true, le-leb, ne_eqb}
+use Rattle.std.proofs.Common.{ℕ, zero, suc, ◌+◌, ◌≤◌, ◌<◌, pred, arith, ◌≡◌, refl, sym, ap, ◌∙◌, true, false, cond, ◌&&◌, List, [], ◌∷◌, ◌⊎◌, inl, inr, eqb}
+use Rattle.std.proofs.Common.{leb, length, take, leb-true, le-leb, ne_eqb, Err}
 use Rattle.refusal.specs.Refusals.{refusal_at}
 use Rattle.refusal.specs.declared.Reason.TheVariants.{NoTree}
 use Rattle.policy.specs.Numbers.{deepest}
@@ -15,7 +8,6 @@ use Rattle.policy.specs.Sections.{unless}
 use Rattle.policy.specs.Whole.{waiting_nodes, one_less, shape}
 use Rattle.policy.specs.Due.{FirstWrong}
 use Rattle.policy.specs.Meaning.{lacking, ended, nodes_above, HasPlace}
-use Rattle.std.specs.Prelude.{Err}
 use Rattle.logic.proofs.Tests.{by-test, by_le, and_left, and_right}
 
 -- how many nodes the entries of a stack lack together

@@ -1,17 +1,11 @@
 -- The order of refusals 1 to 6: what is due to a section is what it is refused with, and a section is good or something is due to it.
 -- Assumes nothing.
-use Prim.Native.Nat.{ℕ, zero, suc, ◌+◌, ◌*◌, ◌<◌}
-use native.Mathlib.Omega.{arith}
-use mathlib.Core.Path.{◌≡◌, refl, ◌∙◌}
-use mathlib.Core.Bool.{Bool, true, false, ◌&&◌, and-false}
-use mathlib.Core.List.{List, []}
-use mathlib.Core.Logic.{◌⊎◌, inl, inr, ⊎_elim}
-use lib.Dec.{leb, ltb}
-use lib.ListN.{get_or, length, drop}
-use borrow.Author.Tests.{lt-ltb, le-ltb, le-leb, lt-leb}
+use Rattle.std.proofs.Common.{ℕ, zero, suc, ◌+◌, ◌*◌, ◌<◌, arith, ◌≡◌, refl, ◌∙◌, Bool, true, false, ◌&&◌, List, [], ◌⊎◌, inl, inr, ⊎_elim, leb, ltb, get_or}
+use Rattle.std.proofs.Common.{length, drop, lt-ltb, le-ltb, le-leb, Ok, Err}
+use mathlib.Core.Bool.{and-false}
+use borrow.Author.Tests.{lt-leb}
 use Rattle.words.specs.Records.{records}
 use Rattle.words.proofs.RecordLaws.{length-records}
-use Rattle.std.specs.Prelude.{Ok, Err}
 use Rattle.refusal.specs.Refusals.{refusal_at}
 use Rattle.refusal.specs.declared.Reason.TheVariants.{WrongCell, WrongNode}
 use Rattle.policy.specs.Numbers.{operator_length_in, most_atoms, most_children}
@@ -131,7 +125,8 @@ module _ (f : List ℕ) (at : ℕ) (s : Section) where
       decide : (i : ℕ) → RightRecord s (record_at f at s (get_or f at 0) i) ⊎ (¬ RightRecord s (record_at f at s (get_or f at 0) i))
       decide i = ⊎_elim (λ h. inl h) (λ d. inr (not_right 0 (record_at f at s (get_or f at 0) i) d.2)) (record-cases s 0 (record_at f at s (get_or f at 0) i))
 
-      present : Present f at (least s) (most s) (record_length s) (get_or f at 0) → Good f at s (get_or f at 0) ⊎ ((why : Reason) × (p : ℕ) × SectionDue f at s why p)
+      present : Present f at (least s) (most s) (record_length s) (get_or f at 0)
+          → Good f at s (get_or f at 0) ⊎ ((why : Reason) × (p : ℕ) × SectionDue f at s why p)
       present p = ⊎_elim
           (λ h. inl (record { present = p; right = h }))
           (λ w. ⊎_elim

@@ -3,5 +3,5 @@ use mathlib.Core.Path.{◌≡◌, refl}
 use Rattle.policy.specs.declared.Edition.{Edition}
 use Rattle.policy.specs.declared.Edition.TheVariants.{First}
 
-pub one-edition : (e : Edition) → e ≡ First
-one-edition First = refl
+pub one_edition : (e : Edition) → e ≡ First
+one_edition First = refl

@@ -1,19 +1,14 @@
 -- An atom has the words of its edition, and of these a row's tests read no more than a row has. Assumes nothing.
-use Prim.Native.Nat.{ℕ, ◌<◌}
-use native.Mathlib.Omega.{arith}
-use mathlib.Core.Path.{◌≡◌}
-use mathlib.Core.List.{List}
-use lib.ListN.{get_or, take}
-use lib.Seq.{get_or-take}
+use Rattle.std.proofs.Common.{ℕ, ◌<◌, arith, ◌≡◌, List, get_or, take, get_or-take}
 use Rattle.row.specs.Row.{row_length, right_row_match, right_row_action}
 use Rattle.policy.specs.Sections.{record_length}
 use Rattle.policy.specs.declared.Edition.TheVariants.{First}
 use Rattle.policy.specs.declared.Section.{Section}
 use Rattle.policy.specs.declared.Section.TheVariants.{Operators, Atoms, Nodes}
 
-pub match-first : (r : List ℕ) → right_row_match (take row_length r) ≡ right_row_match r
+pub match_first : (r : List ℕ) → right_row_match (take row_length r) ≡ right_row_match r
 unfolding right_row_match
-match-first r =
+match_first r =
     let w : (i : ℕ) → i < row_length → get_or (take row_length r) i 0 ≡ get_or r i 0 = λ i h. get_or-take row_length r i 0 h in
     rw (
       w 0 (omega arith),
@@ -27,9 +22,9 @@ match-first r =
       w 8 (omega arith),
     )
 
-pub action-first : (r : List ℕ) → right_row_action (take row_length r) ≡ right_row_action r
+pub action_first : (r : List ℕ) → right_row_action (take row_length r) ≡ right_row_action r
 unfolding right_row_action
-action-first r = rw (get_or-take row_length r 9 0 (omega arith), get_or-take row_length r 10 0 (omega arith))
+action_first r = rw (get_or-take row_length r 9 0 (omega arith), get_or-take row_length r 10 0 (omega arith))
 
 -- a record has a word at least
 pub record-some : (s : Section) (n : ℕ) → n ≡ record_length s → 0 < n

@@ -1,13 +1,5 @@
 -- The laws are kept exactly when every operator that is named keeps them. Assumes nothing.
-use Prim.Native.Nat.{ℕ, zero, suc, ◌<◌}
-use native.Mathlib.Omega.{arith}
-use mathlib.Core.Path.{◌≡◌, refl, sym, subst}
-use mathlib.Core.Bool.{true}
-use mathlib.Core.List.{List, [], ◌∷◌}
-use mathlib.Core.Logic.{⊎_elim}
-use lib.Dec.{eqb}
-use lib.ListN.{get_or, length}
-use borrow.Author.Tests.{eqb-true, eq-eqb}
+use Rattle.std.proofs.Common.{ℕ, zero, suc, ◌<◌, arith, ◌≡◌, refl, sym, subst, true, List, [], ◌∷◌, ⊎_elim, eqb, get_or, length, eqb-true, eq-eqb, Ok, Err}
 use Rattle.action.specs.Operator.{right_cell, RightCodes, cells_of}
 use Rattle.action.specs.Laws.{Searched, law_search}
 use Rattle.action.proofs.Cells.{cells-many, cell-word}
@@ -20,7 +12,6 @@ use Rattle.policy.specs.Meaning.{operator_at, KeepsLaws, LawsKept}
 use Rattle.policy.specs.Due.{RightNode}
 use Rattle.policy.specs.declared.Edition.{Edition}
 use Rattle.policy.specs.declared.Edition.TheVariants.{First}
-use Rattle.std.specs.Prelude.{Ok, Err}
 use Rattle.policy.proofs.Each.{each-passed, passed-each}
 use Rattle.logic.proofs.Tests.{by-test, or_split}
 

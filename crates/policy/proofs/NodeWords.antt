@@ -1,16 +1,12 @@
 -- The nodes that words hold, by their words: their names, their own atoms and their children; and one turn of the walk over the operators.
-use Prim.Native.Nat.{ℕ, zero, suc, ◌+◌, ◌*◌, ◌/◌, ◌≤◌, ◌<◌}
-use native.Mathlib.Omega.{arith}
-use mathlib.Core.Path.{◌≡◌, refl, ap, ◌∙◌}
-use mathlib.Core.Bool.{Bool, true, false, ◌||◌}
-use mathlib.Core.List.{List, [], ◌∷◌, map}
+use Rattle.std.proofs.Common.{ℕ, zero, suc, ◌+◌, ◌*◌, ◌/◌, ◌≤◌, ◌<◌, arith, ◌≡◌, refl, ap, ◌∙◌, Bool, true, false, ◌||◌, List, [], ◌∷◌, map, sum_by, get_or}
+use Rattle.std.proofs.Common.{length, drop, get_or-take, get_or-drop, Ok}
 use Rattle.action.specs.Operator.{cells_of}
 use Rattle.action.specs.Laws.{Searched, law_search}
 use Rattle.policy.specs.Sections.{Test}
-use Rattle.std.specs.List.{list_any, sum_by}
+use Rattle.std.specs.List.{list_any}
 use Rattle.std.proofs.lemmas.List.Sums.{sum_by-cons}
-use lib.ListN.{get_or, length, drop, length-map}
-use lib.Seq.{get_or-take, get_or-drop}
+use lib.ListN.{length-map}
 use Rattle.words.specs.Records.{records, rows_of}
 use Rattle.words.proofs.RecordLaws.{length-records}
 use Rattle.policy.specs.Numbers.{node_length, most_nodes}
@@ -24,7 +20,9 @@ use Rattle.policy.specs.declared.Section.TheVariants.{Operators}
 use Rattle.policy.proofs.Lengths.{record-some}
 use Rattle.policy.specs.declared.Edition.{Edition}
 use Rattle.policy.specs.declared.Edition.TheVariants.{First}
-use Rattle.std.specs.Prelude.{Ok}
+use Rattle.std.proofs.lemmas.Result.{err_from_is_err_and}
+use Rattle.words.proofs.Chunks.{started, left-next}
+use Rattle.policy.proofs.Each.{hit, miss}
 
 -- by the words of each: some node names the operator i
 names-any : (i : ℕ) (rs : List (List ℕ)) → list_any (names_operator i) (map node_of rs) ≡ named i rs
@@ -78,6 +76,9 @@ operator-long ed = record-some (Operators ed) (operator_length_in ed) refl
 
 pub operators-next : (ed : Edition) (x : List ℕ) (xs : List (List ℕ)) → operator_rows ed (x ∷ xs) ≡ operator_row ed x ∷ operator_rows ed xs
 operators-next First x xs = refl
+
+-- a turn over the operators
+pub ruleset operator_turn = (err_from_is_err_and, started, hit, miss, left-next, operator-long, operators-next)
 
 module _ (ns : List (List ℕ)) (i : ℕ) (o : List ℕ) (t : Bool) (e : t ≡ named i ns) where
   pub tested : (l : Searched) (cells : List ℕ) (x : Test) → t ≡ true → cells ≡ cells_of o → l ≡ law_search cells → x ≡ broken i l → x ≡ operator_fault ns i o

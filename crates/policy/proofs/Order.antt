@@ -1,14 +1,9 @@
 -- The order of refusals 1 to 9: what is due is what the first stage that refuses finds, and to every file that is not well formed but for the laws
 -- something is. Assumes nothing.
-use Prim.Native.Nat.{ℕ, ◌+◌, ◌<◌}
-use native.Mathlib.Omega.{arith}
-use mathlib.Core.Path.{◌≡◌, sym, ap, ◌∙◌}
-use mathlib.Core.List.{List, [], ◌∷◌}
-use mathlib.Core.Logic.{◌⊎◌, inl, inr, ⊎_elim}
-use lib.Dec.{eqb}
-use lib.ListN.{get_or, length, drop, length-map}
-use borrow.Author.Tests.{le-leb, lt-leb, eqb-true, eqb-false, ne_eqb}
-use Rattle.std.specs.Prelude.{Ok, Err}
+use Rattle.std.proofs.Common.{ℕ, ◌+◌, ◌<◌, arith, ◌≡◌, sym, ap, ◌∙◌, List, [], ◌∷◌, ◌⊎◌, inl, inr, ⊎_elim, eqb, get_or, length, drop, le-leb, eqb-true, ne_eqb}
+use Rattle.std.proofs.Common.{Ok, Err}
+use lib.ListN.{length-map}
+use borrow.Author.Tests.{lt-leb, eqb-false}
 use Rattle.policy.specs.Read.{Reading}
 use Rattle.words.proofs.RecordLaws.{length-records}
 use Rattle.action.specs.Operator.{RightCodes}

@@ -1,11 +1,7 @@
 -- A file of an edition and its parts, each made from the other: section by section, what stands behind a section's records is dropped with them. Assumes
 -- nothing.
-use Prim.Native.Nat.{ℕ, zero, suc, ◌+◌, ◌*◌, ◌≤◌}
-use native.Mathlib.Omega.{arith}
-use mathlib.Core.Path.{◌≡◌, refl, sym, ap, ap₂, subst, ◌∙◌}
-use mathlib.Core.List.{List, [], ◌∷◌, ◌++◌, append_assoc}
-use lib.ListN.{get_or, length, take, drop, length-append, length-drop, take-append-drop, drop_of_length-le}
-use lib.Seq.{drop-cons, drop-drop, take_at, drop_at, length-take-le}
+use Rattle.std.proofs.Common.{ℕ, zero, suc, ◌+◌, ◌*◌, ◌≤◌, arith, ◌≡◌, refl, sym, ap, ap₂, subst, ◌∙◌, List, [], ◌∷◌, ◌++◌, append_assoc, get_or, length, take}
+use Rattle.std.proofs.Common.{drop, length-append, length-drop, take-append-drop, drop_of_length-le, drop-cons, drop-drop, take_at, drop_at, length-take-le}
 use Rattle.words.specs.Records.{records}
 use Rattle.words.proofs.RecordLaws.{length-records}
 use Rattle.policy.specs.Numbers.{header_length_in, header_of, operator_length_in, atom_length_in, node_length, most_operators, most_atoms, most_nodes}

@@ -1,16 +1,9 @@
 -- A stage is passed exactly when what it tests holds: of every record, of every cell. Assumes nothing.
-use Prim.Native.Nat.{ℕ, zero, suc, ◌+◌, ◌*◌, ◌≤◌, ◌<◌}
-use native.Mathlib.Omega.{arith}
-use mathlib.Core.Path.{◌≡◌, refl, ◌∙◌}
-use mathlib.Core.Bool.{Bool, true, ◌&&◌, and-eq-true_iff}
-use mathlib.Core.List.{List, []}
-use lib.Dec.{leb, ltb}
-use lib.ListN.{get_or, length, drop, length-drop}
-use lib.Seq.{length-take-le}
-use borrow.Author.Tests.{ltb-true, lt-ltb, leb-true, le-leb}
+use Rattle.std.proofs.Common.{ℕ, zero, suc, ◌+◌, ◌*◌, ◌≤◌, ◌<◌, arith, ◌≡◌, refl, ◌∙◌, Bool, true, ◌&&◌, List, [], leb, ltb, get_or, length, drop, length-drop}
+use Rattle.std.proofs.Common.{length-take-le, ltb-true, lt-ltb, leb-true, le-leb, Ok}
+use mathlib.Core.Bool.{and-eq-true_iff}
 use Rattle.words.specs.Records.{records}
 use Rattle.words.proofs.RecordLaws.{length-records}
-use Rattle.std.specs.Prelude.{Ok}
 use Rattle.refusal.specs.declared.Reason.TheVariants.{WrongCell, WrongMatch, WrongAction, WrongNode}
 use Rattle.policy.specs.Numbers.{most_atoms, most_children}
 use Rattle.policy.specs.Sections.{unless, each, cell_fault, cells_fault, atom_fault, node_fault, record_length, least, most, header_fault, count_fault}

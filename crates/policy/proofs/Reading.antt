@@ -1,11 +1,5 @@
 -- The stages of reading one behind the other: the first fault is the answer, and where none has one the layout is. Assumes nothing.
-use Prim.Native.Nat.{ℕ, ◌+◌, ◌/◌, ◌≤◌}
-use native.Mathlib.Omega.{arith}
-use mathlib.Core.Path.{◌≡◌, sym, ◌∙◌}
-use mathlib.Core.List.{List, [], ◌∷◌}
-use lib.Dec.{leb}
-use lib.ListN.{length, drop}
-use Rattle.std.specs.Prelude.{Result, Ok, Err}
+use Rattle.std.proofs.Common.{ℕ, ◌+◌, ◌/◌, ◌≤◌, arith, ◌≡◌, sym, ◌∙◌, List, [], ◌∷◌, leb, length, drop, Result, Ok, Err}
 use Rattle.words.specs.Records.{records}
 use Rattle.words.proofs.RecordLaws.{length-records}
 use Rattle.refusal.specs.declared.Reason.TheVariants.{ExtraWords}

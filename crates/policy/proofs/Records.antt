@@ -1,15 +1,8 @@
 -- A section: what a passed one shows, and what it comes to by its records. Assumes nothing.
-use Prim.Native.Nat.{ℕ, ◌+◌, ◌*◌, ◌-◌, ◌≤◌, ◌<◌}
-use native.Mathlib.Omega.{arith}
-use mathlib.Core.Path.{◌≡◌, refl, sym, ◌∙◌}
-use mathlib.Core.Bool.{Bool, true, false, ◌&&◌}
-use mathlib.Core.List.{List}
-use lib.Dec.{leb, ltb}
-use lib.ListN.{get_or, length, take, drop, length-drop}
-use borrow.Author.Tests.{leb-true, ltb-true}
+use Rattle.std.proofs.Common.{ℕ, ◌+◌, ◌*◌, ◌-◌, ◌≤◌, ◌<◌, arith, ◌≡◌, refl, sym, ◌∙◌, Bool, true, false, ◌&&◌, List, leb, ltb, get_or, length, take, drop}
+use Rattle.std.proofs.Common.{length-drop, leb-true, ltb-true, Ok}
 use Rattle.words.specs.Records.{records}
 use Rattle.words.proofs.Chunks.{whole, whole-part}
-use Rattle.std.specs.Prelude.{Ok}
 use Rattle.refusal.specs.declared.Reason.TheVariants.{ShortFile, WrongCount}
 use Rattle.policy.specs.Sections.{Test, unless, ◌else◌, each, record_length, least, most, count_fault, record_fault, behind, section_fault}
 use Rattle.policy.specs.declared.Section.{Section}

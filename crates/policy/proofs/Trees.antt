@@ -1,13 +1,7 @@
 -- The shape test is exact: it passes exactly where every node finds its children and the trees that were awaited stand there, each as deep
 -- as its place allows. Assumes nothing.
-use Prim.Native.Nat.{ℕ, zero, suc, ◌-◌, ◌≤◌}
-use native.Mathlib.Omega.{arith}
-use mathlib.Core.Path.{◌≡◌, refl, sym, ap, ◌∙◌}
-use mathlib.Core.Bool.{Bool, true, false, cond, ◌&&◌}
-use mathlib.Core.List.{List, [], ◌∷◌, ◌++◌, map, append_assoc, append-nil}
-use lib.Dec.{eqb, leb}
-use lib.ListN.{length}
-use borrow.Author.Tests.{eqb-true, leb-true, le-leb}
+use Rattle.std.proofs.Common.{ℕ, zero, suc, ◌-◌, ◌≤◌, arith, ◌≡◌, refl, sym, ap, ◌∙◌, Bool, true, false, cond, ◌&&◌, List, [], ◌∷◌, ◌++◌, map, append_assoc}
+use Rattle.std.proofs.Common.{append-nil, eqb, leb, length, eqb-true, leb-true, le-leb, Ok, Err}
 use Rattle.theory.specs.Tree.{Tree, Forest, node, bare, ◌▸◌}
 use Rattle.theory.specs.Nodes.{Listed, take_trees, drop_trees, count_trees, plant, list_tree, list_trees, ChildrenFound}
 use Rattle.theory.proofs.Nodes.{◌⧺◌, list-plant, plants-before, plant-list}
@@ -18,7 +12,6 @@ use Rattle.policy.specs.Numbers.{deepest}
 use Rattle.policy.specs.Sections.{Test}
 use Rattle.policy.specs.Whole.{waiting_nodes, one_less, shape}
 use Rattle.policy.specs.Meaning.{depth, depths, OneTree}
-use Rattle.std.specs.Prelude.{Ok, Err}
 use Rattle.policy.proofs.Records.{unless-true}
 use Rattle.logic.proofs.Tests.{and_left, and_right}
 

@@ -1,20 +1,13 @@
 -- One turn of the shape test. Assumes nothing.
-use Prim.Native.Nat.{ℕ, zero, suc, ◌+◌, ◌-◌, ◌≤◌, ◌<◌, pred}
-use native.Mathlib.Omega.{arith}
-use native.Mathlib.Numerals.{add-one}
-use mathlib.Core.Path.{◌≡◌, sym, ap, ◌∙◌}
-use mathlib.Core.Bool.{Bool, true, false, not, cond, ◌&&◌}
-use mathlib.Core.List.{List, [], ◌∷◌, ◌++◌, reverse}
-use lib.ListN.{length}
-use lib.Dec.{leb}
-use borrow.Author.Tests.{ne_eqb, le-leb, lt-leb}
+use Rattle.std.proofs.Common.{ℕ, zero, suc, ◌+◌, ◌-◌, ◌≤◌, ◌<◌, pred, arith, add-one, ◌≡◌, sym, ap, ◌∙◌, Bool, true, false, not, cond, ◌&&◌, List, [], ◌∷◌}
+use Rattle.std.proofs.Common.{◌++◌, reverse, length, leb, ne_eqb, le-leb, Err, Option, Some, None, is_some}
+use borrow.Author.Tests.{lt-leb}
 use Rattle.std.proofs.lemmas.List.{reverse-append, length-reverse}
 use Rattle.refusal.specs.Refusals.{refusal_at}
 use Rattle.policy.specs.Sections.{Test, unless}
 use Rattle.policy.specs.declared.nodes.Node.{Node}
 use Rattle.policy.proofs.NodeWords.{counts}
 use Rattle.policy.specs.Whole.{waiting_nodes, shape, Innermost}
-use Rattle.std.specs.Prelude.{Err, Option, Some, None, is_some}
 use Rattle.refusal.specs.declared.Reason.TheVariants.{NoTree}
 
 -- what is pushed is on top
@@ -34,12 +27,16 @@ module _ (ys : List Node) (i : ℕ) (old new : List ℕ) (v : Test) (inv : shape
     ended h = sym (sym inv ∙ rw (e, h))
 
     module _ (n : ℕ) (h : Innermost old new (Some n)) where
-      turn : v ≡ cond (leb 1 (suc (length (reverse new))) && leb (suc (length (reverse new))) 16) (shape (counts xs) (x.children ∷ pred n ∷ reverse new) (suc i)) (Err (refusal_at NoTree i))
+      turn : v
+          ≡ cond (leb 1 (suc (length (reverse new))) && leb (suc (length (reverse new))) 16)
+          (shape (counts xs) (x.children ∷ pred n ∷ reverse new) (suc i)) (Err (refusal_at NoTree i))
       turn = sym inv ∙ rw (e, h.1)
 
       -- it is too deep here
       pub deep : 16 ≤ length new → Err (refusal_at NoTree i) ≡ v
-      deep g = let l = length-reverse new in sym (turn ∙ rw (le-leb 1 (suc (length (reverse new))) (omega arith), lt-leb (suc (length (reverse new))) 16 (omega arith)))
+      deep g =
+          let l = length-reverse new in
+          sym (turn ∙ rw (le-leb 1 (suc (length (reverse new))) (omega arith), lt-leb (suc (length (reverse new))) 16 (omega arith)))
 
       pub on : (one two : List ℕ) → length new < 16 → one ≡ new ++ ((n - 1) ∷ []) → two ≡ one ++ (x.children ∷ [])
           → shape (counts xs) (reverse two) (i + 1) ≡ v

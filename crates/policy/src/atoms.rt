@@ -25,6 +25,7 @@ impl Piece<'_> {
 }
 
 // The words of an atom's row. They have a known length, so that reading them needs no test.
+#[tactic(auto, using(crate::proofs::Editions::one_edition, crate::proofs::Lengths::match_first, crate::proofs::Lengths::action_first))]
 fn row_in(atom: &[u32], edition: Edition) -> &[u32]
     requires { atom_length_in edition ≤ length atom.now }
     ensures matching { right_row_match result.now ≡ right_atom_match edition atom.now }

@@ -6,11 +6,13 @@ ghost use Rattle.policy.specs.Numbers.{operator_length_in};
 ghost use Rattle.policy.specs.Cells.{operator_row, operator_rows};
 ghost use Rattle.policy.specs.Whole.{nodes_by_words, named, broken, operator_fault, laws_fault};
 
-use crate::{Edition, Nodes};
+use crate::Edition;
+use crate::nodes::Nodes;
 use action::LawFailure;
 use refusal::{Reason, Refusal};
 
 // The first operator, by index, that some node names and that breaks a law.
+#[tactic(auto, using(crate::proofs::NodeWords::operator_turn), unfolding(crate::specs::Whole::laws_fault))]
 pub(crate) fn laws_fault(nodes: &[u32], operators: &[u32], edition: Edition) -> Result<(), Refusal>
     ensures { result ≡ laws_fault (nodes_by_words nodes.now)
         (operator_rows edition
@@ -25,6 +27,7 @@ pub(crate) fn laws_fault(nodes: &[u32], operators: &[u32], edition: Edition) -> 
     Ok(())
 }
 
+#[tactic(auto, using(crate::proofs::NodeWords::tested, crate::proofs::NodeWords::untested))]
 fn operator_fault(words: &[u32], i: usize, edition: Edition, nodes: &[u32]) -> Result<(), Refusal>
     ensures { result ≡ operator_fault (nodes_by_words nodes.now) i (operator_row edition words.now) }
 {

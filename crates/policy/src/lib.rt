@@ -2,7 +2,7 @@
 //! edition: its header, its sections, their records, and what is asked of a file as a whole.
 #![tactic(auto)]
 
-pub use crate::nodes::{Node, Nodes};
+pub use crate::nodes::Node;
 pub use crate::stages::{read, read_as};
 use action::CELLS;
 use row::ROW_WORDS;
@@ -55,7 +55,8 @@ pub enum Edition {
 /// The newest edition.
 pub const LATEST: Edition = Edition::First;
 
-/// A section of the file. Nodes are held against the number of operators.
+/// A section of the file. Nodes are held against the number of operators. Public because the proofs of `promises` speak
+/// of sections; no other crate's code does.
 #[derive(Clone, Copy)]
 pub enum Section {
     Operators(Edition),

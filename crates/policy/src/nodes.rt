@@ -17,7 +17,7 @@ pub struct Node {
 }
 
 /// The nodes that some words hold, one behind the other.
-pub type Nodes<'a> = Records<'a, Node>;
+pub(crate) type Nodes<'a> = Records<'a, Node>;
 
 // How many children a node may have.
 const MOST_CHILDREN: usize = 255;

@@ -4,8 +4,9 @@ ghost use Rattle.std.specs.Prelude.{◌≡◌, ◌≤◌, length};
 ghost use Rattle.policy.specs.Numbers.{most_nodes};
 ghost use Rattle.policy.specs.Whole.{nodes_by_words, shape_fault, own_atoms, sum_fault, Innermost};
 
+use crate::NODE_WORDS;
+use crate::nodes::Nodes;
 use crate::sections::unless;
-use crate::{NODE_WORDS, Nodes};
 use arrayvec::ArrayVec;
 use refusal::{Reason, Refusal};
 

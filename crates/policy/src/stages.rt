@@ -22,6 +22,7 @@ struct GoodSection<'a> {
 impl Layout {
     /// The word where the first atom stands in a file of the newest edition, behind the operators and the count of the
     /// atoms; 0 if no file has so many operators.
+    #[tactic(auto, unfolding(crate::specs::Read::first_atom))]
     pub fn first_atom(self) -> usize
         ensures { result ≡ first_atom self.operators }
     {

@@ -42,7 +42,8 @@ use Rattle.row.specs.Row.{rows_in}
 over-shared : (ws : List ℕ) → RightTable ws → (j i : ℕ) → j < row_count ws → i < row_count ws → (over ws j i ≡ true) ↔ Shared ws j i
 unfolding over
 over-shared ws t j i h g =
-    overlap-exactly (get_or (rows_in ws) j past).matching (get_or (rows_in ws) i past).matching (right-row-at ws t j h).matching (right-row-at ws t i g).matching
+    overlap-exactly (get_or (rows_in ws) j past).matching (get_or (rows_in ws) i past).matching (right-row-at ws t j h).matching
+    (right-row-at ws t i g).matching
 
 module _ (ws : List ℕ) where
   -- the theory's laws, of this table's levels

@@ -30,12 +30,12 @@ above-last test ls i (suc k) h = let q : suc k - 1 ≡ k = omega arith in rw q
 
 -- the loop that goes back: a turn, its end, and where no row before can raise the best
 module _ (ws ls : List ℕ) (i j best w : ℕ) (inv : max best (above (over ws) ls i j) ≡ w) where
-  pub back-turn : 0 < j → (m : Match) → m ≡ (get_or (rows_in ws) i past).matching → (b : ℕ)
-      → b ≡ max best (cond (overlap (get_or (rows_in ws) (j - 1) past).matching m) (suc (get_or ls (j - 1) 0)) 0) → max b (above (over ws) ls i (j - 1)) ≡ w
+  pub back-turn : 0 < j → (m k : Match) → m ≡ (get_or (rows_in ws) i past).matching → k ≡ (get_or (rows_in ws) (j - 1) past).matching → (b : ℕ)
+      → b ≡ max best (cond (overlap k m) (suc (get_or ls (j - 1) 0)) 0) → max b (above (over ws) ls i (j - 1)) ≡ w
   unfolding over
-  back-turn h m e b d =
+  back-turn h m k e e' b d =
       let y : ℕ = cond (over ws (j - 1) i) (suc (get_or ls (j - 1) 0)) 0 in
-      let d' : b ≡ max best y = rw e at d in
+      let d' : b ≡ max best y = rw (e, e') at d in
       omega (arith, above-last (over ws) ls i j h)
 
   pub back_end : j ≤ 0 → best ≡ w

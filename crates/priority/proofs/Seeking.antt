@@ -66,15 +66,16 @@ pair-test m l p = overlap (match_of p.1) m && eqb p.0 l
 -- what it finds first among the levels and rows before a row
 pub step-position : (ws ls : List ℕ) (rows : List (List ℕ)) (i l : ℕ) (m : Match) → m ≡ (get_or (rows_in ws) i past).matching
     → rows ≡ records (row_count ws) row_length ws → i ≤ length ls → i ≤ length rows
-    → unwrap_or (position (pair-test m l) (zip (take i ls) rows)) i ≡ step_back (over ws) ls i l
+    → unwrap_or (position (pair-test m l) (zip (take i ls) (take i rows))) i ≡ step_back (over ws) ls i l
 unfolding over
 step-position ws ls rows i l m e d h k =
-    let pairs : List (ℕ × List ℕ) = zip (take i ls) rows in
+    let pairs : List (ℕ × List ℕ) = zip (take i ls) (take i rows) in
     let n : length (take i ls) ≡ i = length-take-le i ls h in
-    let q : length pairs ≡ i = length-zip (take i ls) rows ∙ omega arith in
+    let n' : length (take i rows) ≡ i = length-take-le i rows k in
+    let q : length pairs ≡ i = length-zip (take i ls) (take i rows) ∙ omega arith in
     let same : (j : ℕ) → j < 0 + i → pair-test m l (get_or pairs j (0, [])) ≡ overlaps_at (over ws) ls i l j = λ j g.
-    ap (pair-test m l) (get_or-zip (take i ls) rows j (0, []) (omega arith) (omega arith))
-    ∙ rw (get_or-take i ls j 0 (omega arith), match-read ws rows j (get_or rows j []) d refl, e) in
+    ap (pair-test m l) (get_or-zip (take i ls) (take i rows) j (0, []) (omega arith) (omega arith))
+    ∙ rw (get_or-take i ls j 0 (omega arith), get_or-take i rows j [] (omega arith), match-read ws rows j (get_or rows j []) d refl, e) in
     ap (unwrap_or (position (pair-test m l) pairs)) (sym q)
     ∙ first-position (0, []) (pair-test m l) pairs
     ∙ ap (λ x. seek (λ j. pair-test m l (get_or pairs j (0, []))) x 0) q

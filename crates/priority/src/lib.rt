@@ -4,14 +4,15 @@
 ghost use Rattle.std.specs.Prelude.{◌≡◌, map, ℕ, suc, ◌-◌, ◌≤◌, ◌<◌, ◌^◌, max, length, set, if◌then◌else◌, ◌==◌, slice_index, slice_index_or};
 ghost use Rattle.words.specs.Words.{laid};
 ghost use Rattle.theory.specs.Number.{above, level_count, first_of_level, step_back, chain_under};
-ghost use Rattle.flow.specs.Match.{overlap};
-ghost use Rattle.row.specs.Row.{most_rows, rows_in};
-ghost use Rattle.table.specs.Table.{row_count, past};
+ghost use Rattle.flow.specs.Match.{match_of, overlap};
+ghost use Rattle.row.specs.Row.{most_rows};
+ghost use Rattle.table.specs.Table.{row_count};
 ghost use Rattle.priority.specs.Numbering.{over, levels_of, priorities_of, chain_of, Answered};
 ghost use Rattle.priority.specs.Numbering.{NumbersFit, LevelsBefore, ChainFits};
 
 use flow::Match;
 use refusal::{Reason, Refusal};
+use row::RowWords;
 use table::{Table, match_at, rows};
 use words::{Spelling, word};
 
@@ -39,9 +40,10 @@ impl Place {
         ensures { result.0 ≡ step_back (over table.entry.words.now) levels.now self.0 l }
     {
         let m = match_at(table.words, self.0);
+        // Both are cut: over two lists of one length the loop tests its end once.
         let found = levels[..self.0]
             .iter()
-            .zip(rows(table.words))
+            .zip(&rows(table.words)[..self.0])
             .position(|(level, row)| *level == l && Match::read(row).overlap(m));
         Place(found.unwrap_or(self.0))
     }
@@ -114,49 +116,37 @@ fn put_levels(table: Table<'_>, levels: &mut [u32]) -> u32
 }
 
 // The level of row i, from those of the rows before it, which are below count. It goes back, and stops where no row can
-// raise it. Inlined into its caller it took up to twice as long.
+// raise it. Inlined into its caller it is up to twice as slow.
 #[inline(never)]
 fn level(table: Table<'_>, levels: &[u32], i: usize, count: u32) -> u32
     requires { LevelsBefore table.words.now levels.now i count }
     ensures value { result ≡ above (over table.entry.words.now) levels.now i i }
     ensures bound { result ≤ count }
 {
-    let m = match_at(table.words, i);
+    let rows = rows(table.words);
+    let m = Match::read(&rows[i]);
     let mut best = 0;
-    // The level is the larger of best and what row j and those before it ask for. By number: over
-    // `levels[..i].iter().enumerate().rev()` disjoint rows took 1.01 of Rust's time in place of 0.66, and are to be
-    // never slower.
-    for j in (0..i).rev() {
-        if count <= best {
-            return best;
-        }
-        best = raised(table, m, j, levels[j], best);
+    let mut j = i;
+    // The level is the larger of best and what row j - 1 and those before it ask for. One test for both ends is one
+    // jump back: as a `for` with a return, or over an iterator of the levels, it took up to 1.3 times as long.
+    while j != 0 && best < count {
+        j -= 1;
+        best = raised(&rows[j], m, levels[j], best);
     }
     best
 }
 
-// What row j, of a level, makes of the best level so far; a level below that cannot raise it, whether the row overlaps
+// What a row of a level makes of the best level so far; one of a level below that cannot raise it, whether it overlaps
 // or not.
-fn raised(table: Table<'_>, m: Match, j: usize, level: u32, best: u32) -> u32
-    requires row { j < row_count table.words.now }
-    requires low { level < most_rows }
-    ensures { result ≡ max best
-        (if overlap (slice_index_or (rows_in table.entry.words.now) j past).matching m then suc level else 0) }
+fn raised(row: &RowWords, m: Match, level: u32, best: u32) -> u32
+    requires { level < most_rows }
+    ensures { result ≡ max best (if overlap (match_of row.now) m then suc level else 0) }
 {
     if level < best {
         return best;
     }
-    let overlaps = row_match(table, j).overlap(m);
+    let overlaps = Match::read(row).overlap(m);
     if overlaps { level + 1 } else { best }
-}
-
-// The match of row i. By `match_at`, which tests the place, the numbering of disjoint rows took 1.7 of Rust's time
-// in place of 0.7: it is to be never slower.
-fn row_match(table: Table<'_>, i: usize) -> Match
-    requires { i < row_count table.words.now }
-    ensures { result ≡ (slice_index_or (rows_in table.entry.words.now) i past).matching }
-{
-    Match::read(&rows(table.words)[i])
 }
 
 // Stores the chain from its end back to its start.

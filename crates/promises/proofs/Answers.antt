@@ -1,8 +1,7 @@
 -- For each public function, and for those of the traits by which values are read, written and converted: its contract, as the checker reads it, asks
 -- nothing, and no second answer fits it. Where buffers are lent, their words are part of what is seen; of a sink what the bytes that it was given settle.
-use Prim.Native.Nat.{ℕ, ◌%◌, ◌^◌}
-use mathlib.Core.Path.{◌≡◌, refl, sym, ap, ◌∙◌}
-use mathlib.Core.List.{List, Mem, not-mem-nil}
+use Rattle.std.proofs.Common.{ℕ, ◌%◌, ◌^◌, ◌≡◌, refl, sym, ap, ◌∙◌, List, [], ◌∷◌}
+use mathlib.Core.List.{Mem, not-mem-nil}
 use denote.RattleType.{RattleType}
 use denote.Param.Laws.{Laws}
 use mir.Syntax.{Dict}
@@ -15,7 +14,6 @@ use Rattle.field.proofs.Prefix.covers.Reads as prefix_covers
 use Rattle.field.proofs.Prefix.longer.Reads as longer
 use Rattle.field.proofs.meets_value.Reads as meets_value
 use Rattle.field.proofs.values_meet.Reads as values_meet
-use Rattle.field.proofs.value_inside.Reads as value_inside
 use Rattle.field.proofs.common_value.Reads as common_value
 use Rattle.field.proofs.right_value.Reads as right_value
 use Rattle.words.proofs.word.Reads as word
@@ -44,6 +42,7 @@ use Rattle.action.specs.declared.Operator.{Operator}
 use Rattle.action.proofs.constants.Reads as action_constants
 use Rattle.action.proofs.LawFailure.actions.Reads as failure_actions
 use Rattle.action.proofs.Operator.join.Reads as operator_join
+use Rattle.action.proofs.join_by.Reads as join_by
 use Rattle.action.proofs.Operator.law_search.Reads as operator_law_search
 use Rattle.action.proofs.Action.kind.Reads as kind
 use Rattle.action.proofs.Action.rate.Reads as rate
@@ -68,6 +67,7 @@ use Rattle.policy.proofs.read.Reads as read
 use Rattle.policy.proofs.read_as.Reads as read_as
 use Rattle.policy.proofs.Layout.first_atom.Reads as layout_first_atom
 use Rattle.nodes.proofs.root.Reads as root
+use Rattle.nodes.proofs.Spot.behind_own.Reads as behind_own
 use Rattle.nodes.proofs.File.node_at.Reads as node_at
 use Rattle.nodes.proofs.File.operator_at.Reads as operator_at
 use Rattle.nodes.proofs.File.atoms_at.Reads as atoms_at
@@ -97,240 +97,89 @@ use Rattle.calls.proofs.reply_number.Reads as reply_number
 use Rattle.calls.proofs.reply_hidden.Reads as reply_hidden
 use Rattle.calls.proofs.reply_list.Reads as reply_list
 
--- field
-in_prefix-one : OneAnswer in_prefix.Pre in_prefix.Post (λ κ r s. r)
-in_prefix-one = fixed (λ κ a r s p. p)
-
-right_prefix-one : OneAnswer right_prefix.Pre right_prefix.Post (λ κ r s. r)
-right_prefix-one = fixed (λ κ a r s p. p)
-
-prefixes_meet-one : OneAnswer prefixes_meet.Pre prefixes_meet.Post (λ κ r s. r)
-prefixes_meet-one = fixed (λ κ a r s p. p)
-
-prefix_covers-one : OneAnswer prefix_covers.Pre prefix_covers.Post (λ κ r s. r)
-prefix_covers-one = fixed (λ κ a r s p. p)
-
-longer-one : OneAnswer longer.Pre longer.Post (λ κ r s. r)
-longer-one = fixed (λ κ a r s p. p)
-
-meets_value-one : OneAnswer meets_value.Pre meets_value.Post (λ κ r s. r)
-meets_value-one = fixed (λ κ a r s p. p)
-
-values_meet-one : OneAnswer values_meet.Pre values_meet.Post (λ κ r s. r)
-values_meet-one = fixed (λ κ a r s p. p)
-
-value_inside-one : OneAnswer value_inside.Pre value_inside.Post (λ κ r s. r)
-value_inside-one = fixed (λ κ a r s p. p)
-
-common_value-one : OneAnswer common_value.Pre common_value.Post (λ κ r s. r)
-common_value-one = fixed (λ κ a r s p. p)
-
-right_value-one : OneAnswer right_value.Pre right_value.Post (λ κ r s. r)
-right_value-one = fixed (λ κ a r s p. p)
-
--- words
-word-one : OneAnswer word.Pre word.Post (λ κ r s. r)
-word-one = fixed (λ κ a r s p. p)
-
-copy-one : OneAnswer copy.Pre copy.Post (λ κ r s. s.0.now)
-copy-one = fixed (λ κ a r s p. p)
-
-clear_from-one : OneAnswer clear_from.Pre clear_from.Post (λ κ r s. s.0.now)
-clear_from-one = fixed (λ κ a r s p. p)
-
-from_bytes-one : OneAnswer from_bytes.Pre from_bytes.Post (λ κ r s. s.1.0.now)
-from_bytes-one = fixed (λ κ a r s p. p)
-
-to_bytes-one : OneAnswer to_bytes.Pre to_bytes.Post (λ κ r s. s.1.0.now)
-to_bytes-one = fixed (λ κ a r s p. p)
-
--- flow
-meets-one : OneAnswer meets.Pre meets.Post (λ κ r s. r)
-meets-one = fixed (λ κ a r s p. p)
-
-overlap-one : OneAnswer overlap.Pre overlap.Post (λ κ r s. r)
-overlap-one = fixed (λ κ a r s p. p)
-
-lies_inside-one : OneAnswer lies_inside.Pre lies_inside.Post (λ κ r s. r)
-lies_inside-one = fixed (λ κ a r s p. p)
-
-common-one : OneAnswer common.Pre common.Post (λ κ r s. r)
-common-one = fixed (λ κ a r s p. p)
-
-is_empty-one : OneAnswer is_empty.Pre is_empty.Post (λ κ r s. r)
-is_empty-one = fixed (λ κ a r s p. p)
-
-contradicts-one : OneAnswer contradicts.Pre contradicts.Post (λ κ r s. r)
-contradicts-one = fixed (λ κ a r s p. p)
-
-constrains-one : OneAnswer constrains.Pre constrains.Post (λ κ r s. r)
-constrains-one = fixed (λ κ a r s p. p)
-
-right_match-one : OneAnswer right_match.Pre right_match.Post (λ κ r s. r)
-right_match-one = fixed (λ κ a r s p. p)
-
-is_plain-one : OneAnswer is_plain.Pre is_plain.Post (λ κ r s. r)
-is_plain-one = fixed (λ κ a r s p. p)
-
-right_packet-one : OneAnswer right_packet.Pre right_packet.Post (λ κ r s. r)
-right_packet-one = fixed (λ κ a r s p. p)
-
-packet_try_from-one : OneAnswer packet_try_from.Pre packet_try_from.Post (λ κ r s. r)
-packet_try_from-one = fixed (λ κ a r s p. p)
-
-read_packet-one : OneAnswer read_packet.Pre read_packet.Post (λ κ r s. r)
-read_packet-one = fixed (λ κ a r s p. p)
-
-read_match-one : OneAnswer read_match.Pre read_match.Post (λ κ r s. r)
-read_match-one = fixed (λ κ a r s p. p)
-
-write_packet-one : OneAnswer write_packet.Pre write_packet.Post (λ κ r s. s.0.now)
-write_packet-one = fixed (λ κ a r s p. p)
-
-write_match-one : OneAnswer write_match.Pre write_match.Post (λ κ r s. s.0.now)
-write_match-one = fixed (λ κ a r s p. p)
-
-words_of_packet-one : OneAnswer words_of_packet.Pre words_of_packet.Post (λ κ r s. r)
-words_of_packet-one = fixed (λ κ a r s p. p)
-
-words_of_match-one : OneAnswer words_of_match.Pre words_of_match.Post (λ κ r s. r)
-words_of_match-one = fixed (λ κ a r s p. p)
-
--- action: an operator is its cells
+-- an operator is its cells
 by-cells : {o : Operator} {cells : List ℕ} → o.cells ≡ cells → o ≡ record { cells = cells }
 by-cells = ap (λ c. record { cells = c })
 
-action_constants-one : OneAnswer action_constants.Pre action_constants.Post (λ κ r s. r)
-action_constants-one = fixed (λ κ a r s p. refl)
-
-failure_actions-one : OneAnswer failure_actions.Pre failure_actions.Post (λ κ r s. r)
-failure_actions-one = fixed (λ κ a r s p. p)
-
-operator_join-one : OneAnswer operator_join.Pre operator_join.Post (λ κ r s. r)
-operator_join-one = fixed (λ κ a r s p. p)
-
-operator_law_search-one : OneAnswer operator_law_search.Pre operator_law_search.Post (λ κ r s. r)
-operator_law_search-one = fixed (λ κ a r s p. p)
-
-kind-one : OneAnswer kind.Pre kind.Post (λ κ r s. r)
-kind-one = fixed (λ κ a r s p. p.0)
-
-rate-one : OneAnswer rate.Pre rate.Post (λ κ r s. r)
-rate-one = fixed (λ κ a r s p. p)
-
-action_from_words-one : OneAnswer action_from_words.Pre action_from_words.Post (λ κ r s. r)
-action_from_words-one = fixed (λ κ a r s p. p)
-
-right_words-one : OneAnswer right_words.Pre right_words.Post (λ κ r s. r)
-right_words-one = fixed (λ κ a r s p. p)
-
-words_of_action-one : OneAnswer words_of_action.Pre words_of_action.Post (λ κ r s. r)
-words_of_action-one = fixed (λ κ a r s p. p)
-
-right_cell-one : OneAnswer right_cell.Pre right_cell.Post (λ κ r s. r)
-right_cell-one = fixed (λ κ a r s p. p)
-
-operator_from_words-one : OneAnswer operator_from_words.Pre operator_from_words.Post (λ κ r s. r)
-operator_from_words-one = fixed (λ κ a r s p. by-cells p)
-
--- row
-row_action-one : OneAnswer row_action.Pre row_action.Post (λ κ r s. r)
-row_action-one = fixed (λ κ a r s p. p)
-
-words_of_row-one : OneAnswer words_of_row.Pre words_of_row.Post (λ κ r s. r)
-words_of_row-one = fixed (λ κ a r s p. p)
-
-read_row-one : OneAnswer read_row.Pre read_row.Post (λ κ r s. r)
-read_row-one = fixed (λ κ a r s p. p)
-
-write_row-one : OneAnswer write_row.Pre write_row.Post (λ κ r s. s.0.now)
-write_row-one = fixed (λ κ a r s p. p)
-
-right_row-one : OneAnswer right_row.Pre right_row.Post (λ κ r s. r)
-right_row-one = fixed (λ κ a r s p. p)
-
-right_row_match-one : OneAnswer right_row_match.Pre right_row_match.Post (λ κ r s. r)
-right_row_match-one = fixed (λ κ a r s p. p)
-
-right_row_action-one : OneAnswer right_row_action.Pre right_row_action.Post (λ κ r s. r)
-right_row_action-one = fixed (λ κ a r s p. p)
-
--- refusal
-reason_number-one : OneAnswer reason_number.Pre reason_number.Post (λ κ r s. r)
-reason_number-one = fixed (λ κ a r s p. p)
-
-reason_failure-one : OneAnswer reason_failure.Pre reason_failure.Post (λ κ r s. r)
-reason_failure-one = fixed (λ κ a r s p. p)
-
-reason_at-one : OneAnswer reason_at.Pre reason_at.Post (λ κ r s. r)
-reason_at-one = fixed (λ κ a r s p. p)
-
-refusal_from-one : OneAnswer refusal_from.Pre refusal_from.Post (λ κ r s. r)
-refusal_from-one = fixed (λ κ a r s p. p)
-
--- policy
-read_node-one : OneAnswer read_node.Pre read_node.Post (λ κ r s. r)
-read_node-one = fixed (λ κ a r s p. p)
-
-read-one : OneAnswer read.Pre read.Post (λ κ r s. r)
-read-one = fixed (λ κ a r s p. p)
-
-read_as-one : OneAnswer read_as.Pre read_as.Post (λ κ r s. r)
-read_as-one = fixed (λ κ a r s p. p)
-
-layout_first_atom-one : OneAnswer layout_first_atom.Pre layout_first_atom.Post (λ κ r s. r)
-layout_first_atom-one = fixed (λ κ a r s p. p)
-
--- nodes
-root-one : OneAnswer root.Pre root.Post (λ κ r s. r)
-root-one = fixed (λ κ a r s p. p)
-
-node_at-one : OneAnswer node_at.Pre node_at.Post (λ κ r s. r)
-node_at-one = fixed (λ κ a r s p. p)
-
-operator_at-one : OneAnswer operator_at.Pre operator_at.Post (λ κ r s. r)
-operator_at-one = fixed (λ κ a r s p. by-cells p)
-
-atoms_at-one : OneAnswer atoms_at.Pre atoms_at.Post (λ κ r s. r.now)
-atoms_at-one = fixed (λ κ a r s p. p)
-
-join_at-one : OneAnswer join_at.Pre join_at.Post (λ κ r s. r)
-join_at-one = fixed (λ κ a r s p. p)
-
--- tree
-tree_action-one : OneAnswer tree_action.Pre tree_action.Post (λ κ r s. r)
-tree_action-one = fixed (λ κ a r s p. p)
-
--- table
-scan-one : OneAnswer scan.Pre scan.Post (λ κ r s. r)
-scan-one = fixed (λ κ a r s p. p)
-
-check-one : OneAnswer check.Pre check.Post (λ κ r s. r)
-check-one = fixed (λ κ a r s p. p)
-
-row_count-one : OneAnswer row_count.Pre row_count.Post (λ κ r s. r)
-row_count-one = fixed (λ κ a r s p. p)
-
-first_match-one : OneAnswer first_match.Pre first_match.Post (λ κ r s. r)
-first_match-one = fixed (λ κ a r s p. p)
-
-match_at-one : OneAnswer match_at.Pre match_at.Post (λ κ r s. r)
-match_at-one = fixed (λ κ a r s p. p)
-
-rows-one : OneAnswer rows.Pre rows.Post (λ κ r s. r.now)
-rows-one = fixed (λ κ a r s p. p.0)
-
--- hidden
-drop_hidden-one : OneAnswer drop_hidden.Pre drop_hidden.Post (λ κ r s. answer_with r s.0.now)
-drop_hidden-one = fixed (λ κ a r s p. both p.0 p.1)
-
--- priority
-number-one : OneAnswer number.Pre number.Post (λ κ r s. answer_and r s.1.0.now s.1.1.0.now)
-number-one = fixed (λ κ a r s p. all p.0 p.1 p.2)
-
--- compile
-compile-one : OneAnswer compile.Pre compile.Post (λ κ r s. answer_and r s.1.0.now s.1.1.0.now)
-compile-one = fixed (λ κ a r s p. all p.answer p.table p.scratch)
+-- what is answered, or what is left in the buffers, is said by the contract
+one-answers : List ((statement : Type 0) × statement)
+one-answers =
+    (OneAnswer in_prefix.Pre in_prefix.Post (λ κ r s. r), fixed (λ κ a r s p. p))
+    ∷ (OneAnswer right_prefix.Pre right_prefix.Post (λ κ r s. r), fixed (λ κ a r s p. p))
+    ∷ (OneAnswer prefixes_meet.Pre prefixes_meet.Post (λ κ r s. r), fixed (λ κ a r s p. p))
+    ∷ (OneAnswer prefix_covers.Pre prefix_covers.Post (λ κ r s. r), fixed (λ κ a r s p. p))
+    ∷ (OneAnswer longer.Pre longer.Post (λ κ r s. r), fixed (λ κ a r s p. p))
+    ∷ (OneAnswer meets_value.Pre meets_value.Post (λ κ r s. r), fixed (λ κ a r s p. p))
+    ∷ (OneAnswer values_meet.Pre values_meet.Post (λ κ r s. r), fixed (λ κ a r s p. p))
+    ∷ (OneAnswer common_value.Pre common_value.Post (λ κ r s. r), fixed (λ κ a r s p. p))
+    ∷ (OneAnswer right_value.Pre right_value.Post (λ κ r s. r), fixed (λ κ a r s p. p))
+    ∷ (OneAnswer word.Pre word.Post (λ κ r s. r), fixed (λ κ a r s p. p))
+    ∷ (OneAnswer copy.Pre copy.Post (λ κ r s. s.0.now), fixed (λ κ a r s p. p))
+    ∷ (OneAnswer clear_from.Pre clear_from.Post (λ κ r s. s.0.now), fixed (λ κ a r s p. p))
+    ∷ (OneAnswer from_bytes.Pre from_bytes.Post (λ κ r s. s.1.0.now), fixed (λ κ a r s p. p))
+    ∷ (OneAnswer to_bytes.Pre to_bytes.Post (λ κ r s. s.1.0.now), fixed (λ κ a r s p. p))
+    ∷ (OneAnswer meets.Pre meets.Post (λ κ r s. r), fixed (λ κ a r s p. p))
+    ∷ (OneAnswer overlap.Pre overlap.Post (λ κ r s. r), fixed (λ κ a r s p. p))
+    ∷ (OneAnswer lies_inside.Pre lies_inside.Post (λ κ r s. r), fixed (λ κ a r s p. p))
+    ∷ (OneAnswer common.Pre common.Post (λ κ r s. r), fixed (λ κ a r s p. p))
+    ∷ (OneAnswer is_empty.Pre is_empty.Post (λ κ r s. r), fixed (λ κ a r s p. p))
+    ∷ (OneAnswer contradicts.Pre contradicts.Post (λ κ r s. r), fixed (λ κ a r s p. p))
+    ∷ (OneAnswer constrains.Pre constrains.Post (λ κ r s. r), fixed (λ κ a r s p. p))
+    ∷ (OneAnswer right_match.Pre right_match.Post (λ κ r s. r), fixed (λ κ a r s p. p))
+    ∷ (OneAnswer is_plain.Pre is_plain.Post (λ κ r s. r), fixed (λ κ a r s p. p))
+    ∷ (OneAnswer right_packet.Pre right_packet.Post (λ κ r s. r), fixed (λ κ a r s p. p))
+    ∷ (OneAnswer packet_try_from.Pre packet_try_from.Post (λ κ r s. r), fixed (λ κ a r s p. p))
+    ∷ (OneAnswer read_packet.Pre read_packet.Post (λ κ r s. r), fixed (λ κ a r s p. p))
+    ∷ (OneAnswer read_match.Pre read_match.Post (λ κ r s. r), fixed (λ κ a r s p. p))
+    ∷ (OneAnswer write_packet.Pre write_packet.Post (λ κ r s. s.0.now), fixed (λ κ a r s p. p))
+    ∷ (OneAnswer write_match.Pre write_match.Post (λ κ r s. s.0.now), fixed (λ κ a r s p. p))
+    ∷ (OneAnswer words_of_packet.Pre words_of_packet.Post (λ κ r s. r), fixed (λ κ a r s p. p))
+    ∷ (OneAnswer words_of_match.Pre words_of_match.Post (λ κ r s. r), fixed (λ κ a r s p. p))
+    ∷ (OneAnswer action_constants.Pre action_constants.Post (λ κ r s. r), fixed (λ κ a r s p. refl))
+    ∷ (OneAnswer failure_actions.Pre failure_actions.Post (λ κ r s. r), fixed (λ κ a r s p. p))
+    ∷ (OneAnswer operator_join.Pre operator_join.Post (λ κ r s. r), fixed (λ κ a r s p. p))
+    ∷ (OneAnswer join_by.Pre join_by.Post (λ κ r s. r), fixed (λ κ a r s p. p))
+    ∷ (OneAnswer operator_law_search.Pre operator_law_search.Post (λ κ r s. r), fixed (λ κ a r s p. p))
+    ∷ (OneAnswer kind.Pre kind.Post (λ κ r s. r), fixed (λ κ a r s p. p.0))
+    ∷ (OneAnswer rate.Pre rate.Post (λ κ r s. r), fixed (λ κ a r s p. p))
+    ∷ (OneAnswer action_from_words.Pre action_from_words.Post (λ κ r s. r), fixed (λ κ a r s p. p))
+    ∷ (OneAnswer right_words.Pre right_words.Post (λ κ r s. r), fixed (λ κ a r s p. p))
+    ∷ (OneAnswer words_of_action.Pre words_of_action.Post (λ κ r s. r), fixed (λ κ a r s p. p))
+    ∷ (OneAnswer right_cell.Pre right_cell.Post (λ κ r s. r), fixed (λ κ a r s p. p))
+    ∷ (OneAnswer operator_from_words.Pre operator_from_words.Post (λ κ r s. r), fixed (λ κ a r s p. by-cells p))
+    ∷ (OneAnswer row_action.Pre row_action.Post (λ κ r s. r), fixed (λ κ a r s p. p))
+    ∷ (OneAnswer words_of_row.Pre words_of_row.Post (λ κ r s. r), fixed (λ κ a r s p. p))
+    ∷ (OneAnswer read_row.Pre read_row.Post (λ κ r s. r), fixed (λ κ a r s p. p))
+    ∷ (OneAnswer write_row.Pre write_row.Post (λ κ r s. s.0.now), fixed (λ κ a r s p. p))
+    ∷ (OneAnswer right_row.Pre right_row.Post (λ κ r s. r), fixed (λ κ a r s p. p))
+    ∷ (OneAnswer right_row_match.Pre right_row_match.Post (λ κ r s. r), fixed (λ κ a r s p. p))
+    ∷ (OneAnswer right_row_action.Pre right_row_action.Post (λ κ r s. r), fixed (λ κ a r s p. p))
+    ∷ (OneAnswer reason_number.Pre reason_number.Post (λ κ r s. r), fixed (λ κ a r s p. p))
+    ∷ (OneAnswer reason_failure.Pre reason_failure.Post (λ κ r s. r), fixed (λ κ a r s p. p))
+    ∷ (OneAnswer reason_at.Pre reason_at.Post (λ κ r s. r), fixed (λ κ a r s p. p))
+    ∷ (OneAnswer refusal_from.Pre refusal_from.Post (λ κ r s. r), fixed (λ κ a r s p. p))
+    ∷ (OneAnswer read_node.Pre read_node.Post (λ κ r s. r), fixed (λ κ a r s p. p))
+    ∷ (OneAnswer read.Pre read.Post (λ κ r s. r), fixed (λ κ a r s p. p))
+    ∷ (OneAnswer read_as.Pre read_as.Post (λ κ r s. r), fixed (λ κ a r s p. p))
+    ∷ (OneAnswer layout_first_atom.Pre layout_first_atom.Post (λ κ r s. r), fixed (λ κ a r s p. p))
+    ∷ (OneAnswer root.Pre root.Post (λ κ r s. r), fixed (λ κ a r s p. p))
+    ∷ (OneAnswer behind_own.Pre behind_own.Post (λ κ r s. r), fixed (λ κ a r s p. p))
+    ∷ (OneAnswer node_at.Pre node_at.Post (λ κ r s. r), fixed (λ κ a r s p. p))
+    ∷ (OneAnswer operator_at.Pre operator_at.Post (λ κ r s. r), fixed (λ κ a r s p. by-cells p))
+    ∷ (OneAnswer atoms_at.Pre atoms_at.Post (λ κ r s. r.now), fixed (λ κ a r s p. p))
+    ∷ (OneAnswer join_at.Pre join_at.Post (λ κ r s. r), fixed (λ κ a r s p. p))
+    ∷ (OneAnswer tree_action.Pre tree_action.Post (λ κ r s. r), fixed (λ κ a r s p. p))
+    ∷ (OneAnswer scan.Pre scan.Post (λ κ r s. r), fixed (λ κ a r s p. p))
+    ∷ (OneAnswer check.Pre check.Post (λ κ r s. r), fixed (λ κ a r s p. p))
+    ∷ (OneAnswer row_count.Pre row_count.Post (λ κ r s. r), fixed (λ κ a r s p. p))
+    ∷ (OneAnswer first_match.Pre first_match.Post (λ κ r s. r), fixed (λ κ a r s p. p))
+    ∷ (OneAnswer match_at.Pre match_at.Post (λ κ r s. r), fixed (λ κ a r s p. p))
+    ∷ (OneAnswer rows.Pre rows.Post (λ κ r s. r.now), fixed (λ κ a r s p. p.0))
+    ∷ (OneAnswer drop_hidden.Pre drop_hidden.Post (λ κ r s. answer_with r s.0.now), fixed (λ κ a r s p. both p.0 p.1))
+    ∷ (OneAnswer number.Pre number.Post (λ κ r s. answer_and r s.1.0.now s.1.1.0.now), fixed (λ κ a r s p. all p.0 p.1 p.2))
+    ∷ (OneAnswer compile.Pre compile.Post (λ κ r s. answer_and r s.1.0.now s.1.1.0.now), fixed (λ κ a r s p. all p.answer p.table p.scratch))
+    ∷ (OneAnswer low_bits.Pre low_bits.Post (λ κ r s. r), fixed (λ κ a r s p. p))
+    ∷ []
 
 -- what is seen of a sink whose type holds no reference: what it was, and the bytes that it was given, settle it
 record SeenSink : Type 2 where
@@ -356,10 +205,6 @@ counted L D = record {
   settled = λ a b c xs p q. p ∙ sym q;
 }
 
--- streams
-low_bits-one : OneAnswer low_bits.Pre low_bits.Post (λ κ r s. r)
-low_bits-one = fixed (λ κ a r s p. p)
-
 -- show: a table at any such sink, and the lines of a listing
 list_table-one : (S : SeenSink) → OneAnswer (list_table.Pre S.sink S.laws S.ghosts S.dict) (list_table.Post S.sink S.laws S.ghosts S.dict)
     (λ κ r s. S.seen s.1.0.now)
@@ -384,30 +229,30 @@ list-one S = record { asks_nothing = λ κ a i m. absurd (S.holds_none i m); no_
 
 -- calls
 put_words-one : (S : SeenSink) → OneAnswer (put_words.Pre S.sink S.laws S.ghosts S.dict) (put_words.Post S.sink S.laws S.ghosts S.dict)
-    (λ κ r s. S.seen s.0.now)
+    (λ κ r s. S.seen s.1.0.now)
 put_words-one S = record { asks_nothing = λ κ a i m. absurd (S.holds_none i m); no_second = λ κ a r₁ r₂ s₁ s₂ p q. S.settled _ _ _ _ p q }
 
 reply_compile-one : (S : SeenSink) → OneAnswer (reply_compile.Pre S.sink S.laws S.ghosts S.dict) (reply_compile.Post S.sink S.laws S.ghosts S.dict)
-    (λ κ r s. answer_and (S.seen s.0.now) s.1.1.0.now s.1.1.1.0.now)
+    (λ κ r s. answer_and (S.seen s.1.1.1.0.now) s.1.0.now s.1.1.0.now)
 reply_compile-one S = record {
   asks_nothing = λ κ a i m. absurd (S.holds_none i m);
   no_second = λ κ a r₁ r₂ s₁ s₂ p q. all (S.settled _ _ _ _ p.1.1 q.1.1) (p.0 ∙ sym q.0) (p.1.0 ∙ sym q.1.0);
 }
 
 reply_number-one : (S : SeenSink) → OneAnswer (reply_number.Pre S.sink S.laws S.ghosts S.dict) (reply_number.Post S.sink S.laws S.ghosts S.dict)
-    (λ κ r s. answer_and (S.seen s.0.now) s.1.1.0.now s.1.1.1.0.now)
+    (λ κ r s. answer_and (S.seen s.1.1.1.0.now) s.1.0.now s.1.1.0.now)
 reply_number-one S = record {
   asks_nothing = λ κ a i m. absurd (S.holds_none i m);
   no_second = λ κ a r₁ r₂ s₁ s₂ p q. all (S.settled _ _ _ _ p.1.1 q.1.1) (p.0 ∙ sym q.0) (p.1.0 ∙ sym q.1.0);
 }
 
 reply_hidden-one : (S : SeenSink) → OneAnswer (reply_hidden.Pre S.sink S.laws S.ghosts S.dict) (reply_hidden.Post S.sink S.laws S.ghosts S.dict)
-    (λ κ r s. answer_with (S.seen s.0.now) s.1.0.now)
+    (λ κ r s. answer_with (S.seen s.1.0.now) s.0.now)
 reply_hidden-one S = record {
   asks_nothing = λ κ a i m. absurd (S.holds_none i m);
   no_second = λ κ a r₁ r₂ s₁ s₂ p q. both (S.settled _ _ _ _ p.1 q.1) (p.0 ∙ sym q.0);
 }
 
 reply_list-one : (S : SeenSink) → OneAnswer (reply_list.Pre S.sink S.laws S.ghosts S.dict) (reply_list.Post S.sink S.laws S.ghosts S.dict)
-    (λ κ r s. S.seen s.0.now)
+    (λ κ r s. S.seen s.1.0.now)
 reply_list-one S = record { asks_nothing = λ κ a i m. absurd (S.holds_none i m); no_second = λ κ a r₁ r₂ s₁ s₂ p q. S.settled _ _ _ _ p q }

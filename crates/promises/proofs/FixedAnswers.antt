@@ -1,14 +1,7 @@
 -- Fixed answers by cases, each with its number and the words that it leaves.
-use Prim.Native.Nat.{ℕ, ◌-◌, ◌<◌}
-use native.Mathlib.Omega.{arith}
-use mathlib.Core.Path.{◌≡◌, refl, sym, ap, subst}
-use mathlib.Core.Bool.{Bool, true, false, ◌&&◌}
-use mathlib.Core.List.{List, [], ◌∷◌, ◌++◌}
-use mathlib.Core.Logic.{◌⊎◌, inl, inr}
-use lib.Dec.{eqb, leb}
-use lib.ListN.{length}
-use borrow.Author.Tests.{lt-leb, eqb-true, eqb-false}
-use Rattle.std.specs.Prelude.{Result, Ok, Err, Option, None}
+use Rattle.std.proofs.Common.{ℕ, ◌-◌, ◌<◌, arith, ◌≡◌, refl, sym, ap, subst, Bool, true, false, ◌&&◌, List, [], ◌∷◌, ◌++◌, ◌⊎◌, inl, inr, eqb, leb, length}
+use Rattle.std.proofs.Common.{eqb-true, Result, Ok, Err, Option, None}
+use borrow.Author.Tests.{lt-leb, eqb-false}
 use Rattle.action.specs.declared.LawFailure.{LawFailure}
 use Rattle.logic.proofs.Tests.{by-test}
 use Rattle.words.specs.Records.{records}
@@ -52,7 +45,8 @@ module _ {numbers : ℕ → Type 0} where
   success : {a : Action} {k : ℕ} → Fixed numbers (record { number = 0; place = 0; failure = None; action = a; count = k })
   success = record { number = inl (refl, refl); value = λ n. absurd (n refl); law = λ n. refl }
 
-  refused : {n i : ℕ} {x : Option LawFailure} → numbers n → x ≡ None → Fixed numbers (record { number = n; place = i; failure = x; action = DontCare; count = 0 })
+  refused : {n i : ℕ} {x : Option LawFailure} → numbers n → x ≡ None
+      → Fixed numbers (record { number = n; place = i; failure = x; action = DontCare; count = 0 })
   refused h p = record { number = inr h; value = λ n. (refl, refl); law = λ n. p }
 
   file-refused : (f : List ℕ) (r : Refusal) → read_of f ≡ Err r → ((n : ℕ) → between 1 10 n → numbers n)
@@ -180,5 +174,5 @@ words_left = record {
   hidden_rows = λ ws n q. (hidden.kept-rows ws n q).words;
 }
 
-pub fixed-answers : FixedAnswers
-fixed-answers = record { every_input = every-input; order = order; words_left = words_left }
+pub fixed_answers : FixedAnswers
+fixed_answers = record { every_input = every-input; order = order; words_left = words_left }

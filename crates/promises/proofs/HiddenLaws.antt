@@ -1,15 +1,10 @@
 -- Hidden rows out: lying inside is by meaning for right rows, so which rows the pass keeps, by place, is what was asked for; the rest is the scan's, the
 -- numbering's and the listing's own laws, over the rows that stay. Assumes nothing.
-use Prim.Native.Nat.{ℕ, zero, suc, ◌*◌, ◌-◌, ◌≤◌, ◌<◌}
-use native.Mathlib.Omega.{arith}
-use mathlib.Core.Path.{◌≡◌, refl, sym, ap, ap₂, ◌∙◌}
-use mathlib.Core.Bool.{Bool, true, false, not, false≢true}
-use mathlib.Core.List.{List, [], ◌∷◌, ◌++◌, map, append-nil}
-use lib.Dec.{ltb}
-use lib.ListN.{length, get_or, take, length-map, length-replicate}
-use lib.Seq.{get_or-take, length-take-le}
-use borrow.Author.Tests.{lt-ltb, ltb-true, not-false}
-use Rattle.std.specs.Prelude.{Ok, Err}
+use Rattle.std.proofs.Common.{ℕ, zero, suc, ◌*◌, ◌-◌, ◌≤◌, ◌<◌, arith, ◌≡◌, refl, sym, ap, ap₂, ◌∙◌, Bool, true, false, not, List, [], ◌∷◌, ◌++◌, map}
+use Rattle.std.proofs.Common.{append-nil, ltb, length, get_or, take, get_or-take, length-take-le, lt-ltb, ltb-true, Ok, Err}
+use mathlib.Core.Bool.{false≢true}
+use lib.ListN.{length-map, length-replicate}
+use borrow.Author.Tests.{not-false}
 use Rattle.logic.specs.Lists.{All}
 use Rattle.logic.proofs.Lists.{all_append, all_then}
 use Rattle.logic.proofs.Tests.{by-test, and_left}
@@ -42,9 +37,9 @@ use Rattle.text.specs.Listing.{blank, listing_of}
 use Rattle.text.proofs.Lists.{lists-rows, lists-refused}
 use Rattle.promises.specs.Hidden.{row_in, Inside, Hidden, Passed, PassRefused, PassListed, KeptObeysTree, HiddenRows}
 use Rattle.promises.proofs.Scanned.{gives}
-use Rattle.promises.proofs.FixedAnswers.{fixed-answers}
-use Rattle.promises.proofs.TableFollowsTree.{table-follows-tree}
-use Rattle.promises.proofs.SmallestNumbering.{smallest-numbering}
+use Rattle.promises.proofs.FixedAnswers.{fixed_answers}
+use Rattle.promises.proofs.TableFollowsTree.{table_follows_tree}
+use Rattle.promises.proofs.SmallestNumbering.{smallest_numbering}
 
 -- the places that pass a test lie below the bound
 where_below : (test : ℕ → Bool) (n m : ℕ) → n ≤ m → All (λ i. i < m) (places_where test n)
@@ -155,7 +150,8 @@ module _ (ws : List ℕ) (right : RightTable ws) where
       let g : i < row_count after = omega (arith, after-right.1) in
       let b : s.earlier < row_count after = omega (arith, s.before) in
       let yes : inside (row_in after i).matching (row_in after s.earlier).matching ≡ true =
-      (inside-exactly (row_in after i).matching (row_in after s.earlier).matching (right-row-at after r i g).matching (right-row-at after r s.earlier b).matching).1
+      (inside-exactly (row_in after i).matching (row_in after s.earlier).matching (right-row-at after r i g).matching
+      (right-row-at after r s.earlier b).matching).1
       s.inside in
       let no : inside (row_in after i).matching (row_in after s.earlier).matching ≡ false =
       ap (λ N. inside (get_or N i past).matching (get_or N s.earlier past).matching) told.rows
@@ -209,7 +205,7 @@ pass-refused = record {
 }
   where
     wrong-length : (ws : List ℕ) → right_length ws ≡ false → check_of ws ≡ Err (refusal_at WrongTable 0)
-    wrong-length ws h = fixed-answers.order.table_length ws h
+    wrong-length ws h = fixed_answers.order.table_length ws h
 
 -- the listing's buffers suffice for as many rows as it has room for
 blank-room : room (length blank) ≡ listing_room
@@ -223,8 +219,8 @@ pass-listed = record {
       let same : l.count ≡ k = ap kept_count (sym l.stay ∙ q) in
       rw t (l.listed.text ∙ ap (λ m. rows_text m (table_rows m (table_kept (table_rows n (table_after (words_in b) blank blank))))) same);
   room = λ b l t e h. rw t (lists-refused (words_in b) (refusal_at NoRoom 0)
-      ((table-follows-tree.for_room (words_in b) blank blank l e (omega (arith, blank-room))).1 (omega (arith, blank-room))));
-  in_room = λ b l t e h. table-follows-tree.compiles (words_in b) blank blank l e (omega (arith, blank-room)) (omega (arith, blank-room));
+      ((table_follows_tree.for_room (words_in b) blank blank l e (omega (arith, blank-room))).1 (omega (arith, blank-room))));
+  in_room = λ b l t e h. table_follows_tree.compiles (words_in b) blank blank l e (omega (arith, blank-room)) (omega (arith, blank-room));
 }
 
 kept-obeys-tree : KeptObeysTree
@@ -233,9 +229,9 @@ kept-obeys-tree f t s ps cs p n k i q e h g right o =
     let vs : List ℕ = table_rows k (table_kept ws) in
     let c : RightTable vs × (k ≡ row_count vs) = (check-exactly vs k).0 (kept-rows ws k e).check in
     let r : Ready vs ps cs = record { right = c.0; priorities = omega (arith, c.1); chain = omega (arith, c.1) } in
-    (table-follows-tree.scan f t s p n q right).1
-    ∙ ap gives (sym ((smallest-numbering vs ps cs r).switch p i right o ∙ (same-action ws p k e).1))
+    (table_follows_tree.scan f t s p n q right).1
+    ∙ ap gives (sym ((smallest_numbering vs ps cs r).switch p i right o ∙ (same-action ws p k e).1))
 
 -- EVERY SENTENCE OF THE REQUEST
-pub hidden-rows : HiddenRows
-hidden-rows = record { passed = passed; refused = pass-refused; listed = pass-listed; obeyed = kept-obeys-tree }
+pub hidden_rows : HiddenRows
+hidden_rows = record { passed = passed; refused = pass-refused; listed = pass-listed; obeyed = kept-obeys-tree }

@@ -1,11 +1,6 @@
 -- Ports only where there are ports: each sentence from the laws of matches, or by computation. Assumes nothing.
-use Prim.Native.Nat.{ℕ, ◌<◌}
-use mathlib.Core.Path.{◌≡◌, refl, sym, ap, ◌∙◌}
-use mathlib.Core.Bool.{Bool, true, false, not, ◌||◌, and-eq-true_iff, and-true, and-false, or-true, false≢true}
-use mathlib.Core.List.{List}
-use mathlib.Core.Logic.{⊎_elim, inl, inr}
-use lib.Dec.{eqb}
-use borrow.Author.Tests.{eqb-true, lt-ltb}
+use Rattle.std.proofs.Common.{ℕ, ◌<◌, ◌≡◌, refl, sym, ap, ◌∙◌, Bool, true, false, not, ◌||◌, List, ⊎_elim, inl, inr, eqb, eqb-true, lt-ltb}
+use mathlib.Core.Bool.{and-eq-true_iff, and-true, and-false, or-true, false≢true}
 use Rattle.logic.proofs.Tests.{and_both, or_split}
 use Rattle.field.specs.Value.{right_value}
 use Rattle.flow.specs.Packet.{protocol_limit}
@@ -21,9 +16,9 @@ use Rattle.row.specs.Row.{right_row}
 use Rattle.table.proofs.Tables.{check-first}
 use Rattle.promises.specs.Ports.{TcpOrUdp, PortMet, spoken, CountsAsEmpty, Follows, PortsOnly}
 use Rattle.promises.proofs.Cases.{port-cases}
-use Rattle.promises.proofs.TableFollowsTree.{table-follows-tree}
-use Rattle.promises.proofs.SmallestNumbering.{smallest-numbering}
-use Rattle.promises.proofs.HiddenLaws.{hidden-rows}
+use Rattle.promises.proofs.TableFollowsTree.{table_follows_tree}
+use Rattle.promises.proofs.SmallestNumbering.{smallest_numbering}
+use Rattle.promises.proofs.HiddenLaws.{hidden_rows}
 
 -- a protocol that has ports is one of the two
 two : (p : Packet) → has_ports p.protocol ≡ true → TcpOrUdp p
@@ -102,10 +97,10 @@ port-follows = record {
   common = meets-common;
   no_common = common-none;
   overlaps = overlap-exactly;
-  hidden = hidden-rows.passed;
-  table_follows_tree = table-follows-tree;
-  smallest_numbering = smallest-numbering;
+  hidden = hidden_rows.passed;
+  table_follows_tree = table_follows_tree;
+  smallest_numbering = smallest_numbering;
 }
 
-pub ports-only : PortsOnly
-ports-only = record { met = port-met; counts = port-empty; follows = port-follows; cases = port-cases }
+pub ports_only : PortsOnly
+ports_only = record { met = port-met; counts = port-empty; follows = port-follows; cases = port-cases }

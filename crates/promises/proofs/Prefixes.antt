@@ -1,15 +1,8 @@
 -- The prefix test by bit counts: each sentence from the law on the first bit in which two numbers differ, or by
 -- computation. Assumes nothing.
-use Prim.Native.Nat.{ℕ, suc, ◌-◌, ◌/◌, ◌^◌, ◌≤◌, ◌<◌, min}
-use mathlib.Core.Path.{◌≡◌, refl, sym, ap, ◌∙◌}
-use mathlib.Core.Bool.{true}
-use mathlib.Core.Logic.{◌↔◌}
-use native.Mathlib.Omega.{arith}
-use native.Mathlib.Nat.{div-one}
-use lib.Dec.{leb}
-use lib.Bits.{bit_xor}
+use Rattle.std.proofs.Common.{ℕ, suc, ◌-◌, ◌/◌, ◌^◌, ◌≤◌, ◌<◌, min, ◌≡◌, refl, sym, ap, ◌∙◌, true, ◌↔◌, arith, div-one, leb, bit_xor, eqb-true, eq-eqb}
+use Rattle.std.proofs.Common.{leb-true, leb-false, le-leb}
 use lib.Count.{count_leading_zeros}
-use borrow.Author.Tests.{eqb-true, eq-eqb, leb-true, leb-false, le-leb}
 use Rattle.std.proofs.lemmas.Nat.{leading_le}
 use Rattle.logic.proofs.Tests.{by-test}
 use Rattle.field.specs.Prefix.{leading, in_prefix}
@@ -68,8 +61,8 @@ prefix-cases : Hold prefix_cases
 unfolding in_prefix
 prefix-cases = (refl, (refl, (refl, (refl, (refl, (refl, (refl, (refl, (refl, (refl, (refl, (refl, (refl, (refl, tt))))))))))))))
 
-pub prefix-test : PrefixTest
-prefix-test = record {
+pub prefix_test : PrefixTest
+prefix_test = record {
   first = record { tells = first-tells; counted = first-counted };
   same = same-promise;
   cases = prefix-cases;

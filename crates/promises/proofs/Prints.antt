@@ -1,12 +1,6 @@
 -- What the listing prints: the listing's scratch is long enough, so 13 is not given.
-use Prim.Native.Nat.{ℕ, ◌*◌, ◌≤◌}
-use native.Mathlib.Omega.{arith}
-use mathlib.Core.Path.{◌≡◌, refl, sym, subst}
-use mathlib.Core.Bool.{true}
-use mathlib.Core.List.{List}
-use mathlib.Core.Logic.{◌⊎◌, inl, inr, ⊎_elim}
-use lib.ListN.{length, length-replicate}
-use Rattle.std.specs.Prelude.{Result, Ok, Err}
+use Rattle.std.proofs.Common.{ℕ, ◌*◌, ◌≤◌, arith, ◌≡◌, refl, sym, subst, true, List, ◌⊎◌, inl, inr, ⊎_elim, length, Result, Ok, Err}
+use lib.ListN.{length-replicate}
 use Rattle.logic.proofs.Tests.{by-test}
 use Rattle.words.specs.Bytes.{words_in}
 use Rattle.row.specs.Row.{row_length}
@@ -38,9 +32,9 @@ listed-number f r =
     let k : length blank ≡ row_length * listing_room = length-replicate {A = ℕ} (row_length * listing_room) 0 in
     scratch-number f blank blank r (omega arith)
 
-pub every-listing : EveryListing
+pub every_listing : EveryListing
 unfolding listing_of
-every-listing b = by-test (right_input b)
+every_listing b = by-test (right_input b)
     (λ t. by_answer t (answer_of (words_in b) blank blank) refl)
     (λ t. inr (record { number = reason_number WrongInput; place = 0; one_of = inr (inr refl); text = refused-input b t }))
   where

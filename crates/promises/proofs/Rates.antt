@@ -1,10 +1,5 @@
 -- Rates that stay in their range: by the law of joining, by the rows of an accepted file, and through their scan for what its tree gives. Assumes nothing.
-use Prim.Native.Nat.{ℕ}
-use mathlib.Core.Path.{◌≡◌, refl, sym, subst, ◌∙◌}
-use mathlib.Core.Bool.{true}
-use mathlib.Core.List.{List, [], ◌∷◌}
-use lib.ListN.{get_or}
-use Rattle.std.specs.Prelude.{Ok}
+use Rattle.std.proofs.Common.{ℕ, ◌≡◌, refl, sym, subst, ◌∙◌, true, List, [], ◌∷◌, get_or, Ok}
 use Rattle.logic.specs.Lists.{All}
 use Rattle.logic.proofs.Lists.{all_then}
 use Rattle.logic.proofs.Tests.{by-test}
@@ -67,8 +62,8 @@ actions f p a q =
     (λ t. no_value (sym q ∙ action-packet f p l e t)))
     (λ r e. no_value (sym q ∙ action-refused f p r e))
 
-pub rates-stay-in-range : RatesStayInRange
-rates-stay-in-range = record {
+pub rates_stay_in_range : RatesStayInRange
+rates_stay_in_range = record {
   joining = record {
     joined = λ o many codes a b p q.
         within (join o a b) (join-range o (many, λ i h. (allowed i (get_or o i 0) h).1 (codes i h)) a b (ranged a p) (ranged b q));

@@ -1,15 +1,6 @@
 -- Reservations that add up: each sentence from the laws of operators, by the fold of a list, or by computation. Assumes nothing.
-use Prim.Native.Nat.{ℕ, zero, suc, ◌+◌, ◌*◌, ◌≤◌, ◌<◌, min}
-use native.Mathlib.Omega.{arith}
-use mathlib.Core.Path.{◌≡◌, refl, sym, ap, ◌∙◌}
-use mathlib.Core.Bool.{true, ◌&&◌}
-use mathlib.Core.List.{List, [], ◌∷◌}
-use mathlib.Core.Logic.{inl, inr, ⊎_elim, ◌↔◌}
-use lib.Dec.{eqb, leb, ltb}
-use lib.ListN.{get_or, drop}
-use lib.Seq.{get_or-drop}
-use borrow.Author.Tests.{eqb-true, leb-true, lt-ltb, le-leb, eq-eqb}
-use Rattle.std.specs.Prelude.{Ok, Err}
+use Rattle.std.proofs.Common.{ℕ, zero, suc, ◌+◌, ◌*◌, ◌≤◌, ◌<◌, min, arith, ◌≡◌, refl, sym, ap, ◌∙◌, true, ◌&&◌, List, [], ◌∷◌, inl, inr, ⊎_elim, ◌↔◌, eqb, leb}
+use Rattle.std.proofs.Common.{ltb, get_or, drop, get_or-drop, eqb-true, leb-true, lt-ltb, le-leb, eq-eqb, Ok, Err}
 use Rattle.logic.specs.Lists.{All}
 use Rattle.logic.proofs.Tests.{by-test, by_le, and_left, and_right, and_both}
 use Rattle.theory.specs.declared.Row.{Row}
@@ -128,7 +119,8 @@ module _ (f : List ℕ) where
   kept l e i j p q =
       (allowed j _ q).0 (rw (← cell-word l.operators i j p q) (((accepted-exactly f l).0 e).otherwise.cells i j p q))
 
-  wrong-cell : (n i : ℕ) {at : ℕ} → n ≡ get_or f 0 0 → i < n → RecordDue (1 + 9 * i) (record_at f 0 (Operators First) n i) (Operators First) WrongCell at → WrongCode f at
+  wrong-cell : (n i : ℕ) {at : ℕ} → n ≡ get_or f 0 0 → i < n → RecordDue (1 + 9 * i) (record_at f 0 (Operators First) n i) (Operators First) WrongCell at
+      → WrongCode f at
   wrong-cell n i c l (cell {e} {j} v) = record {
     operator = i;
     named = omega (arith, c, l);
@@ -171,8 +163,8 @@ every : (o : List ℕ) → law_search o ≡ along (commutes o) (product shown sh
 unfolding law_search first_pair first_triple pairs triples
 every o = refl
 
-pub reservations-add-up : ReservationsAddUp
-reservations-add-up = record {
+pub reservations_add_up : ReservationsAddUp
+reservations_add_up = record {
   between = record { teams = teams; atoms = atoms };
   sum = record { gives = gives; commutative = commutative; associative = associative };
   codes = record { allowed = allowed; kept = kept; wrong = wrong; ninth = ninth };

@@ -1,9 +1,5 @@
 -- The scan of the compiled table is the tree's action: the rows that stand there are right, and their scan is what the tree gives. Assumes nothing.
-use Prim.Native.Nat.{ℕ}
-use mathlib.Core.Path.{◌≡◌, sym, ap, ◌∙◌}
-use mathlib.Core.Bool.{true}
-use mathlib.Core.List.{List}
-use Rattle.std.specs.Prelude.{Result, Ok}
+use Rattle.std.proofs.Common.{ℕ, ◌≡◌, sym, ap, ◌∙◌, true, List, Result, Ok}
 use Rattle.theory.specs.Rows.{scan}
 use Rattle.theory.specs.declared.Row.{Row}
 use Rattle.theory.specs.Theorems.{Laws}

@@ -1,10 +1,5 @@
 -- The numbering is right and none is smaller, from the numbering's theorems; and what a switch does by it.
-use Prim.Native.Nat.{ℕ, suc, ◌<◌}
-use native.Mathlib.Omega.{arith}
-use mathlib.Core.Path.{◌≡◌, sym, ap, ◌∙◌}
-use mathlib.Core.List.{List}
-use lib.ListN.{length, get_or, take}
-use lib.Seq.{get_or-take}
+use Rattle.std.proofs.Common.{ℕ, suc, ◌<◌, arith, ◌≡◌, sym, ap, ◌∙◌, List, length, get_or, take, get_or-take}
 use Rattle.flow.specs.Packet.{packet_of}
 use Rattle.table.specs.Table.{row_count, RightTable}
 use Rattle.table.specs.Scan.{scan_action}
@@ -27,8 +22,8 @@ module _ (ws ps cs : List ℕ) (r : Ready ws ps cs) where
       let g : get_or (take (count ws ps cs) (chain_after ws ps cs)) k 0 < length (levels_of ws) = c.0.rows k (omega (arith, c.1)) in
       omega (arith, g, levels-many ws, get_or-take (count ws ps cs) (chain_after ws ps cs) k 0 h)
 
-pub smallest-numbering : SmallestNumbering
-smallest-numbering ws ps cs r = record {
+pub smallest_numbering : SmallestNumbering
+smallest_numbering ws ps cs r = record {
   count = count ws ps cs;
   answer = answer-counts ws ps cs r;
   earlier_higher = earlier-higher ws ps cs r;
@@ -47,8 +42,8 @@ smallest-numbering ws ps cs r = record {
 }
 
 -- the compiled rows are a right table, so the switch does what the scan does, and the scan what the tree does
-pub switch-obeys-tree : SwitchObeysTree
-switch-obeys-tree f t s ps cs p n i q h k right o =
+pub switch_obeys_tree : SwitchObeysTree
+switch_obeys_tree f t s ps cs p n i q h k right o =
     let ws : List ℕ = table_rows n (table_after f t s) in
     let c : RightTable ws × (n ≡ row_count ws) = (check-exactly ws n).0 (table-right f t s n q) in
     let r : Ready ws ps cs = record { right = c.0; priorities = omega (arith, c.1); chain = omega (arith, c.1) } in

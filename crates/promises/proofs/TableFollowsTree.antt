@@ -1,14 +1,7 @@
 -- The compiled table does what the tree says, from the theorems on reading, the tree's action and the compile.
-use Prim.Native.Nat.{ℕ, ◌+◌, ◌≤◌, ◌<◌}
-use native.Mathlib.Omega.{arith}
-use mathlib.Core.Path.{◌≡◌, refl, sym, ap, subst, ◌∙◌}
-use mathlib.Core.Bool.{true, or-true}
-use mathlib.Core.List.{List, []}
-use mathlib.Core.Logic.{◌⊎◌, inl, inr, ⊎_elim}
-use lib.Dec.{eqb}
-use lib.ListN.{length, get_or, drop}
-use borrow.Author.Tests.{eqb-true, eq-eqb}
-use Rattle.std.specs.Prelude.{Err}
+use Rattle.std.proofs.Common.{ℕ, ◌+◌, ◌≤◌, ◌<◌, arith, ◌≡◌, refl, sym, ap, subst, ◌∙◌, true, List, [], ◌⊎◌, inl, inr, ⊎_elim, eqb, length, get_or, drop}
+use Rattle.std.proofs.Common.{eqb-true, eq-eqb, Err}
+use mathlib.Core.Bool.{or-true}
 use Rattle.logic.proofs.Tests.{by_le, or_split}
 use Rattle.words.proofs.RecordLaws.{length-records}
 use Rattle.action.specs.Laws.{Shows}
@@ -118,8 +111,8 @@ not-laws f a b c w k =
     not-kept (operator_at os w.operator) w.breaks
     (⊎_elim (λ e. subst (λ i. KeepsLaws (operator_at os i)) (sym e) g.0) (λ e. subst (λ i. KeepsLaws (operator_at os i)) (sym e) g.1) w.named)
 
-pub table-follows-tree : TableFollowsTree
-table-follows-tree = record {
+pub table_follows_tree : TableFollowsTree
+table_follows_tree = record {
   accepted = accepted-exactly;
   eval = action-eval;
   atoms = λ f l e. ap all_atoms (accepted-tree f l e).lists ∙ accepted-atoms f l e;

@@ -18,11 +18,13 @@ ghost use Rattle.promises.specs.Trees.{TreeCases};
 ghost use Rattle.promises.specs.Listings.{ListingCases};
 
 /// Every input gets one fixed answer or one numbered refusal.
+#[tactic(auto, using(crate::proofs::FixedAnswers::fixed_answers))]
 pub fn fixed_answers()
     ensures { FixedAnswers }
 {}
 
 /// The compiled table does what the tree says.
+#[tactic(auto, using(crate::proofs::TableFollowsTree::table_follows_tree))]
 pub fn table_follows_tree()
     ensures { TableFollowsTree }
 {}
@@ -33,41 +35,49 @@ pub fn smallest_numbering()
 {}
 
 /// A switch does what the tree says.
+#[tactic(auto, using(crate::proofs::SmallestNumbering::switch_obeys_tree))]
 pub fn switch_obeys_tree()
     ensures { SwitchObeysTree }
 {}
 
 /// The worked cases.
+#[tactic(auto, using(crate::proofs::Cases::hold), unfolding(crate::proofs::Cases::computed))]
 pub fn worked_cases()
     ensures { WorkedCases }
 {}
 
 /// Hidden rows out.
+#[tactic(auto, using(crate::proofs::HiddenLaws::hidden_rows))]
 pub fn hidden_rows()
     ensures { HiddenRows }
 {}
 
 /// Ports only where there are ports.
+#[tactic(auto, using(crate::proofs::Ports::ports_only))]
 pub fn ports_only()
     ensures { PortsOnly }
 {}
 
 /// The prefix test by bit counts.
+#[tactic(auto, using(crate::proofs::Prefixes::prefix_test))]
 pub fn prefix_test()
     ensures { PrefixTest }
 {}
 
 /// Reservations that add up.
+#[tactic(auto, using(crate::proofs::Reservations::reservations_add_up))]
 pub fn reservations_add_up()
     ensures { ReservationsAddUp }
 {}
 
 /// Rates that stay in their range.
+#[tactic(auto, using(crate::proofs::Rates::rates_stay_in_range))]
 pub fn rates_stay_in_range()
     ensures { RatesStayInRange }
 {}
 
 /// Every input has its listing.
+#[tactic(auto, using(crate::proofs::Prints::every_listing))]
 pub fn every_listing()
     ensures { EveryListing }
 {}
@@ -83,6 +93,7 @@ pub fn premises()
 {}
 
 /// The numbers and words of the format.
+#[tactic(auto, unfolding(crate::proofs::Cases::computed))]
 pub fn numbers()
     ensures { Numbers }
 {}
@@ -93,21 +104,25 @@ pub fn constants()
 {}
 
 /// What reading answers of files.
+#[tactic(auto, using(crate::proofs::Cases::hold), unfolding(crate::proofs::Cases::computed))]
 pub fn file_cases()
     ensures { FileCases }
 {}
 
 /// What is answered for each field of a packet, a match and an action.
+#[tactic(auto, using(crate::proofs::Cases::hold), unfolding(crate::proofs::Cases::computed))]
 pub fn field_cases()
     ensures { FieldCases }
 {}
 
 /// What is answered of trees, of tables and of buffers.
+#[tactic(auto, using(crate::proofs::Cases::hold), unfolding(crate::proofs::Cases::computed))]
 pub fn tree_cases()
     ensures { TreeCases }
 {}
 
 /// What is listed.
+#[tactic(auto, using(crate::proofs::Cases::hold), unfolding(crate::proofs::Cases::computed))]
 pub fn listing_cases()
     ensures { ListingCases }
 {}

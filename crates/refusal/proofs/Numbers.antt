@@ -1,6 +1,5 @@
 -- Which numbers are given: one for each reason. Assumes nothing.
-use native.Mathlib.Omega.{arith}
-use mathlib.Core.Logic.{inl, inr}
+use Rattle.std.proofs.Common.{arith, inl, inr}
 use Rattle.refusal.specs.Theorems.{NumbersGiven}
 use Rattle.refusal.specs.declared.Reason.TheVariants.{ShortFile, WrongCount, WrongCell, WrongMatch, WrongAction, WrongNode, ExtraWords, NoTree}
 use Rattle.refusal.specs.declared.Reason.TheVariants.{WrongSum, LawBroken, WrongPacket, NoRoom, NoScratch, WrongTable, WrongRow, ShortBuffer, WrongInput}

@@ -1,11 +1,5 @@
 -- A row against its words: written, then read, and read, then written. Assumes nothing.
-use Prim.Native.Nat.{ℕ, ◌*◌}
-use native.Mathlib.Omega.{arith}
-use mathlib.Core.Path.{◌≡◌, sym, ap, ap₂, ◌∙◌}
-use mathlib.Core.Bool.{true}
-use mathlib.Core.List.{List, [], ◌∷◌, ◌++◌}
-use lib.ListN.{get_or, length, drop, drop_of_length-le}
-use lib.Seq.{drop-cons}
+use Rattle.std.proofs.Common.{ℕ, ◌*◌, arith, ◌≡◌, sym, ap, ap₂, ◌∙◌, true, List, [], ◌∷◌, ◌++◌, get_or, length, drop, drop_of_length-le, drop-cons}
 use Rattle.words.proofs.RecordLaws.{length-flat}
 use Rattle.theory.specs.declared.Row.{Row}
 use Rattle.flow.specs.Match.{match_length, match_of, match_words}

@@ -80,9 +80,8 @@ pub fn row_action(row: &[u32]) -> Action
 pub fn words_of_row(row: Row) -> RowWords
     ensures { result ≡ row_words row }
 {
-    // Composed of the match's words and the action's, the compile took up to 1.2 times as long; as it is, that of 12
-    // unconstrained atoms takes 0.9 to 1.26 of Rust's time, depending on the machine, and the bar is 1.1. No From,
-    // since neither type is this crate's.
+    // Word by word: composed of the match's words and the action's, it makes the compile up to 1.2 times slower. No
+    // From, since neither type is this crate's.
     let m = row.matching;
     let kind = row.action.kind();
     let rate = row.action.rate();

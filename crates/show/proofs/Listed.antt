@@ -1,8 +1,5 @@
 -- The lines of rows, and a table's text, answer by answer of the numbering. Assumes nothing.
-use Prim.Native.Nat.{ℕ}
-use mathlib.Core.Path.{◌≡◌, refl, sym, ap, ap₂, ◌∙◌}
-use mathlib.Core.List.{List, [], ◌∷◌, ◌++◌}
-use lib.ListN.{length, take}
+use Rattle.std.proofs.Common.{ℕ, ◌≡◌, refl, sym, ap, ap₂, ◌∙◌, List, [], ◌∷◌, ◌++◌, length, take, Result, Ok, Err}
 use Rattle.words.proofs.Laid.{take-laid}
 use Rattle.theory.specs.declared.Row.{Row}
 use Rattle.flow.specs.declared.Match.{Match}
@@ -11,7 +8,6 @@ use Rattle.row.specs.Row.{rows_in}
 use Rattle.table.specs.Table.{row_count}
 use Rattle.table.proofs.Tables.{length-rows}
 use Rattle.priority.specs.Numbering.{priorities_of, number_of, Answered, Ready}
-use Rattle.std.specs.Prelude.{Result, Ok, Err}
 use Rattle.refusal.specs.Refusals.{refusal_number}
 use Rattle.refusal.specs.declared.Refusal.{Refusal}
 use Rattle.priority.proofs.After.{number-ready, priorities-left}
@@ -20,13 +16,13 @@ use Rattle.show.specs.Text.{head, line, refusal}
 use Rattle.show.specs.Sheet.{listing_room, lines, numbered, table_text}
 
 -- no rows have no lines
-pub no-rows : (ps : List ℕ) → lines ps [] ≡ []
-no-rows [] = refl
-no-rows (p ∷ ps) = refl
+pub no_rows : (ps : List ℕ) → lines ps [] ≡ []
+no_rows [] = refl
+no_rows (p ∷ ps) = refl
 
 -- as many priorities as rows are shown
 lines-take : (ps : List ℕ) (rs : List (Row Match Action)) → lines (take (length rs) ps) rs ≡ lines ps rs
-lines-take ps [] = sym (no-rows ps)
+lines-take ps [] = sym (no_rows ps)
 lines-take [] (r ∷ rs) = refl
 lines-take (p ∷ ps) (r ∷ rs) = ap (λ l. line p r ++ l) (lines-take ps rs)
 

@@ -140,10 +140,10 @@ impl Text for Prefix {
 
 // A number with no zero before it, and the mark behind it.
 #[tactic(auto, unfolding(crate::specs::Text::number))]
-fn put_number<S: Sink>(n: usize, mark: u8, sink: &mut S)
-    ensures { S.gives sink.old (number n mark) sink.new }
+fn put_number<S: Sink>(value: usize, mark: u8, sink: &mut S)
+    ensures { S.gives sink.old (number value mark) sink.new }
 {
     let mut buffer = Buffer::new();
-    sink.put(buffer.format(n).as_bytes());
+    sink.put(buffer.format(value).as_bytes());
     sink.put(&[mark]);
 }

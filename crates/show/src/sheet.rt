@@ -29,6 +29,7 @@ pub fn list_table<S: Sink>(table: &[u32], sink: &mut S)
 }
 
 // A line for each row, with its priority; there may be more priorities than rows.
+#[tactic(auto, using(std::proofs::lemmas::List::nil_from_length, crate::proofs::Listed::no_rows))]
 fn list_rows<S: Sink>(priorities: &[u32], table: &[u32], sink: &mut S)
     ensures { S.gives sink.old (lines priorities.now (rows_in table.now)) sink.new }
 {

@@ -1,7 +1,6 @@
 -- What a caller knows of an output into which bytes were put: what waits, and what its writer holds.
-use Rattle.std.proofs.Common.{◌≡◌, List, [], ◌++◌, ℕ, ◌≢◌, IsNone, IfErr, OnOk, OnErr, None, Some, Ok, Err, Result, is_some, sym, ap, subst, ◌∙◌, arith, append_assoc, append-nil, length, take, drop, take-append-drop}
-use Rattle.std.proofs.lemmas.List.{length-drop}
-use Rattle.std.specs.declared.option.Option.{Option}
+use Rattle.std.proofs.Common.{◌≡◌, List, [], ◌++◌, ℕ, ◌≢◌, IsNone, IfErr, OnOk, OnErr, None, Some, Ok, Err, Result, is_some, sym, ap, subst, ◌∙◌, arith}
+use Rattle.std.proofs.Common.{append_assoc, append-nil, length, take, drop, take-append-drop, length-drop, Option}
 use Rattle.std.specs.declared.io.Error.{Error}
 use Rattle.std.specs.declared.io.ErrorKind.TheVariants.{Interrupted}
 use Rattle.std.specs.IoError.{error_kind}

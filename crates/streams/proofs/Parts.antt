@@ -2,6 +2,7 @@
 use Rattle.std.proofs.Common.{◌≡◌, sym, ap, ◌∙◌, arith, List, ◌++◌, ℕ, ◌+◌, ◌-◌, ◌≤◌, length, take, drop}
 use Rattle.std.proofs.Math.Seq.{take-add, take-append-add}
 use Rattle.std.proofs.lemmas.List.{length-drop, length-take-le, take_all, take-append-le}
+use Rattle.std.proofs.KnownBytes.{Consumes-trans, Consumes-kept, Appends-trans}
 use borrow.Rule.Slice.PartMut.{put_mid, post_of}
 
 -- where it stands
@@ -17,3 +18,8 @@ pub part_written : (a n : ℕ) (xs : List ℕ) → take (a + n) xs ≡ take a xs
 part_written a n xs =
     let e : length (drop a xs) ≤ length xs - a = rw (length-drop a xs) (omega arith) in
     take-add a n xs ∙ ap (λ l. take a xs ++ take n l) (sym (take_all (length xs - a) (drop a xs) e))
+
+-- one part more
+pub ruleset reads = (part_read, Consumes-trans, Consumes-kept)
+
+pub ruleset writes = (part_written, Appends-trans)

@@ -27,8 +27,8 @@ impl Sink for Counter {
 }
 
 /// The low 32 bits of a number.
-pub fn low(n: usize) -> u32
-    ensures { result ≡ low n }
+pub fn low(number: usize) -> u32
+    ensures { result ≡ low number }
 {
-    (n & u32::MAX as usize) as u32
+    (number & u32::MAX as usize) as u32
 }

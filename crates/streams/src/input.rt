@@ -70,6 +70,7 @@ impl<R: Read> Input<R> {
 }
 
 // Reads until a buffer is full or the input ends. What was read stands at the start of the buffer.
+#[tactic(auto, using(crate::proofs::Parts::reads))]
 fn read_full<R: Read>(reader: &mut R, buf: &mut [u8]) -> Result<usize, Error>
     ensures within { IfOk result (λ count. count ≤ length buf.new) }
     ensures bytes { IfOk result (λ count.

@@ -93,6 +93,7 @@ impl<W: Write> Sink for Output<W> {
 }
 
 // Writes bytes until all are written or a write fails.
+#[tactic(auto, using(crate::proofs::Parts::writes))]
 fn write_full<W: Write>(writer: &mut W, bytes: &[u8]) -> Result<(), Error>
     ensures whole { OnOk result (Appends (W.contents writer.old) (W.contents writer.new) bytes.now) }
     ensures part { OnErr result (AppendsPart (W.contents writer.old) (W.contents writer.new) bytes.now) }

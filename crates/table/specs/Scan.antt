@@ -1,6 +1,6 @@
 -- The scan of a table for a packet, both as words. See docs/FORMAT.md, "The scan".
 --
---   found k N p               the scan of the rows N, where k rows were tried before them
+--   found k N packet          the scan of the rows N, where k rows were tried before them
 --   where_right c s           the answer s, where the table is right
 --   scan_of ws packet         the scan's answer
 --   scan_action, scan_tried   the action of an answer, and how many rows were tried; don't care and 0 where it is a
@@ -23,7 +23,7 @@ use Rattle.row.specs.Row.{rows_in}
 
 -- the scan of rows before which k rows were tried
 abbrev pub found : ℕ → List (Row Match Action) → Packet → Found
-found k N p = record { action = scan meets DontCare N p; tried = k + tried meets N p }
+found k N packet = record { action = scan meets DontCare N packet; tried = k + tried meets N packet }
 
 -- what is found where the table is right, else its refusal
 abbrev pub where_right : Result ℕ Refusal → Found → Result Found Refusal

@@ -73,12 +73,12 @@ pub fn check(table: &[u32]) -> Result<usize, Refusal>
 }
 
 /// The first matching row's action and its place plus 1; don't care and the row count if none matches.
-pub fn first_match(table: &[u32], p: Packet) -> Found
-    ensures { result ≡ found 0 (rows_in table.now) p }
+pub fn first_match(table: &[u32], packet: Packet) -> Found
+    ensures { result ≡ found 0 (rows_in table.now) packet }
 {
     // None of the rows before row i matches.
     for (i, row) in Rows::of(table).enumerate() {
-        if row.matching.meets(p) {
+        if row.matching.meets(packet) {
             return Found {
                 action: row.action,
                 tried: i + 1,
@@ -91,11 +91,11 @@ pub fn first_match(table: &[u32], p: Packet) -> Found
     }
 }
 
-/// The match of row i; past the last row, that of no words.
-pub fn match_at(table: &[u32], i: usize) -> Match
-    ensures { result ≡ (slice_index_or (rows_in table.now) i past).matching }
+/// The match of the row at a place; past the last row, that of no words.
+pub fn match_at(table: &[u32], place: usize) -> Match
+    ensures { result ≡ (slice_index_or (rows_in table.now) place past).matching }
 {
-    match rows(table).get(i) {
+    match rows(table).get(place) {
         Some(row) => Match::read(row),
         None => Match::read(&[]),
     }

@@ -1,12 +1,7 @@
 -- The listing of an input, by the rows that the compile leaves, and by those of them that stay. Assumes nothing.
-use Prim.Native.Nat.{ℕ, ◌*◌, ◌/◌, ◌≤◌}
-use native.Mathlib.Omega.{arith}
-use mathlib.Core.Path.{◌≡◌, refl, sym, ap, ap₂, ◌∙◌}
-use mathlib.Core.Bool.{true, and-eq-true_iff}
-use mathlib.Core.List.{List, ◌++◌}
-use lib.ListN.{length, take, length-append}
-use borrow.Author.Tests.{leb-true}
-use Rattle.std.specs.Prelude.{Result, Ok, Err, IfOk}
+use Rattle.std.proofs.Common.{ℕ, ◌*◌, ◌/◌, ◌≤◌, arith, ◌≡◌, refl, sym, ap, ap₂, ◌∙◌, true, List, ◌++◌, length, take, length-append, leb-true, Result, Ok, Err}
+use Rattle.std.proofs.Common.{IfOk}
+use mathlib.Core.Bool.{and-eq-true_iff}
 use Rattle.std.proofs.lemmas.List.{take-append-le}
 use Rattle.words.specs.Words.{copied}
 use Rattle.words.specs.Bytes.{word_bytes, words_in}

@@ -1,14 +1,9 @@
 -- What is listed, by what the compile answers in blank buffers: its rows pass the table's check, so do those of them that stay, and these fit the
 -- numbering's buffers, so neither the pass nor the numbering refuses anything. Assumes nothing.
-use Prim.Native.Nat.{ℕ, ◌*◌, ◌≤◌, ◌<◌}
-use native.Mathlib.Omega.{arith}
-use mathlib.Core.Path.{◌≡◌, sym, ap, ◌∙◌}
-use mathlib.Core.Bool.{false, and-false}
-use mathlib.Core.List.{List}
-use lib.ListN.{length, take, length-replicate}
-use lib.Seq.{take_all, length-take-le}
-use borrow.Author.Tests.{le-leb, lt-leb}
-use Rattle.std.specs.Prelude.{Ok}
+use Rattle.std.proofs.Common.{ℕ, ◌*◌, ◌≤◌, ◌<◌, arith, ◌≡◌, sym, ap, ◌∙◌, false, List, length, take, take_all, length-take-le, le-leb, Ok}
+use mathlib.Core.Bool.{and-false}
+use lib.ListN.{length-replicate}
+use borrow.Author.Tests.{lt-leb}
 use Rattle.logic.proofs.Tests.{by_le}
 use Rattle.theory.specs.Number.{level_count}
 use Rattle.row.specs.Row.{row_length, table_rows}

@@ -1,9 +1,5 @@
 -- The rows that the compile leaves pass the table's check: each is right, and they are not too many. Assumes nothing.
-use Prim.Native.Nat.{◌≤◌}
-use native.Mathlib.Omega.{arith}
-use mathlib.Core.Path.{sym, ap, subst, ◌∙◌}
-use mathlib.Core.List.{List}
-use lib.ListN.{length}
+use Rattle.std.proofs.Common.{◌≤◌, arith, sym, ap, subst, ◌∙◌, List, length}
 use Rattle.theory.specs.declared.Row.{Row}
 use Rattle.flow.specs.declared.Match.{Match}
 use Rattle.action.specs.declared.Action.{Action}

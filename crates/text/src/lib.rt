@@ -58,6 +58,7 @@ fn compiled_rows(input: &[u8], table: &mut [u32]) -> Result<usize, Refusal>
 }
 
 // Whether an input is whole words, and not longer than the longest file.
+#[tactic(auto, unfolding(crate::specs::Listing::right_input))]
 fn right_input(input: &[u8]) -> bool
     ensures { result ≡ right_input input.now }
 {

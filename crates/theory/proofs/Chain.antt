@@ -1,12 +1,7 @@
 -- The chain is right: by induction over the level, each step back finds a row since a level above 0 comes from one level lower.
-use Prim.Native.Nat.{ℕ, zero, suc, ◌≤◌, ◌<◌}
-use native.Mathlib.Omega.{arith}
-use mathlib.Core.Path.{◌≡◌, refl, sym, ◌∙◌}
-use mathlib.Core.Bool.{Bool}
-use mathlib.Core.List.{List, [], ◌∷◌, ◌++◌}
-use lib.ListN.{get_or, length, length-append, get_or-append}
+use Rattle.std.proofs.Common.{ℕ, zero, suc, ◌≤◌, ◌<◌, arith, ◌≡◌, refl, sym, ◌∙◌, Bool, List, [], ◌∷◌, ◌++◌, get_or, length, length-append, eqb-true}
+use lib.ListN.{get_or-append}
 use lib.Seq.{get_or_at}
-use borrow.Author.Tests.{eqb-true}
 use Rattle.logic.proofs.Tests.{by_le, and_left, and_right}
 use Rattle.theory.specs.Number.{FirstPlace, levels, level_count, at_level, first_of_level, overlaps_at, step_back, chain_to, chain_under, Chained}
 use Rattle.theory.specs.Theorems.{ChainHolds}
@@ -63,7 +58,8 @@ module _ (over : ℕ → ℕ → Bool) (n : ℕ) where
       chained-snoc over ls (chain_to over ls l k) l k i (chained-to l k (omega (arith, f.within)) low) f
 
   -- The highest level has a first row.
-  top-first : (l : ℕ) → level_count (levels over n) ≡ suc l → FirstPlace (at_level (levels over n) l) (length (levels over n)) (first_of_level (levels over n) l)
+  top-first : (l : ℕ) → level_count (levels over n) ≡ suc l
+      → FirstPlace (at_level (levels over n) l) (length (levels over n)) (first_of_level (levels over n) l)
   top-first l e = seek-first (at_level (levels over n) l) (length (levels over n)) (level-highest (levels over n) l e)
 
   chained-under : (l : ℕ) → level_count (levels over n) ≡ l → Chained over (levels over n) (chain_under over (levels over n) l)

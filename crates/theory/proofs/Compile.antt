@@ -1,7 +1,5 @@
 -- Theorem 1: by induction over trees and forests, Lemma 1 at every join. No law of an operator is used but that don't care is its identity.
-use mathlib.Core.Path.{◌≡◌, refl}
-use mathlib.Core.Bool.{Bool, cond}
-use mathlib.Core.List.{List, [], ◌∷◌}
+use Rattle.std.proofs.Common.{◌≡◌, refl, Bool, cond, List, [], ◌∷◌}
 use Rattle.logic.proofs.Tests.{by-test}
 use Rattle.theory.specs.declared.Row.{Row}
 use Rattle.theory.specs.Rows.{scan, kept}

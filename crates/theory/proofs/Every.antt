@@ -1,7 +1,5 @@
 -- What every compiled row has: each join keeps the rows of both tables and adds common rows, of which the empty are dropped. Assumes nothing.
-use mathlib.Core.Path.{◌≡◌}
-use mathlib.Core.Bool.{Bool, false}
-use mathlib.Core.List.{List, [], ◌∷◌, ◌++◌}
+use Rattle.std.proofs.Common.{◌≡◌, Bool, false, List, [], ◌∷◌, ◌++◌}
 use Rattle.logic.specs.Lists.{All}
 use Rattle.logic.proofs.Lists.{all_append, all_split}
 use Rattle.logic.proofs.Tests.{by-test}

@@ -1,12 +1,9 @@
 -- Our numbering has L distinct priorities and no right one has fewer: along the chain every right numbering falls, and a pigeonhole counts both ways.
-use Prim.Native.Nat.{ℕ, zero, suc, ◌-◌, ◌≤◌, ◌<◌}
-use native.Mathlib.Omega.{arith}
-use mathlib.Core.Path.{◌≡◌, refl, sym, ap, ◌∙◌}
-use mathlib.Core.Bool.{Bool, true, false, cond, false≢true}
-use mathlib.Core.List.{List, [], ◌∷◌}
-use lib.ListN.{get_or, length, length-map}
-use lib.Dec.{eqb}
-use borrow.Author.Tests.{eqb-true, eqb-false, eq-eqb, ne_eqb}
+use Rattle.std.proofs.Common.{ℕ, zero, suc, ◌-◌, ◌≤◌, ◌<◌, arith, ◌≡◌, refl, sym, ap, ◌∙◌, Bool, true, false, cond, List, [], ◌∷◌, get_or, length, eqb}
+use Rattle.std.proofs.Common.{eqb-true, eq-eqb, ne_eqb}
+use mathlib.Core.Bool.{false≢true}
+use lib.ListN.{length-map}
+use borrow.Author.Tests.{eqb-false}
 use Rattle.logic.proofs.Tests.{by-test, by_le}
 use Rattle.theory.specs.Number.{levels, level_count, priorities, chain, Chained, has, distinct}
 use Rattle.theory.specs.Theorems.{PrioritiesCount, FewestPriorities}

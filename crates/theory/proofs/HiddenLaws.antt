@@ -1,11 +1,9 @@
 -- Hidden rows: by induction over the rows, with those before them at hand; a row inside one that goes lies inside one that stays. Assumes nothing.
-use Prim.Native.Nat.{ℕ, zero, suc, ◌≤◌, ◌<◌}
-use native.Mathlib.Omega.{arith}
-use mathlib.Core.Path.{◌≡◌, refl, sym, ap, ◌∙◌}
-use mathlib.Core.Bool.{Bool, true, false, cond, not, ◌||◌, false≢true, or-true, or-false, or_assoc}
-use mathlib.Core.List.{List, [], ◌∷◌, ◌++◌, map, map-append, append_assoc, append-nil}
-use lib.ListN.{get_or, length, take}
-use lib.Seq.{take-suc, take-length}
+use Rattle.std.proofs.Common.{ℕ, zero, suc, ◌≤◌, ◌<◌, arith, ◌≡◌, refl, sym, ap, ◌∙◌, Bool, true, false, cond, not, ◌||◌, List, [], ◌∷◌, ◌++◌, map}
+use Rattle.std.proofs.Common.{append_assoc, append-nil, get_or, length, take, take-suc}
+use mathlib.Core.Bool.{false≢true, or-true, or-false, or_assoc}
+use mathlib.Core.List.{map-append}
+use lib.Seq.{take-length}
 use Rattle.logic.proofs.Tests.{by-test}
 use Rattle.logic.specs.Lists.{All}
 use Rattle.theory.specs.declared.Row.{Row}
@@ -147,7 +145,8 @@ module _ {M P A : Type 0} (meets : M → P → Bool) (dont_care : A) (inside : M
       (λ k. absurd (false≢true (sym e ∙ meets-inside m r.matching p (rw t at o) k)))
       (λ k. k))
 
-  scan-after : Enclosing meets inside → (E N : List (Row M A)) (p : P) → Unmet E p → scan meets dont_care (staying_after inside E N) p ≡ scan meets dont_care N p
+  scan-after : Enclosing meets inside → (E N : List (Row M A)) (p : P) → Unmet E p
+      → scan meets dont_care (staying_after inside E N) p ≡ scan meets dont_care N p
   scan-after meets-inside E [] p u = refl
   scan-after meets-inside E (r ∷ N) p u =
       by-test (meets r.matching p)

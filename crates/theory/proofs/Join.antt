@@ -1,11 +1,6 @@
 -- Lemma 1 and the size of a join: the first match of a join is that of both tables, or else of N, or else of N'; then four cases.
-use Prim.Native.Nat.{◌*◌, ◌≤◌}
-use native.Mathlib.Omega.{arith}
-use mathlib.Core.Path.{◌≡◌, refl, sym}
-use mathlib.Core.Bool.{Bool, true, false, cond, ◌&&◌}
-use mathlib.Core.List.{List, [], ◌∷◌, ◌++◌}
+use Rattle.std.proofs.Common.{◌*◌, ◌≤◌, arith, ◌≡◌, refl, sym, Bool, true, false, cond, ◌&&◌, List, [], ◌∷◌, ◌++◌, length, length-append}
 use mathlib.Core.Option.{Option, none, some, get_or}
-use lib.ListN.{length, length-append}
 use Rattle.logic.proofs.Tests.{by-test}
 use Rattle.theory.specs.declared.Row.{Row}
 use Rattle.theory.specs.Rows.{scan, kept, common_row, common_with, common_rows, join}

@@ -1,12 +1,8 @@
 -- Levels and priorities: each level is by the rule over the levels before it, and a row's level is above that of each earlier row that it overlaps.
-use Prim.Native.Nat.{ℕ, zero, suc, ◌-◌, ◌≤◌, ◌<◌, max}
-use native.Mathlib.Omega.{arith}
-use mathlib.Core.Path.{◌≡◌, refl, sym, ◌∙◌}
-use mathlib.Core.Bool.{Bool, true}
-use mathlib.Core.List.{List, [], ◌∷◌, ◌++◌, map}
-use lib.ListN.{get_or, length, length-append, get_or-append}
+use Rattle.std.proofs.Common.{ℕ, zero, suc, ◌-◌, ◌≤◌, ◌<◌, max, arith, ◌≡◌, refl, sym, ◌∙◌, Bool, true, List, [], ◌∷◌, ◌++◌, map, get_or, length, length-append}
+use Rattle.std.proofs.Common.{eqb}
+use lib.ListN.{get_or-append}
 use lib.Seq.{get_or_at}
-use lib.Dec.{eqb}
 use borrow.Author.Tests.{eqb-false}
 use Rattle.logic.proofs.Tests.{by-test, by_le}
 use Rattle.theory.specs.Number.{above, levels, level_count, priorities, at_level, overlaps_at}

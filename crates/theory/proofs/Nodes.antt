@@ -1,8 +1,5 @@
 -- Nodes in file order and trees say the same: what a node takes and what it leaves, put together again, is what stood there.
-use Prim.Native.Nat.{ℕ, zero, suc, ◌-◌, ◌≤◌}
-use native.Mathlib.Omega.{arith}
-use mathlib.Core.Path.{◌≡◌, refl, ap}
-use mathlib.Core.List.{List, [], ◌∷◌, ◌++◌, append_assoc, append-nil}
+use Rattle.std.proofs.Common.{ℕ, zero, suc, ◌-◌, ◌≤◌, arith, ◌≡◌, refl, ap, List, [], ◌∷◌, ◌++◌, append_assoc, append-nil}
 use Rattle.theory.specs.Tree.{Tree, Forest, node, bare, ◌▸◌}
 use Rattle.theory.specs.Nodes.{Listed, take_trees, drop_trees, count_trees, plant, list_tree, list_trees}
 use Rattle.theory.specs.Theorems.{ListPlant, PlantList}

@@ -1,10 +1,5 @@
 -- The scan by places: induction over the rows.
-use Prim.Native.Nat.{zero, suc}
-use native.Mathlib.Omega.{arith}
-use mathlib.Core.Path.{◌≡◌, refl, ap}
-use mathlib.Core.Bool.{Bool, false}
-use mathlib.Core.List.{[], ◌∷◌}
-use lib.ListN.{length}
+use Rattle.std.proofs.Common.{zero, suc, arith, ◌≡◌, refl, ap, Bool, false, [], ◌∷◌, length}
 use Rattle.theory.specs.Rows.{matches_at}
 use Rattle.theory.specs.Number.{FirstPlace}
 use Rattle.theory.specs.Theorems.{ScanPlace, ScanNone}

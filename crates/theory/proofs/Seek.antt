@@ -1,8 +1,5 @@
 -- What the search for a place finds: where some place passes the test, the first that does; by induction over the places left.
-use Prim.Native.Nat.{ℕ, zero, suc, ◌+◌, ◌≤◌, ◌<◌}
-use native.Mathlib.Omega.{arith}
-use mathlib.Core.Path.{◌≡◌}
-use mathlib.Core.Bool.{Bool, true, false}
+use Rattle.std.proofs.Common.{ℕ, zero, suc, ◌+◌, ◌≤◌, ◌<◌, arith, ◌≡◌, Bool, true, false}
 use Rattle.logic.proofs.Tests.{by-test, by_le}
 use Rattle.theory.specs.Number.{FirstPlace, seek}
 

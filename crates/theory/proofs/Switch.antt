@@ -1,10 +1,6 @@
 -- A switch under a right numbering: a matching row before the one obeyed would overlap it and have a higher number, so the one obeyed is the first.
-use Prim.Native.Nat.{ℕ, ◌<◌}
-use native.Mathlib.Omega.{arith}
-use mathlib.Core.Path.{◌≡◌, sym, ◌∙◌}
-use mathlib.Core.Bool.{Bool, true, false≢true}
-use mathlib.Core.List.{List}
-use lib.ListN.{get_or, length}
+use Rattle.std.proofs.Common.{ℕ, ◌<◌, arith, ◌≡◌, sym, ◌∙◌, Bool, true, List, get_or, length}
+use mathlib.Core.Bool.{false≢true}
 use Rattle.logic.proofs.Tests.{by-test, by_le}
 use Rattle.theory.specs.declared.Row.{Row}
 use Rattle.theory.specs.Rows.{matches_at}

@@ -1,13 +1,9 @@
 -- The places that pass a test: by induction over the places. Assumes nothing.
-use Prim.Native.Nat.{ℕ, zero, suc, ◌<◌}
-use native.Mathlib.Omega.{arith}
-use mathlib.Core.Path.{◌≡◌, refl, sym, ◌∙◌}
-use mathlib.Core.Bool.{Bool, true, false, cond, false≢true}
-use mathlib.Core.List.{List, [], ◌∷◌, ◌++◌, append-nil}
-use lib.ListN.{get_or, length, length-append, get_or-append}
+use Rattle.std.proofs.Common.{ℕ, zero, suc, ◌<◌, arith, ◌≡◌, refl, sym, ◌∙◌, Bool, true, false, cond, List, [], ◌∷◌, ◌++◌, append-nil, get_or, length}
+use Rattle.std.proofs.Common.{length-append, eqb, eq-eqb, ne_eqb, lt-ltb, le-ltb}
+use mathlib.Core.Bool.{false≢true}
+use lib.ListN.{get_or-append}
 use lib.Seq.{get_or_at}
-use lib.Dec.{eqb}
-use borrow.Author.Tests.{eq-eqb, ne_eqb, lt-ltb, le-ltb}
 use Rattle.logic.proofs.Tests.{by-test, by_le}
 use Rattle.theory.specs.Number.{has}
 use Rattle.theory.specs.Hidden.{places_where}

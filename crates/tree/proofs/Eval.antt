@@ -18,11 +18,10 @@ use Rattle.nodes.proofs.Walk.{root-tree}
 use Rattle.tree.specs.Action.{eval_tree, accepted_action, tree_action_of}
 use Rattle.tree.specs.Steps.{TreeGave}
 use Rattle.tree.specs.Theorems.{ActionEval, ActionRefused, ActionPacket}
-use Rattle.tree.specs.declared.SubtreeAction.{SubtreeAction}
 
 -- what the walk from the root gives
-pub root-gave : (f : List ℕ) (l : Layout) → read_of f ≡ Ok l → (at : Spot) → at ≡ root_spot l → (p : Packet) {q : Packet} {r : SubtreeAction} → q ≡ p
-    → TreeGave f at q r → r.action ≡ eval_tree (tree_of f l) p
+pub root-gave : (f : List ℕ) (l : Layout) → read_of f ≡ Ok l → (at : Spot) → at ≡ root_spot l → (p : Packet) {q : Packet} {r : Action} {next : Spot} → q ≡ p
+    → TreeGave f at q r next → r ≡ eval_tree (tree_of f l) p
 root-gave f l e at start p same t = t.action ∙ ap₂ eval_tree (root-tree f l e at start) same
 
 -- by the packet's test

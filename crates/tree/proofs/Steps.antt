@@ -1,5 +1,5 @@
 -- The steps of the walk: a node and its children are a tree, a tree and the others are children. Assumes nothing.
-use Prim.Native.Nat.{ℕ, ◌+◌, ◌*◌, ◌-◌, ◌<◌}
+use Prim.Native.Nat.{ℕ, ◌-◌, ◌<◌}
 use mathlib.Core.Path.{◌≡◌, sym, ap, ap₂, ◌∙◌}
 use mathlib.Core.List.{List}
 use Rattle.theory.specs.Tree.{evals}
@@ -8,26 +8,23 @@ use Rattle.flow.specs.declared.Packet.{Packet}
 use Rattle.action.specs.Operator.{join}
 use Rattle.action.specs.declared.Action.{Action}
 use Rattle.action.specs.declared.Action.TheVariants.{DontCare}
-use Rattle.policy.specs.Numbers.{atom_length}
 use Rattle.policy.specs.File.{PolicyTree}
 use Rattle.nodes.specs.Nodes.{node_at, cells_at, atom_words_at}
-use Rattle.nodes.specs.Walk.{Reached}
+use Rattle.nodes.specs.Walk.{Reached, next_spot}
 use Rattle.policy.specs.declared.Node.{Node}
 use Rattle.nodes.specs.declared.Spot.{Spot}
 use Rattle.nodes.proofs.Walk.{tree-here, after-tree, children-here, after-children, NoChild}
 use Rattle.tree.specs.Action.{eval_tree}
 use Rattle.tree.specs.Steps.{own_action, TreeGave, ChildrenGave}
-use Rattle.tree.specs.declared.SubtreeAction.{SubtreeAction}
 
 module _ {f : List ℕ} {s : Spot} {p : Packet} where
   -- no child is taken
-  pub children-none : {k : ℕ} (sibling : ℕ) → NoChild f s k → ChildrenGave f s sibling k p (record { action = DontCare; next = s })
+  pub children-none : {k : ℕ} (sibling : ℕ) → NoChild f s k → ChildrenGave f s sibling k p DontCare s
   children-none sibling h = record { action = sym (ap (λ ts. evals meets DontCare join ts (cells_at f sibling) p) h.none); after = h.after }
 
   -- one child, then the others
-  pub children-gave : (sibling k : ℕ) {one rest : SubtreeAction} {r : Action} → Reached f s → 0 < s.nodes_left → 0 < k → TreeGave f s p one
-      → ChildrenGave f one.next sibling (k - 1) p rest → r ≡ join (cells_at f sibling) one.action rest.action
-      → ChildrenGave f s sibling k p (record { action = r; next = rest.next })
+  pub children-gave : (sibling k : ℕ) {one rest r : Action} {behind next : Spot} → Reached f s → 0 < s.nodes_left → 0 < k → TreeGave f s p one behind
+      → ChildrenGave f behind sibling (k - 1) p rest next → r ≡ join (cells_at f sibling) one rest → ChildrenGave f s sibling k p r next
   children-gave sibling k reached more some t v j = record {
     action = j ∙ ap₂ (join (cells_at f sibling)) t.action v.action
         ∙ sym (ap (λ ts. evals meets DontCare join ts (cells_at f sibling) p) (children-here f s reached more k some t.after));
@@ -35,12 +32,11 @@ module _ {f : List ℕ} {s : Spot} {p : Packet} where
   }
 
   -- a node's own action, and its children's
-  pub tree-gave : {n : Node} {atoms : List ℕ} {x r : Action} {rest : SubtreeAction} → Reached f s → 0 < s.nodes_left → n ≡ node_at f s.nodes_left
+  pub tree-gave : {n : Node} {atoms : List ℕ} {x rest r : Action} {next : Spot} → Reached f s → 0 < s.nodes_left → n ≡ node_at f s.nodes_left
       → atoms ≡ atom_words_at f s.next_atom n.own → x ≡ own_action (cells_at f n.inner) atoms p
-      → ChildrenGave f (record { nodes_left = s.nodes_left - 1; next_atom = s.next_atom + atom_length * n.own }) n.sibling n.children p rest
-      → r ≡ join (cells_at f n.parent) x rest.action → TreeGave f s p (record { action = r; next = rest.next })
+      → ChildrenGave f (next_spot f s) n.sibling n.children p rest next → r ≡ join (cells_at f n.parent) x rest → TreeGave f s p r next
   unfolding own_action
-  tree-gave {n} {atoms} {x} {r} {rest} reached more e v q k j =
+  tree-gave {n} {atoms} {x} {rest} {r} {next} reached more e v q k j =
       let below = rw e at k in
       let own : x ≡ _ = rw e at (q ∙ ap (λ l. own_action (cells_at f n.inner) l p) v) in
       record {

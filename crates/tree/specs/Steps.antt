@@ -18,7 +18,6 @@ use Rattle.nodes.specs.Nodes.{cells_at}
 use Rattle.nodes.specs.Walk.{tree_at, children_at, AfterTree, AfterChildren}
 use Rattle.nodes.specs.declared.Spot.{Spot}
 use Rattle.tree.specs.Action.{eval_tree}
-use Rattle.tree.specs.declared.SubtreeAction.{SubtreeAction}
 
 -- a node's own action, over the words of its atoms
 unfoldable pub own_action : List ℕ → List ℕ → Packet → Action
@@ -29,11 +28,11 @@ unfoldable pub with_atom : List ℕ → Row Match Action → Packet → Action �
 with_atom o atom p rest = if meets atom.matching p then join o atom.action rest else rest
 
 -- the action is that of the tree at the place, and the next place is behind it
-pub record TreeGave (f : List ℕ) (s : Spot) (p : Packet) (r : SubtreeAction) : Type 0 where
-  pub action : r.action ≡ eval_tree (tree_at f s) p
-  pub after : AfterTree f s r.next
+pub record TreeGave (f : List ℕ) (s : Spot) (p : Packet) (r : Action) (next : Spot) : Type 0 where
+  pub action : r ≡ eval_tree (tree_at f s) p
+  pub after : AfterTree f s next
 
 -- the action is that of k children from the place on under a sibling operator, and the next place is behind them
-pub record ChildrenGave (f : List ℕ) (s : Spot) (sibling k : ℕ) (p : Packet) (r : SubtreeAction) : Type 0 where
-  pub action : r.action ≡ evals meets DontCare join (children_at f s k) (cells_at f sibling) p
-  pub after : AfterChildren f s k r.next
+pub record ChildrenGave (f : List ℕ) (s : Spot) (sibling k : ℕ) (p : Packet) (r : Action) (next : Spot) : Type 0 where
+  pub action : r ≡ evals meets DontCare join (children_at f s k) (cells_at f sibling) p
+  pub after : AfterChildren f s k next

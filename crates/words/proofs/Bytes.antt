@@ -47,7 +47,8 @@ abbrev pub bytes_ahead : List ℕ → ℕ → List ℕ → List ℕ
 bytes_ahead words i l = laid (i * word_bytes) (flat bytes_of (drop i words)) l
 
 pub bytes-turn : (words l part whole : List ℕ) (i : ℕ) → bytes_ahead words i l ≡ whole → part ≡ to_le_bytes w32 (get_or words i 0) → get_or words i 0 < 2 ^ 32
-    → i < length words → i * word_bytes + word_bytes ≤ length l → bytes_ahead words (i + 1) (put_mid (i * word_bytes) (i * word_bytes + word_bytes - i * word_bytes) l part) ≡ whole
+    → i < length words → i * word_bytes + word_bytes ≤ length l
+    → bytes_ahead words (i + 1) (put_mid (i * word_bytes) (i * word_bytes + word_bytes - i * word_bytes) l part) ≡ whole
 bytes-turn words l part whole i e d w h fits =
     let a : (i + 1) * word_bytes ≡ i * word_bytes + word_bytes = omega arith in
     let k : i * word_bytes + word_bytes - i * word_bytes ≡ word_bytes = omega arith in

@@ -87,7 +87,8 @@ put-laid a k F l part e q h =
     rw (e, q) (ap (λ d. take a l ++ (F ++ d)) (drop-drop (length F) a l) ∙ sym (laid-is a F l h))
 
 -- zeros written over all from a place on are the buffer cleared from there
-pub put-cleared : (a : ℕ) (l part : List ℕ) → a ≤ length l → part ≡ replicate (length (take (length l - a) (drop a l))) 0 → put_mid a (length l - a) l part ≡ cleared a l
+pub put-cleared : (a : ℕ) (l part : List ℕ) → a ≤ length l → part ≡ replicate (length (take (length l - a) (drop a l))) 0
+    → put_mid a (length l - a) l part ≡ cleared a l
 unfolding cleared
 put-cleared a l part h e =
     let n : length (drop a l) ≡ length l - a = length-drop a l in

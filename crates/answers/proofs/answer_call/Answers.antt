@@ -1,7 +1,5 @@
 -- The reply was put in behind what waited, and all was handed on.
-use Rattle.std.proofs.Common.{◌≡◌, refl, sym, ap, ◌∙◌, true, false, not, ◌&&◌, Bool, Bor, Some, None, is_some, is_none}
-use Rattle.std.specs.declared.option.Option.{Option}
-use Rattle.std.specs.Option.{option_copied}
+use Rattle.std.proofs.Common.{◌≡◌, refl, sym, ap, ◌∙◌, true, false, not, ◌&&◌, Bool, Bor, Some, None, is_some, is_none, Option, option_copied}
 use Rattle.streams.specs.Output.{write_failure}
 use Rattle.streams.proofs.Handed.{hands_on-all}
 use Rattle.answers.proofs.answer_call.Goals as goal

@@ -16,7 +16,8 @@ pub keep_rows-end-requires : goal.keep_rows-end-requires
 keep_rows-end-requires c = tested-right c.in_ok-try_from.field-0 (rw c.in_ok-try_from.was at c.try_from.ensures)
 
 pub returns-clause-value : goal.returns-clause-value
-returns-clause-value c = right_answer c.args.table.now (tested-passes c.in_ok-try_from.field-0 (rw c.in_ok-try_from.was at c.try_from.ensures)) c.keep_rows-end.ensures.value
+returns-clause-value c =
+    right_answer c.args.table.now (tested-passes c.in_ok-try_from.field-0 (rw c.in_ok-try_from.was at c.try_from.ensures)) c.keep_rows-end.ensures.value
 
 pub returns-clause-table_after : goal.returns-clause-table_after
 returns-clause-table_after c =

@@ -21,7 +21,8 @@ pub put_numbers-requires : goal.put_numbers-requires
 put_numbers-requires c =
     let g = c.args in
     let same = rw c.in_ok-table.was at c.try_from.ensures in
-    let h = long-enough g.table.now g.priorities.now g.chain.now _ (rw (← same) c.in_ok-table.table.right, rw (← same) c.row_count-rows.ensures) c.if-not-fits.false in
+    let h =
+    long-enough g.table.now g.priorities.now g.chain.now _ (rw (← same) c.in_ok-table.table.right, rw (← same) c.row_count-rows.ensures) c.if-not-fits.false in
     (simp length-take (omega (arith, h.0, c.row_count-rows.ensures)), omega (arith, h.1, c.row_count-rows.ensures))
 
 pub returns : goal.returns
@@ -29,4 +30,5 @@ returns c =
     let g = c.args in
     let same = rw c.in_ok-table.was at c.try_from.ensures in
     let numbers = rw same at c.put_numbers.ensures in
-    numbered-right g.table.now g.priorities.now g.chain.now _ (rw (← same) c.in_ok-table.table.right, rw (← same) c.row_count-rows.ensures) c.if-not-fits.false _ numbers.count _ numbers.priorities_after _ numbers.chain_after
+    numbered-right g.table.now g.priorities.now g.chain.now _ (rw (← same) c.in_ok-table.table.right, rw (← same) c.row_count-rows.ensures)
+    c.if-not-fits.false _ numbers.count _ numbers.priorities_after _ numbers.chain_after

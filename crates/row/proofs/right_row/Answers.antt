@@ -1,8 +1,6 @@
 -- The right matches that are not empty are the plain ones that do not contradict themselves. Assumes nothing.
-use Prim.Native.Nat.{ℕ}
-use mathlib.Core.Path.{◌≡◌, refl, sym, ap, ◌∙◌}
-use mathlib.Core.Bool.{Bool, true, false, not, ◌&&◌, and_comm}
-use mathlib.Core.List.{List}
+use Rattle.std.proofs.Common.{ℕ, ◌≡◌, refl, sym, ap, ◌∙◌, Bool, true, false, not, ◌&&◌, List}
+use mathlib.Core.Bool.{and_comm}
 use Rattle.flow.specs.Match.{match_of, contradicts, is_plain}
 use Rattle.flow.specs.declared.Match.{Match}
 use Rattle.flow.proofs.Laws.{plain-exactly}

@@ -15,7 +15,8 @@ loop-i-init c =
 
 pub loop-i-preserved : goal.loop-i-preserved
 loop-i-preserved c =
-    let n = numbered row_length c.args.table.now c.loop-i.i-iterator c.next.new.self _ c.in-Some.row (omega arith) c.loop-i.invariant.going c.in-Some.ensures.steps in
+    let n =
+    numbered row_length c.args.table.now c.loop-i.i-iterator c.next.new.self _ c.in-Some.row (omega arith) c.loop-i.invariant.going c.in-Some.ensures.steps in
     record {
       going = n.going;
       rest = rw (n.next) (wrong-later _ _ _ _ _ c.loop-i.invariant.rest n.more (sym c.right_row.ensures ∙ c.if-not-right_row.false));
@@ -23,7 +24,8 @@ loop-i-preserved c =
 
 pub returns-then-not-right_row : goal.returns-then-not-right_row
 returns-then-not-right_row c =
-    let n = numbered row_length c.args.table.now c.loop-i.i-iterator c.next.new.self _ c.in-Some.row (omega arith) c.loop-i.invariant.going c.in-Some.ensures.steps in
+    let n =
+    numbered row_length c.args.table.now c.loop-i.i-iterator c.next.new.self _ c.in-Some.row (omega arith) c.loop-i.invariant.going c.in-Some.ensures.steps in
     rw (c.at.ensures, n.number) (wrong-found _ _ _ _ _ c.loop-i.invariant.rest n.more (sym c.right_row.ensures ∙ c.if-not-right_row.true))
 
 pub returns : goal.returns

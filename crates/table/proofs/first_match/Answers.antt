@@ -13,5 +13,8 @@ loop-i-init c =
 pub loop-i-init-derived : goal.loop-i-init-derived
 loop-i-init-derived c =
     let none = ap (λ s. s.count) c.into_iter-i-iterator.ensures.into_iter_gives ∙ c.enumerate-i-items.ensures.count in
-    let all = ap (λ s. length (rows_left s.iter)) c.into_iter-i-iterator.ensures.into_iter_gives ∙ ap (λ s. length (rows_left s)) c.enumerate-i-items.ensures.source ∙ ap length c.of.ensures in
+    let all =
+    ap (λ s. length (rows_left s.iter)) c.into_iter-i-iterator.ensures.into_iter_gives
+    ∙ ap (λ s. length (rows_left s)) c.enumerate-i-items.ensures.source
+    ∙ ap length c.of.ensures in
     ((tt, tt, inl (rw (none, all) (omega (arith, length-rows c.args.table.now)))), tt)

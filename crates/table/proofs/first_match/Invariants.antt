@@ -8,6 +8,6 @@ use Rattle.table.proofs.first_match.Given as goal
 
 abbrev pub invariant-loop-i : goal.invariant-loop-i
 invariant-loop-i l = record {
-  rest : found l.i-iterator.count (rows_left l.i-iterator.iter) l.p ≡ found 0 (rows_in l.table) l.p;
+  rest : found l.i-iterator.count (rows_left l.i-iterator.iter) l.packet ≡ found 0 (rows_in l.table) l.packet;
   all : l.i-iterator.count + length (rows_left l.i-iterator.iter) ≡ row_count l.table;
 }

@@ -1,6 +1,5 @@
 -- The words of a right input are its file.
-use Rattle.std.proofs.Common.{refl, sym, ◌∙◌}
-use lib.Seq.{length-take-le}
+use Rattle.std.proofs.Common.{refl, sym, ◌∙◌, length-take-le}
 use Rattle.text.proofs.Listed.{input-words, input-within, input-compiled, file-within}
 use Rattle.text.proofs.Lists.{refused-input}
 use Rattle.text.proofs.compiled_rows.Goals as goal

@@ -6,9 +6,9 @@ use Rattle.nodes.proofs.Walk.{start-reached}
 use Rattle.tree.proofs.Eval.{root-gave, accepted-gives, accepted-refuses}
 use Rattle.tree.proofs.accepted_action.Goals as goal
 
-pub subtree-found-requires : goal.subtree-found-requires
-subtree-found-requires c =
-    let start = start-reached _ _ c.requires _ c.root.ensures in record { reached = start.0; there = start.1 }
+pub subtree-requires : goal.subtree-requires
+subtree-requires c =
+    let start = start-reached _ _ c.requires _ c.root-at.ensures in record { reached = start.0; there = start.1 }
 
 pub returns-in_err-try_from : goal.returns-in_err-try_from
 returns-in_err-try_from c =
@@ -18,4 +18,4 @@ returns-in_err-try_from c =
 pub returns : goal.returns
 returns c =
     let k = packet-found _ _ (sym c.try_from.ensures ∙ c.in_ok-try_from.was) in
-    accepted-gives _ _ _ k.0 (root-gave _ _ c.requires _ c.root.ensures _ (sym k.1) c.subtree-found.ensures)
+    accepted-gives _ _ _ k.0 (root-gave _ _ c.requires _ c.root-at.ensures _ (sym k.1) c.subtree.ensures)

@@ -13,7 +13,8 @@ loop-i-init c = refl
 
 pub loop-i-preserved : goal.loop-i-preserved
 loop-i-preserved c =
-    store-turn c.loop-i.i (words_in c.args.bytes.now) _ _ c.loop-i.i _ c.loop-i.invariant (omega (arith, length-words c.args.bytes.now)) (word-read _ _ _ _ c.as_chunks.ensures.front c.from_le_bytes.ensures)
+    store-turn c.loop-i.i (words_in c.args.bytes.now) _ _ c.loop-i.i _ c.loop-i.invariant (omega (arith, length-words c.args.bytes.now))
+    (word-read _ _ _ _ c.as_chunks.ensures.front c.from_le_bytes.ensures)
 
 pub returns : goal.returns
 returns c =

@@ -12,7 +12,8 @@ loop-i-init c = refl
 
 pub loop-i-preserved : goal.loop-i-preserved
 loop-i-preserved c =
-    bytes-turn _ _ _ _ _ c.loop-i.invariant (c.copy_from_slice.ensures.after ∙ c.to_le_bytes.ensures) (c.type_inv.words c.loop-i.i).fits (omega arith) (omega arith)
+    bytes-turn _ _ _ _ _ c.loop-i.invariant (c.copy_from_slice.ensures.after ∙ c.to_le_bytes.ensures)
+    (c.type_inv.words c.loop-i.i).fits (omega arith) (omega arith)
 
 pub returns : goal.returns
 returns c =

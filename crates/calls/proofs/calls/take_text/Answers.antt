@@ -1,13 +1,9 @@
 -- The bytes that were read, and those behind them up to a whole word.
-use Rattle.std.proofs.Common.{◌≡◌, ◌∙◌, ap, Some, None, ℕ, List, length, replicate, arith}
-use Rattle.std.specs.declared.option.Option.{Option}
-use Rattle.std.specs.Option.{option_map}
-use Rattle.std.proofs.lemmas.List.{length-take-le}
-use lib.Seq.{take_at}
+use Rattle.std.proofs.Common.{◌≡◌, ◌∙◌, ap, Some, None, ℕ, List, length, replicate, arith, Option, option_map, length-take-le, take_at}
 use Rattle.words.specs.Bytes.{word_bytes}
 use Rattle.calls.specs.Sent.{most_bytes, padding}
 use Rattle.calls.specs.Taken.{found, then_in, bytes_in, count_in, text_in}
-use Rattle.calls.proofs.Takes.{takes-none, takes-then, takes-found}
+use Rattle.calls.proofs.Takes.{takes_none, takes_then, takes_found}
 use Rattle.calls.proofs.calls.take_text.Goals as goal
 
 -- what is found behind the bytes, and behind the count
@@ -17,18 +13,13 @@ last n text behind = found (λ pad. text) (bytes_in (padding n) behind)
 abbrev behind : ℕ → List ℕ → Option (List ℕ) × List ℕ
 behind n rest = then_in (bytes_in n rest) (last n)
 
-pub returns-in_err-count-clause-taken : goal.returns-in_err-count-clause-taken
-unfolding text_in
-returns-in_err-count-clause-taken g c =
-    takes-none g.R.Read.remaining (count_in most_bytes) behind _ _ _ (ap (option_map _) c.from_residual.ensures) c.in_err-count.ensures.taken
-
 pub returns-in_err-take_full-clause-taken : goal.returns-in_err-take_full-clause-taken
 unfolding text_in
 returns-in_err-take_full-clause-taken g c =
     let n = c.in_ok-count.count in
     let e : length c.take_full.new.buf ≡ n = omega (arith, c.take_full.auto.buf) in
-    takes-then g.R.Read.remaining (count_in most_bytes) behind _ _ _ n _ c.in_ok-count.ensures.taken
-    (takes-none g.R.Read.remaining (bytes_in n) (last n) _ _ _ (ap (option_map _) c.from_residual-in_err-take_full.ensures)
+    takes_then g.R.Read.remaining (count_in most_bytes) behind _ _ _ n _ c.in_ok-count.ensures.taken
+    (takes_none g.R.Read.remaining (bytes_in n) (last n) _ _ _ (ap (option_map _) c.from_residual-in_err-take_full.ensures)
     (rw e at c.in_err-take_full.ensures))
 
 pub returns-in_err-take_full-2-clause-taken : goal.returns-in_err-take_full-2-clause-taken
@@ -39,9 +30,9 @@ returns-in_err-take_full-2-clause-taken g c =
     let e : length text ≡ n = omega (arith, c.take_full.auto.buf) in
     let f : length c.take_full-2.new.buf ≡ padding n =
     c.take_full-2.auto.buf ∙ length-take-le c.padding.result (replicate word_bytes 0) (omega (arith, c.padding.ensures)) ∙ c.padding.ensures in
-    takes-then g.R.Read.remaining (count_in most_bytes) behind _ _ _ n _ c.in_ok-count.ensures.taken
-    (takes-then g.R.Read.remaining (bytes_in n) (last n) _ _ _ text _ (rw e at c.in_ok-take_full.ensures)
-    (takes-found g.R.Read.remaining (bytes_in (padding n)) (λ pad. text) _ _ None _ (ap (option_map _) c.from_residual-in_err-take_full-2.ensures)
+    takes_then g.R.Read.remaining (count_in most_bytes) behind _ _ _ n _ c.in_ok-count.ensures.taken
+    (takes_then g.R.Read.remaining (bytes_in n) (last n) _ _ _ text _ (rw e at c.in_ok-take_full.ensures)
+    (takes_found g.R.Read.remaining (bytes_in (padding n)) (λ pad. text) _ _ None _ (ap (option_map _) c.from_residual-in_err-take_full-2.ensures)
     (rw f at c.in_err-take_full-2.ensures)))
 
 pub returns-clause-taken : goal.returns-clause-taken
@@ -52,7 +43,7 @@ returns-clause-taken g c =
     let e : length text ≡ n = omega (arith, c.take_full.auto.buf) in
     let f : length c.take_full-2.new.buf ≡ padding n =
     c.take_full-2.auto.buf ∙ length-take-le c.padding.result (replicate word_bytes 0) (omega (arith, c.padding.ensures)) ∙ c.padding.ensures in
-    takes-then g.R.Read.remaining (count_in most_bytes) behind _ _ _ n _ c.in_ok-count.ensures.taken
-    (takes-then g.R.Read.remaining (bytes_in n) (last n) _ _ _ text _ (rw e at c.in_ok-take_full.ensures)
-    (takes-found g.R.Read.remaining (bytes_in (padding n)) (λ pad. text) _ _ (Some c.take_full-2.new.buf) _ (ap Some (take_at text _ n e))
+    takes_then g.R.Read.remaining (count_in most_bytes) behind _ _ _ n _ c.in_ok-count.ensures.taken
+    (takes_then g.R.Read.remaining (bytes_in n) (last n) _ _ _ text _ (rw e at c.in_ok-take_full.ensures)
+    (takes_found g.R.Read.remaining (bytes_in (padding n)) (λ pad. text) _ _ (Some c.take_full-2.new.buf) _ (ap Some (take_at text _ n e))
     (rw f at c.in_ok-take_full-2.ensures)))

@@ -3,9 +3,6 @@ use Rattle.words.specs.Words.{zeros}
 use Rattle.calls.proofs.Parts.{zeros_then, words_then}
 use Rattle.calls.proofs.put.put_zeros.Goals as goal
 
-pub loop-init : goal.loop-init
-loop-init g c = g.met.S.Sink.none _
-
 pub loop-preserved : goal.loop-preserved
 loop-preserved g c =
     rw (zeros_then c.loop.counter 1)

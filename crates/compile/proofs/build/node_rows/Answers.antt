@@ -1,6 +1,6 @@
 -- The rows of the node's own atoms, and the place behind them.
 use Rattle.std.proofs.Common.{◌∙◌, arith}
-use Rattle.nodes.proofs.Places.{atoms-within, next-spot}
+use Rattle.nodes.proofs.Places.{behind-own}
 use Rattle.compile.proofs.Building.{node-full, node_done}
 use Rattle.compile.proofs.build.node_rows.Goals as goal
 
@@ -12,10 +12,7 @@ returns-in_err-end c =
     rw c.from_residual.ensures
     (node-full _ _ _ c.requires.2 c.operator_at.ensures c.atoms_at.ensures c.own_rows.ensures c.in_err-end.was)
 
-pub behind_own-next-requires-clause-within : goal.behind_own-next-requires-clause-within
-behind_own-next-requires-clause-within c = omega (arith, atoms-within _ _ c.requires.0 c.requires.1 _ c.requires.2)
-
 pub returns : goal.returns
 returns c =
     node_done _ _ _ c.requires.2 c.operator_at.ensures c.atoms_at.ensures c.own_rows.ensures c.in_ok-end.was
-    (c.behind_own-next.ensures ∙ next-spot _ _ c.requires.0 c.requires.1 _ c.requires.2)
+    (c.behind_own-next.ensures ∙ behind-own _ _ c.requires.0 c.requires.1 _ c.requires.2)

@@ -5,4 +5,4 @@ use Rattle.field.proofs.Prefixes.{zeros-test}
 use Rattle.field.proofs.Prefix.contains.Goals as goal
 
 pub returns : goal.returns
-returns c = rw (c.min.ensures) (zeros-test address_bits c.args.self.address c.args.self.length c.args.x (omega arith) (omega arith))
+returns c = rw (c.min.ensures) (zeros-test address_bits c.args.self.address c.args.self.length c.args.address (omega arith) (omega arith))

@@ -3,16 +3,16 @@
 use Rattle.std.proofs.Common.{arith}
 use Rattle.std.proofs.lemmas.Grind.{common_steps}
 use Rattle.flow.specs.Match.{inside}
+use Rattle.flow.proofs.ByFlags.{inside-by-flags}
 use Rattle.flow.proofs.Match.lies_inside.Goals as goal
 
 pub returns-then-is_empty : goal.returns-then-is_empty
 unfolding inside
 returns-then-is_empty c = rw (← c.is_empty.ensures, c.if-is_empty.true)
 
-pub returns-then-inside_in-2 : goal.returns-then-inside_in-2
-unfolding inside
-returns-then-inside_in-2 c = grind (arith, common_steps)
+pub returns-then-covers-2 : goal.returns-then-covers-2
+returns-then-covers-2 c = grind (arith, common_steps, inside-by-flags c.args.self c.args.other)
 
-pub returns-else-inside_in-2 : goal.returns-else-inside_in-2
+pub returns-else-covers-2 : goal.returns-else-covers-2
 unfolding inside
-returns-else-inside_in-2 c = grind (arith, common_steps)
+returns-else-covers-2 c = grind (arith, common_steps)

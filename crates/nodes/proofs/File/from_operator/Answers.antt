@@ -1,9 +1,12 @@
 -- The definition drops the words before the operator, and all of them where it stands outside.
-use Rattle.std.proofs.Common.{◌∙◌, ap, refl}
-use Rattle.nodes.proofs.Places.{rest-or-none}
+use Rattle.std.proofs.Common.{ap, ◌∙◌, drop, arith}
+use Rattle.std.proofs.lemmas.List.{drop_min, length-drop}
+use lib.Seq.{take_all}
 use Rattle.nodes.specs.Nodes.{from_operator}
 use Rattle.nodes.proofs.File.from_operator.Goals as goal
 
 pub returns : goal.returns
 unfolding from_operator
-returns c = ap (λ b. b.now) c.unwrap_or.ensures ∙ rest-or-none c.args.self.words.now _ c.get.result _ c.get.ensures.lookup refl
+returns c =
+    let f = c.args.self.words.now in
+    take_all _ (drop c.min.result f) (rw length-drop (omega arith)) ∙ ap (λ n. drop n f) c.min.ensures ∙ drop_min _ f

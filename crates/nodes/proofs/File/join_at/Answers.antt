@@ -1,10 +1,11 @@
--- Don't care is the identity of every operator.
-use Rattle.std.proofs.Common.{rules}
-use Rattle.action.proofs.Joined.{join-left-none, join-right-none}
+-- Only the operator's cells are read.
+use Rattle.std.proofs.Common.{ap, sym, ◌∙◌}
+use Rattle.action.specs.Operator.{join}
+use Rattle.action.proofs.Joined.{join-cells}
+use Rattle.nodes.specs.Nodes.{cells_at}
 use Rattle.nodes.proofs.File.join_at.Goals as goal
 
-pub returns-then-eq : goal.returns-then-eq
-returns-then-eq c = join-left-none _ _ _ (search rules)
-
-pub returns-then-eq-2 : goal.returns-then-eq-2
-returns-then-eq-2 c = join-right-none _ _ _ (search rules)
+pub returns : goal.returns
+unfolding cells_at
+returns c =
+    c.join_by.ensures ∙ ap (λ o. join o c.args.left c.args.right) c.from_operator.ensures ∙ sym (join-cells _ c.args.left c.args.right)

@@ -1,6 +1,5 @@
 -- Asked of each node.
-use Rattle.std.proofs.Common.{rules, ◌∙◌}
-use borrow.Author.Tests.{tests}
+use Rattle.std.proofs.Common.{rules, ◌∙◌, tests}
 use Rattle.std.proofs.lemmas.Iterator.Search.{any_from_yields_List}
 use Rattle.std.proofs.lemmas.Iterator.Consumers.{YieldsList-from_first}
 use Rattle.policy.specs.Node.{names_operator, nodes_held, nodes_left}

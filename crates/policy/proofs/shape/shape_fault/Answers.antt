@@ -34,7 +34,8 @@ loop-i-preserved c =
     record {
       all = omega (arith, l.invariant.all, c.in-Some.ensures.steps.2);
       same = rw c.in-Some.ensures.steps.2
-          (turn.on _ l.i-iterator.count l.waiting.items c.take_parent.new.waiting.items _ l.invariant.same _ _ c.in-Some.ensures.steps.0 _ (rw c.in-Some-take_parent.is at c.take_parent.ensures)
+          (turn.on _ l.i-iterator.count l.waiting.items c.take_parent.new.waiting.items _ l.invariant.same _ _ c.in-Some.ensures.steps.0 _
+          (rw c.in-Some-take_parent.is at c.take_parent.ensures)
           _ _ (omega (arith, c.if-len-lt-DEEPEST.true, c.len.ensures.value))
           c.push-in-Some-take_parent.ensures.items c.push-in-Some-take_parent-2.ensures.items);
     }
@@ -45,10 +46,12 @@ returns-in_default c =
     rw (c.at.ensures, c.in-Some.ensures.steps.1)
     (elim c.in_default.branch [
       | in_default-via-in-Some-take_parent+else-len-lt-DEEPEST w ↦
-          turn.deep _ l.i-iterator.count l.waiting.items c.take_parent.new.waiting.items _ l.invariant.same _ _ c.in-Some.ensures.steps.0 _ (rw w.in-Some-take_parent.is at c.take_parent.ensures)
+          turn.deep _ l.i-iterator.count l.waiting.items c.take_parent.new.waiting.items _ l.invariant.same _ _ c.in-Some.ensures.steps.0 _
+          (rw w.in-Some-take_parent.is at c.take_parent.ensures)
           (omega (arith, w.if-len-lt-DEEPEST.false, w.len.ensures.value))
       | in_default-via-in_default w ↦
-          turn.ended _ l.i-iterator.count l.waiting.items c.take_parent.new.waiting.items _ l.invariant.same _ _ c.in-Some.ensures.steps.0 (rw w.in_default.is at c.take_parent.ensures)
+          turn.ended _ l.i-iterator.count l.waiting.items c.take_parent.new.waiting.items _ l.invariant.same _ _ c.in-Some.ensures.steps.0
+          (rw w.in_default.is at c.take_parent.ensures)
     ])
 
 pub returns : goal.returns

@@ -50,7 +50,8 @@ returns-in_err-sum_fault c =
     let s = good c.header_fault.ensures c.in_ok-header_fault.was (ap (λ w. w.header) c.words.ensures) c.read_section.ensures c.in_ok-operators.was
     c.read_section-2.ensures c.in_ok-atoms.was c.read_section-3.ensures c.in_ok-nodes.was in
     rw (p.1, p.2)
-    (sym (tests s ∙ rw (told c.unless.ensures c.in_ok-unless.was, told c.shape_fault.ensures c.in_ok-shape_fault.was, told c.sum_fault.ensures c.in_err-sum_fault.was)))
+    (sym (tests s
+    ∙ rw (told c.unless.ensures c.in_ok-unless.was, told c.shape_fault.ensures c.in_ok-shape_fault.was, told c.sum_fault.ensures c.in_err-sum_fault.was)))
 
 pub returns-in_err-laws_fault : goal.returns-in_err-laws_fault
 returns-in_err-laws_fault c =

@@ -15,10 +15,11 @@ returns c =
     let i = c.args.self.0 in
     let rows = c.rows.result.now in
     let m = c.match_at-m.result in
-    let given : c.zip.result.b.rest.now ≡ rows = c.zip.ensures.second.0 in
+    let given : c.zip.result.b.rest.now ≡ take i rows = c.zip.ensures.second.0 in
     let pairs = YieldsList-from_zip (YieldsList-at c.zip.ensures.first (YieldsList-from_slice (take i ls) c.iter.ensures.rest))
-    (YieldsList-from_slice rows given) in
-    let found : c.position-found.result ≡ position (pair-test m c.args.l) (zip (take i ls) rows) =
-    position_from_yields_List (pair-test m c.args.l) c.position-found.new.self _ c.position-found.result c.position-found.ensures.ran pairs (λ x b q k. search (rules, tests)) in
+    (YieldsList-from_slice (take i rows) given) in
+    let found : c.position-found.result ≡ position (pair-test m c.args.l) (zip (take i ls) (take i rows)) =
+    position_from_yields_List (pair-test m c.args.l) c.position-found.new.self _ c.position-found.result c.position-found.ensures.ran pairs
+    (λ x b q k. search (rules, tests)) in
     c.unwrap_or.ensures ∙ ap (λ o. unwrap_or o i) found
     ∙ step-position ws ls rows i c.args.l m c.match_at-m.ensures c.rows.ensures.rows c.requires.within (omega (arith, c.rows.ensures.count))

@@ -3,7 +3,7 @@ use Rattle.std.proofs.Common.{◌+◌}
 use Rattle.tree.proofs.Query.+children_subtree.Given as goal
 
 abbrev pub decreases-children : goal.decreases-children
-decreases-children l = l.at.nodes_left + l.at.nodes_left + 1
+decreases-children l = l.at.now.nodes_left + l.at.now.nodes_left + 1
 
 abbrev pub decreases-subtree : goal.decreases-subtree
-decreases-subtree l = l.at.nodes_left + l.at.nodes_left
+decreases-subtree l = l.at.now.nodes_left + l.at.now.nodes_left

@@ -2,17 +2,11 @@
 use Rattle.std.proofs.Common.{ap, ◌∙◌}
 use Rattle.calls.specs.Replies.{of_table}
 use Rattle.calls.specs.Calls.{scan}
-use Rattle.calls.specs.Taken.{two_in, body_in}
-use Rattle.calls.proofs.Takes.{answers-none, answers-some}
+use Rattle.calls.specs.Taken.{two_in}
+use Rattle.calls.proofs.Takes.{answers_some}
 use Rattle.calls.proofs.calls.Room.answer_scan.Goals as goal
 
-pub returns-in_err-table : goal.returns-in_err-table
-unfolding body_in
-returns-in_err-table g c =
-    answers-none g.R.Read.remaining g.S.Sink.gives two_in (λ x. scan x.0 x.1) _ _ _ _ (g.met.S.Sink.none _) c.from_residual.ensures c.in_err-table.ensures.taken
-
 pub returns : goal.returns
-unfolding body_in
 returns g c =
-    answers-some g.R.Read.remaining g.S.Sink.gives two_in (λ x. scan x.0 x.1) _ _ _ _ _ _ c.in_ok-table.ensures.taken
+    answers_some g.R.Read.remaining g.S.Sink.gives two_in (λ x. scan x.0 x.1) _ _ _ _ _ _ c.in_ok-table.ensures.taken
     (rw (c.of_table.ensures ∙ ap of_table c.scan.ensures) at c.reply.ensures)

@@ -10,7 +10,8 @@ returns-then-self-WORDS-clause-steps g c =
 
 pub returns-clause-steps : goal.returns-clause-steps
 returns-clause-steps g c =
-    rows_of-next g.S.Spelling.WORDS g.S.Spelling.of_words _ _ _ g.met.S.Spelling.some c.split_at.ensures.by_index.0 (c.split_at.ensures.front_len ∙ c.WORDS-2.ensures)
+    rows_of-next g.S.Spelling.WORDS g.S.Spelling.of_words _ _ _ g.met.S.Spelling.some c.split_at.ensures.by_index.0
+    (c.split_at.ensures.front_len ∙ c.WORDS-2.ensures)
     ∙ ap (λ r. r ∷ rows_of g.S.Spelling.WORDS g.S.Spelling.of_words c.split_at.result.1.now) (sym c.read.ensures)
 
 pub returns-clause-goes : goal.returns-clause-goes
