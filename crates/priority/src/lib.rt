@@ -149,7 +149,8 @@ fn raised(row: &RowWords, m: Match, level: u32, best: u32) -> u32
     if overlaps { level + 1 } else { best }
 }
 
-// Stores the chain from its end back to its start.
+// Stores the chain from its end back to its start. Inlined into its caller its search took 1.5 times as long.
+#[inline(never)]
 fn put_chain(table: Table<'_>, levels: &[u32], count: u32, chain: &mut [u32])
     requires { ChainFits table.words.now levels.now count chain.old }
     ensures { chain.new
