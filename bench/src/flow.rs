@@ -126,7 +126,11 @@ pub fn right_match(m: &Row) -> bool {
 
 pub fn right_packet(words: &[u32]) -> Option<&Packet> {
     let p: &Packet = words.try_into().ok()?;
-    VALUES.iter().all(|&(at, _, limit)| p[at] < limit).then_some(p)
+    is_right(p).then_some(p)
+}
+
+pub fn is_right(p: &Packet) -> bool {
+    VALUES.iter().all(|&(at, _, limit)| p[at] < limit)
 }
 
 fn in_prefix(p: u32, length: u32, x: u32) -> bool {

@@ -3,7 +3,7 @@
 use crate::action::{self, ALLOW, Cells, GMB, MOST_RATE};
 use crate::flow::{
     DESTINATION, DESTINATION_PORT, FLAGS, IN_PORT, KIND, PACKET_WORDS, PREFIXES, PROTOCOL, Packet, RATE, ROW_WORDS,
-    Row, SOURCE, SOURCE_PORT, TCP, UDP, VALUES,
+    Row, SOURCE, SOURCE_PORT, TCP, UDP, VALUES, meets,
 };
 use crate::policy::{CHILDREN, HEADER, INNER, NODE_WORDS, OWN, PARENT, SIBLING};
 
@@ -83,6 +83,13 @@ pub fn mixed(count: usize) -> Vec<Row> {
     (0..count).map(|_| mixed_row(&mut dice)).collect()
 }
 
+/// Mixed rows of which each constrains something: behind one that does not, no row is met.
+pub fn constrained(count: usize) -> Vec<Row> {
+    let mut dice = Dice::new();
+    let rows = std::iter::repeat_with(|| mixed_row(&mut dice));
+    rows.filter(|row| row[..KIND] != [0; KIND]).take(count).collect()
+}
+
 fn mixed_row(dice: &mut Dice) -> Row {
     let mut row = Made::open();
     for (at, _) in PREFIXES {
@@ -121,6 +128,46 @@ pub const PACKET: Packet = {
     packet[DESTINATION_PORT] = 999;
     packet
 };
+
+/// Packets whose first matching rows lie all over the table; each eighth meets no disjoint and no constrained row.
+pub fn packets(rows: &[Row], count: usize) -> Vec<Packet> {
+    let mut dice = Dice::new();
+    let reached: Vec<Packet> = (0..rows.len())
+        .map(|i| (i, meeting(&rows[i])))
+        .filter(|(i, packet)| !rows[..*i].iter().any(|earlier| meets(earlier, packet)))
+        .map(|(_, packet)| packet)
+        .collect();
+    let mut packet = |i: usize| match i % 8 {
+        7 => ELSEWHERE,
+        _ => reached[dice.below(reached.len() as u32) as usize],
+    };
+    (0..count).map(&mut packet).collect()
+}
+
+/// A packet outside the networks of the mixed rows.
+const ELSEWHERE: Packet = {
+    let mut packet = PACKET;
+    packet[SOURCE] = 3;
+    packet
+};
+
+/// A packet that meets the row, and lies elsewhere by what the row leaves open.
+fn meeting(row: &Row) -> Packet {
+    let mut packet = ELSEWHERE;
+    for (at, flag, _) in VALUES {
+        if row[FLAGS] & flag != 0 {
+            packet[at] = row[at];
+        }
+    }
+    for (at, length) in PREFIXES {
+        let beyond = (u64::from(u32::MAX) >> row[length]) as u32;
+        packet[at] = row[at] | packet[at] & beyond;
+    }
+    if !meets(row, &packet) {
+        packet[PROTOCOL] = TCP;
+    }
+    packet
+}
 
 /// A policy file under the two named operators.
 pub fn file(atoms: &[Row], nodes: usize) -> Vec<u32> {

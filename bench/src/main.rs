@@ -1,6 +1,7 @@
 //! Times the proved functions against hand-written ones, on the same inputs, in the same run.
 
 mod action;
+mod capture;
 mod compile;
 mod flow;
 mod hidden;
@@ -13,7 +14,8 @@ mod table;
 mod tree;
 
 use action::ACTION_WORDS;
-use flow::ROW_WORDS;
+use capture::{FOUND_WORDS, MOST_PACKETS};
+use flow::{PACKET_WORDS, ROW_WORDS};
 use std::hint::black_box;
 use std::time::{Duration, Instant};
 use table::MOST_ROWS;
@@ -38,6 +40,7 @@ fn main() {
     files();
     compiles();
     tables();
+    captures();
     if only_equal() {
         println!("all answers and buffers are equal");
     }
@@ -96,6 +99,27 @@ fn tables() {
             scan(&size, table);
             number(&size, table);
             hidden(&size, table);
+        }
+    }
+}
+
+fn captures() {
+    for rows in [64, 1024] {
+        let tables = [
+            ("disjoint", inputs::disjoint(rows)),
+            ("overlapping", inputs::overlapping(rows)),
+            ("mixed", inputs::constrained(rows)),
+        ];
+        for (kind, table) in tables {
+            for count in [1, 64, MOST_PACKETS] {
+                let packets = inputs::packets(&table, count);
+                let (table, packets) = (table.as_flattened(), packets.as_flattened());
+                let size = format!("{count} in {rows} {kind}");
+                capture(&size, table, packets);
+                if rows == 1024 && count > 1 {
+                    singles(&size, table, packets);
+                }
+            }
         }
     }
 }
@@ -188,6 +212,67 @@ fn scan(size: &str, table: &[u32]) {
     assert_eq!(by_rattle(), by_rust());
     line(&format!("scan {size}"), 8, || {}, || _ = by_rattle(), || _ = by_rust());
     assert_eq!(ours, theirs);
+}
+
+/// The words that are written for the packets, and one more.
+fn room(packets: &[u32]) -> usize {
+    FOUND_WORDS * (packets.len() / PACKET_WORDS) + 1
+}
+
+fn capture(size: &str, table: &[u32], packets: &[u32]) {
+    let mut ours = vec![7; room(packets)];
+    let mut theirs = ours.clone();
+    assert_eq!(
+        Ok(rattle::capture(table, packets, &mut ours)),
+        capture::capture(table, packets, &mut theirs)
+    );
+    assert!(ours == theirs);
+    let answers = std::cell::RefCell::new(ours);
+    let calls = if packets.len() == PACKET_WORDS { 8 } else { 1 };
+    line(
+        &format!("capture {size}"),
+        calls,
+        || answers.borrow_mut().fill(0),
+        || {
+            black_box(rattle::capture(
+                black_box(table),
+                black_box(packets),
+                &mut answers.borrow_mut(),
+            ));
+        },
+        || {
+            let _ = black_box(capture::capture(
+                black_box(table),
+                black_box(packets),
+                &mut answers.borrow_mut(),
+            ));
+        },
+    );
+}
+
+/// One capture against as many scans of the proved functions.
+fn singles(size: &str, table: &[u32], packets: &[u32]) {
+    let mut at_once = vec![7; room(packets)];
+    let mut one_by_one = at_once.clone();
+    let by_capture = |answers: &mut [u32]| rattle::capture(black_box(table), black_box(packets), answers);
+    let by_scans = |answers: &mut [u32]| {
+        let packets = black_box(packets).as_chunks::<PACKET_WORDS>().0;
+        for (packet, found) in packets.iter().zip(answers.as_chunks_mut::<FOUND_WORDS>().0) {
+            let (given, tried) = found.split_at_mut(ACTION_WORDS);
+            tried[0] = rattle::scan(black_box(table), packet, given) as u32;
+        }
+        packets.len()
+    };
+    assert_eq!(by_capture(&mut at_once), by_scans(&mut one_by_one));
+    assert!(at_once == one_by_one);
+    let answers = std::cell::RefCell::new(at_once);
+    line(
+        &format!("singles {size}"),
+        1,
+        || answers.borrow_mut().fill(0),
+        || _ = black_box(by_capture(&mut answers.borrow_mut())),
+        || _ = black_box(by_scans(&mut answers.borrow_mut())),
+    );
 }
 
 fn number(size: &str, table: &[u32]) {

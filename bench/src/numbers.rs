@@ -16,3 +16,5 @@ pub const SCRATCH: u32 = 13;
 pub const TABLE: u32 = 15;
 pub const ROW: u32 = 16;
 pub const BUFFER: u32 = 17;
+pub const CAPTURE: u32 = 19;
+pub const ANSWERS: u32 = 20;

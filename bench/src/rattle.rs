@@ -37,6 +37,14 @@ mod raw {
             long: usize,
         ) -> u32;
         pub fn speed_hidden(table: *mut u32, words: usize) -> usize;
+        pub fn speed_capture(
+            table: *const u32,
+            words: usize,
+            packets: *const u32,
+            values: usize,
+            answers: *mut u32,
+            room: usize,
+        ) -> usize;
     }
 }
 
@@ -100,4 +108,17 @@ pub fn number(table: &[u32], priorities: &mut [u32], chain: &mut [u32]) -> u32 {
 
 pub fn hidden(table: &mut [u32]) -> usize {
     unsafe { raw::speed_hidden(table.as_mut_ptr(), table.len()) }
+}
+
+pub fn capture(table: &[u32], packets: &[u32], answers: &mut [u32]) -> usize {
+    unsafe {
+        raw::speed_capture(
+            table.as_ptr(),
+            table.len(),
+            packets.as_ptr(),
+            packets.len(),
+            answers.as_mut_ptr(),
+            answers.len(),
+        )
+    }
 }

@@ -1,7 +1,7 @@
 //! The check of a table and the scan.
 
 use crate::action::{Action, right_action, row_action};
-use crate::flow::{Row, is_empty, meets, right_match, right_packet};
+use crate::flow::{Packet, Row, is_empty, meets, right_match, right_packet};
 use crate::numbers;
 
 pub const MOST_ROWS: usize = 4096;
@@ -25,10 +25,15 @@ pub fn check(table: &[u32]) -> Result<&[Row], Wrong> {
 pub fn scan(table: &[u32], packet: &[u32]) -> Result<(Action, usize), Wrong> {
     let packet = right_packet(packet).ok_or((numbers::PACKET, 0))?;
     let rows = check(table)?;
-    Ok(match rows.iter().position(|row| meets(row, packet)) {
+    Ok(match first_match(rows, packet) {
         Some(place) => (row_action(&rows[place]), place + 1),
         None => (Action::DontCare, rows.len()),
     })
+}
+
+#[inline(always)]
+pub fn first_match(rows: &[Row], packet: &Packet) -> Option<usize> {
+    rows.iter().position(|row| meets(row, packet))
 }
 
 fn right_row(row: &Row) -> bool {

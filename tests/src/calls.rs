@@ -56,13 +56,18 @@ pub enum Call {
     Hidden {
         table: Vec<u32>,
     },
+    Capture {
+        table: Vec<u32>,
+        packets: Vec<u32>,
+        answers: Vec<u32>,
+    },
 }
 
 /// Names of the functions, by call code less 1.
 pub const NAMES: [&str; FUNCTIONS] = [
-    "read", "action", "compile", "scan", "number", "listing", "hidden",
+    "read", "action", "compile", "scan", "number", "listing", "hidden", "capture",
 ];
-pub const FUNCTIONS: usize = 7;
+pub const FUNCTIONS: usize = 8;
 
 impl Call {
     pub fn code(&self) -> u32 {
@@ -74,6 +79,7 @@ impl Call {
             Call::Number { .. } => 5,
             Call::Listing { .. } => 6,
             Call::Hidden { .. } => 7,
+            Call::Capture { .. } => 8,
         }
     }
 
@@ -102,6 +108,11 @@ impl Call {
                 &[]
             }
             Call::Hidden { table } => &[table],
+            Call::Capture {
+                table,
+                packets,
+                answers,
+            } => &[table, packets, answers],
         };
         for slice in slices {
             words.push(slice.len() as u32);
@@ -140,6 +151,11 @@ impl Call {
             7 => Call::Hidden {
                 table: take_slice(words)?,
             },
+            8 => Call::Capture {
+                table: take_slice(words)?,
+                packets: take_slice(words)?,
+                answers: take_slice(words)?,
+            },
             _ => return None,
         })
     }
@@ -156,6 +172,7 @@ impl Call {
             } => PLACED_WORDS + 1 + priorities.len() + chain.len(),
             Call::Listing { .. } => 1 + (*words.first()? as usize).div_ceil(WORD_BYTES),
             Call::Hidden { table } => ROWS_AT + table.len(),
+            Call::Capture { answers, .. } => PLACED_WORDS + answers.len(),
         };
         take(words, length).map(<[u32]>::to_vec)
     }

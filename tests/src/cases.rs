@@ -2,6 +2,7 @@
 
 use crate::calls::{to_bytes, Call, MOST_INPUT_BYTES, WORD_BYTES};
 use crate::damage::{damaged, spoil_packet};
+use crate::model::capture::MOST_PACKETS;
 use crate::model::edition::{DEEPEST, MOST_ATOMS, MOST_NODES, MOST_OPERATORS, NEWEST, ROW_WORDS};
 use crate::model::file::Policy;
 use crate::model::listing::{MOST_BYTES, ROOM};
@@ -16,7 +17,7 @@ use crate::world::World;
 const MOST_FILE_WORDS: usize = MOST_INPUT_BYTES / WORD_BYTES;
 
 /// Kinds of cases at large sizes.
-pub const BIG_KINDS: usize = 15;
+pub const BIG_KINDS: usize = 17;
 
 pub struct Maker<'a> {
     pub random: Random,
@@ -27,7 +28,7 @@ impl Maker<'_> {
     pub fn small(&mut self) -> Call {
         let world = World::tiny(&mut self.random);
         let size = Size::small(&mut self.random);
-        match self.random.below(100) {
+        match self.random.below(110) {
             0..=25 => Call::Read {
                 file: self.file(&world, size, 60),
             },
@@ -42,9 +43,14 @@ impl Maker<'_> {
                 self.number(&world, rows)
             }
             80..=90 => self.listing(&world, size),
-            _ => {
+            91..=99 => {
                 let rows = self.random.within(0, 24);
                 self.hidden(&world, rows)
+            }
+            _ => {
+                let rows = self.random.within(0, 12);
+                let packets = self.random.within(0, 9);
+                self.capture(&world, rows, packets)
             }
         }
     }
@@ -88,7 +94,22 @@ impl Maker<'_> {
             11 => self.listing(&wide, big),
             12 => self.listing(&tiny, middling),
             13 => self.listing_to_the_edge(),
-            _ => self.long_listing(&wide),
+            14 => self.long_listing(&wide),
+            15 => {
+                let [under, most, over] = [MOST_PACKETS - 1, MOST_PACKETS, MOST_PACKETS + 1];
+                let packets = self.random.pick(&[under, most, most, most, over]);
+                let rows = self.random.pick(&[0, 1, 12, 60]);
+                self.capture(&tiny, rows, packets)
+            }
+            _ => {
+                let near = [MOST_ROWS - 1, MOST_ROWS, MOST_ROWS, MOST_ROWS + 1];
+                let rows = self.random.pick(&near);
+                let packets = match self.random.below(8) {
+                    0 => MOST_PACKETS,
+                    _ => self.random.within(0, 40),
+                };
+                self.capture(&wide, rows, packets)
+            }
         }
     }
 

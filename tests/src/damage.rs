@@ -236,22 +236,35 @@ fn odd_word(random: &mut Random, old: u32) -> u32 {
 /// The words of a packet of a wrong length or with a value at or over its limit.
 pub fn spoil_packet(random: &mut Random, packet: &Packet) -> Vec<u32> {
     let words = packet.words(NEWEST);
-    let mut packet = *packet;
     match random.below(4) {
-        0 => return words[..random.below(PACKET_WORDS)].to_vec(),
-        1 => return [words, vec![0; random.within(1, 2)]].concat(),
-        2 => {
-            let near = [MOST_PROTOCOL, MOST_PROTOCOL + 1, MOST_PORT, u32::MAX];
-            packet.protocol = random.pick(&near);
-        }
-        _ => {
-            let port = random.pick(&[MOST_PORT, MOST_PORT + 1, 1 << 31, u32::MAX]);
-            match random.below(3) {
-                0 => packet.in_port = port,
-                1 => packet.source_port = port,
-                _ => packet.destination_port = port,
-            }
-        }
+        0 => words[..random.below(PACKET_WORDS)].to_vec(),
+        1 => [words, vec![0; random.within(1, 2)]].concat(),
+        _ => spoil_value(random, packet).words(NEWEST),
     }
-    packet.words(NEWEST)
+}
+
+/// The packet with one value, which may be its last word, at or over its limit.
+pub fn spoil_value(random: &mut Random, packet: &Packet) -> Packet {
+    let mut packet = *packet;
+    if random.percent(50) {
+        let near = [MOST_PROTOCOL, MOST_PROTOCOL + 1, MOST_PORT, u32::MAX];
+        packet.protocol = random.pick(&near);
+        return packet;
+    }
+    let port = random.pick(&[MOST_PORT, MOST_PORT + 1, 1 << 31, u32::MAX]);
+    match random.below(3) {
+        0 => packet.in_port = port,
+        1 => packet.source_port = port,
+        _ => packet.destination_port = port,
+    }
+    packet
+}
+
+/// Any of so many places, the first and the last more often.
+pub fn some_place(random: &mut Random, places: usize) -> usize {
+    match random.below(6) {
+        0 => 0,
+        1 | 2 => places - 1,
+        _ => random.below(places),
+    }
 }

@@ -2,6 +2,7 @@
 //! `answers`, which takes calls as words and gives answers as words.
 
 mod calls;
+mod captures;
 mod cases;
 mod damage;
 mod known;
@@ -39,7 +40,7 @@ second --answers [--spoil N]                         answer calls by the model";
 
 /// Seeds of every run; a fresh one is added.
 const SEEDS: [u64; 2] = [1, 2];
-const CASES: usize = 210_000;
+const CASES: usize = 231_000;
 
 struct Options {
     program: Option<PathBuf>,

@@ -2,8 +2,10 @@
 //! meets, which rows overlap or hide others, or how long a chain is.
 
 use crate::calls::{Call, PLACED_WORDS, REFUSAL_WORDS, ROWS_AT, TRIED_AT};
+use crate::captures::{captures_hold, faults_in_order};
 use crate::cases::Maker;
 use crate::model::action::DONT_CARE;
+use crate::model::capture::FOUND_WORDS;
 use crate::model::edition::{DEEPEST, MOST_OPERATORS, NEWEST, ROW_WORDS};
 use crate::model::fields::Packet;
 use crate::model::numbers::WRONG_ROW;
@@ -39,10 +41,17 @@ pub fn check(
     scans_agree(program, &mut maker.random, &subjects, tally)?;
     numberings_hold(program, &subjects, tally)?;
     passes_hold(program, &subjects, tally)?;
+    captures_hold(program, &mut maker.random, &subjects, tally)?;
+    faults_in_order(program, &mut maker.random, &subjects, tally)?;
     contradictions_refused(program, &mut maker.random, &subjects[policies..], tally)
 }
 
-fn ask(program: &Program, calls: &[Call], tally: &mut Tally) -> Result<Vec<Vec<u32>>, Difference> {
+/// The answers of the program under test, which are the model's too.
+pub fn ask(
+    program: &Program,
+    calls: &[Call],
+    tally: &mut Tally,
+) -> Result<Vec<Vec<u32>>, Difference> {
     let answers = program.check(calls)?;
     for (call, answer) in calls.iter().zip(&answers) {
         tally.add(call, answer);
@@ -259,7 +268,7 @@ fn passes_hold(
     Ok(())
 }
 
-/// Tables of which one row, the first, the last or any, contradicts itself. The three
+/// Tables of which one row, the first, the last or any, contradicts itself. The four
 /// functions that read a table take turns.
 fn contradictions_refused(
     program: &Program,
@@ -278,17 +287,20 @@ fn contradictions_refused(
         let place = [0, last, random.within(0, last)][random.below(3)];
         rows[place] = contradicted(random, &rows[place]);
         let table = table_words(&rows);
-        calls.push(match calls.len() % 3 {
-            0 => Call::Scan {
-                table,
-                packet: subject.world.packet(random).words(NEWEST),
-            },
+        let packet = subject.world.packet(random).words(NEWEST);
+        calls.push(match calls.len() % 4 {
+            0 => Call::Scan { table, packet },
             1 => Call::Number {
                 table,
                 priorities: vec![0; rows.len()],
                 chain: vec![0; rows.len()],
             },
-            _ => Call::Hidden { table },
+            2 => Call::Hidden { table },
+            _ => Call::Capture {
+                table,
+                packets: packet,
+                answers: vec![0; FOUND_WORDS],
+            },
         });
         places.push(place as u32);
     }
@@ -302,7 +314,7 @@ fn contradictions_refused(
     Ok(())
 }
 
-fn broken(call: Call, what: &str) -> Difference {
+pub fn broken(call: Call, what: &str) -> Difference {
     let report = format!("property broken: {what}");
     Difference {
         calls: vec![call],

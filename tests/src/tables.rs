@@ -1,10 +1,12 @@
-//! Cases about tables: scans and numberings of right and damaged ones, and hidden
-//! rows out of them.
+//! Cases about tables: scans, captures and numberings of right and damaged ones, and
+//! hidden rows out of them.
 
 use crate::calls::Call;
 use crate::cases::Maker;
-use crate::damage::spoil_row;
-use crate::model::edition::{NEWEST, ROW_WORDS};
+use crate::damage::{some_place, spoil_row, spoil_value};
+use crate::model::capture::FOUND_WORDS;
+use crate::model::edition::{NEWEST, PACKET_WORDS, ROW_WORDS};
+use crate::model::fields::Packet;
 use crate::model::record::RawRow;
 use crate::ports::contradicted;
 use crate::world::World;
@@ -12,6 +14,12 @@ use crate::world::World;
 /// The words of a table.
 pub fn table_words(rows: &[RawRow]) -> Vec<u32> {
     rows.iter().flat_map(|row| row.words(NEWEST)).collect()
+}
+
+/// The words of packets, one behind the other.
+pub fn packet_words(packets: &[Packet]) -> Vec<u32> {
+    let words = |packet: &Packet| packet.words(NEWEST);
+    packets.iter().flat_map(words).collect()
 }
 
 impl Maker<'_> {
@@ -51,12 +59,8 @@ impl Maker<'_> {
             return;
         }
         for _ in 0..self.random.within(1, 2) {
-            let row = match self.random.below(6) {
-                0 => 0,
-                1 | 2 => rows.len() - 1,
-                _ => self.random.below(rows.len()),
-            };
-            let row = &mut rows[row];
+            let place = some_place(&mut self.random, rows.len());
+            let row = &mut rows[place];
             match self.random.below(8) {
                 0 => *row = row.emptied(),
                 1 | 2 => *row = contradicted(&mut self.random, row),
@@ -70,6 +74,51 @@ impl Maker<'_> {
             table: self.table(world, rows),
             packet: self.packet(world, 90),
         }
+    }
+
+    /// So many packets, of which some meet the rows of a table of so many.
+    pub fn capture(&mut self, world: &World, rows: usize, packets: usize) -> Call {
+        let rows = world.rows(&mut self.random, rows);
+        let packets: Vec<Packet> = (0..packets)
+            .map(|_| world.packet_near(&mut self.random, &rows))
+            .collect();
+        let answers = self.answers(packets.len());
+        Call::Capture {
+            table: self.lent(rows),
+            packets: self.lent_packets(packets),
+            answers,
+        }
+    }
+
+    /// The words of these packets, damaged once in five times.
+    fn lent_packets(&mut self, mut packets: Vec<Packet>) -> Vec<u32> {
+        if !packets.is_empty() && self.random.percent(15) {
+            for _ in 0..self.random.within(1, 2) {
+                let place = some_place(&mut self.random, packets.len());
+                packets[place] = spoil_value(&mut self.random, &packets[place]);
+            }
+        }
+        let mut words = packet_words(&packets);
+        if self.random.percent(5) {
+            words.extend(vec![0; self.random.within(1, PACKET_WORDS - 1)]);
+        } else if self.random.percent(3) {
+            words.pop();
+        }
+        words
+    }
+
+    /// An answer buffer for so many packets: exact, longer, or too short by a word, by
+    /// a third, by two thirds or anyhow.
+    fn answers(&mut self, packets: usize) -> Vec<u32> {
+        let needed = FOUND_WORDS * packets;
+        let words = match self.random.below(12) {
+            0..=4 => needed,
+            5..=7 => needed + self.random.within(1, 2 * FOUND_WORDS),
+            8 | 9 => needed.saturating_sub(1),
+            10 => packets * self.random.within(1, FOUND_WORDS - 1),
+            _ => self.random.within(0, needed),
+        };
+        self.random.words(words)
     }
 
     pub fn number(&mut self, world: &World, rows: usize) -> Call {

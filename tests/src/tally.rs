@@ -7,23 +7,27 @@ use crate::calls::{
     REFUSAL_WORDS, TRIED_AT,
 };
 use crate::model::action::DONT_CARE;
-use crate::model::edition::{NEWEST, ROW_WORDS};
-use crate::model::numbers::{BROKEN_LAW, NOT_A_TABLE, REFUSALS, WRONG_ROW};
+use crate::model::capture::FOUND_WORDS;
+use crate::model::edition::{NEWEST, PACKET_WORDS, ROW_WORDS};
+use crate::model::numbers::{BROKEN_LAW, NOT_A_TABLE, REFUSALS, WRONG_PACKET, WRONG_ROW};
 use crate::model::record::RawRow;
 use crate::ports::{contradictory_atoms, contradicts};
 use crate::sums::{sums_shown, SUMS};
 
-/// Every refusal must be met this often; the two of a table by each function that
-/// reads one. So must matches that contradict themselves: in atoms, in rows by each of
-/// these functions, and in rows at each kind of place; and each kind of sums.
+/// Every refusal must be met this often; the two of a table, and that of a packet, by
+/// each function that reads one. So must matches that contradict themselves: in atoms,
+/// in rows by each of these functions, and in rows at each kind of place; each kind of
+/// sums; and captures whose packets have different answers, and whose first wrong
+/// packet is at each kind of place.
 const LEAST: usize = 100;
 const OF_TABLES: [usize; 2] = [NOT_A_TABLE as usize, WRONG_ROW as usize];
-const READ_TABLES: [&str; 3] = ["scan", "number", "hidden"];
+const READ_TABLES: [&str; 4] = ["scan", "number", "hidden", "capture"];
+const READ_PACKETS: [&str; 3] = ["action", "scan", "capture"];
 /// The last number.
 const NUMBERS: usize = REFUSALS[REFUSALS.len() - 1] as usize;
 /// No law, commutativity and associativity.
 const LAWS: usize = 3;
-/// Kinds of places in a table.
+/// Kinds of places in a table or a capture.
 const PLACES: [&str; 3] = ["first", "last", "between"];
 
 #[derive(Default)]
@@ -47,6 +51,10 @@ pub struct Tally {
     contradictory_rows: [[usize; PLACES.len()]; FUNCTIONS],
     /// Tree's actions that rest on a sum of this kind.
     sums: [usize; SUMS.len()],
+    /// Captures with different answers, and refused ones by the kind of the wrong
+    /// packet's place.
+    different_answers: usize,
+    wrong_packets: [usize; PLACES.len()],
     pub properties: usize,
 }
 
@@ -69,6 +77,10 @@ impl Tally {
                 self.contradictory_rows[function][kind] += 1;
             }
         }
+        if let (WRONG_PACKET, Call::Capture { packets, .. }) = (number as u32, call) {
+            let kind = kind_of_place(place as usize, packets.len() / PACKET_WORDS);
+            self.wrong_packets[kind] += 1;
+        }
         if number == 0 {
             self.contradictory_atoms += atoms_that_contradict(call);
             let size = size(call, answer);
@@ -86,6 +98,12 @@ impl Tally {
                 Call::Hidden { table } => {
                     self.stayed += size;
                     self.went += table.len() / ROW_WORDS - size;
+                }
+                Call::Capture { .. } => {
+                    let mut found = answer[PLACED_WORDS..].chunks(FOUND_WORDS).take(size);
+                    let first = found.next();
+                    let different = found.any(|found| Some(found) != first);
+                    self.different_answers += usize::from(different);
                 }
                 _ => {}
             }
@@ -112,6 +130,10 @@ impl Tally {
         for (sums, more) in self.sums.iter_mut().zip(other.sums) {
             *sums += more;
         }
+        for (wrong, more) in self.wrong_packets.iter_mut().zip(other.wrong_packets) {
+            *wrong += more;
+        }
+        self.different_answers += other.different_answers;
         self.most_priorities = self.most_priorities.max(other.most_priorities);
         self.stayed += other.stayed;
         self.went += other.went;
@@ -129,7 +151,7 @@ impl Tally {
     }
 
     /// What was met too seldom to say that it was tested: refusals by their numbers,
-    /// matches that contradict themselves, and sums.
+    /// matches that contradict themselves, sums, and captures.
     pub fn too_seldom(&self) -> Vec<String> {
         let seldom = REFUSALS
             .into_iter()
@@ -140,6 +162,9 @@ impl Tally {
                 if READ_TABLES.contains(name) && numbers[number] < LEAST {
                     seldom.push(format!("{number} of {name}"));
                 }
+            }
+            if READ_PACKETS.contains(name) && numbers[WRONG_PACKET as usize] < LEAST {
+                seldom.push(format!("{WRONG_PACKET} of {name}"));
             }
         }
         if self.contradictory_atoms < LEAST {
@@ -161,6 +186,14 @@ impl Tally {
                 seldom.push(format!("sums {kind}"));
             }
         }
+        if self.different_answers < LEAST {
+            seldom.push("captures with different answers".to_string());
+        }
+        for (place, wrong) in PLACES.iter().zip(&self.wrong_packets) {
+            if *wrong < LEAST {
+                seldom.push(format!("wrong packets of captures, {place}"));
+            }
+        }
         seldom
     }
 
@@ -177,7 +210,7 @@ impl Tally {
                 self.largest[function]
             );
         }
-        text += "(size: rows made, tried, numbered, listed or kept; atoms read; an action that cares)\n";
+        text += "(size: rows made, tried, numbered, listed or kept; atoms read; an action that cares; packets)\n";
         text += "refusal    times  different places";
         text += &NAMES.map(|name| format!(" {name:>8}")).concat();
         text += "\n";
@@ -198,20 +231,27 @@ impl Tally {
         text += &format!("contradictory atoms: {}\n", self.contradictory_atoms);
         for (name, places) in NAMES.iter().zip(&self.contradictory_rows) {
             if READ_TABLES.contains(name) {
-                let places = PLACES.iter().zip(places);
-                let times = places.map(|(place, times)| format!(" {times} {place}"));
-                let times: Vec<String> = times.collect();
-                text += &format!("contradictory rows of {name}:{}\n", times.join(","));
+                text += &format!("contradictory rows of {name}:{}\n", times(&PLACES, places));
             }
         }
-        let sums = SUMS.iter().zip(&self.sums);
-        let times: Vec<String> = sums
-            .map(|(kind, times)| format!(" {times} {kind}"))
-            .collect();
-        text += &format!("tree's actions that rest on a sum:{}\n", times.join(","));
+        let sums = times(&SUMS, &self.sums);
+        text += &format!("tree's actions that rest on a sum:{sums}\n");
+        let wrong = times(&PLACES, &self.wrong_packets);
+        text += &format!("wrong packets of captures:{wrong}\n");
+        let different = self.different_answers;
+        text += &format!("captures with different answers: {different}\n");
         text += &format!("{} properties checked\n", self.properties);
         text
     }
+}
+
+/// How often each kind was met.
+fn times(kinds: &[&str], times: &[usize]) -> String {
+    let times = kinds.iter().zip(times);
+    let times: Vec<String> = times
+        .map(|(kind, times)| format!(" {times} {kind}"))
+        .collect();
+    times.join(",")
 }
 
 /// Atoms that contradict themselves in the right file of a call that has one.
@@ -227,9 +267,10 @@ fn atoms_that_contradict(call: &Call) -> usize {
 
 fn lent_table(call: &Call) -> Option<&[u32]> {
     match call {
-        Call::Scan { table, .. } | Call::Number { table, .. } | Call::Hidden { table } => {
-            Some(table)
-        }
+        Call::Scan { table, .. }
+        | Call::Number { table, .. }
+        | Call::Hidden { table }
+        | Call::Capture { table, .. } => Some(table),
         _ => None,
     }
 }
@@ -238,12 +279,16 @@ fn lent_table(call: &Call) -> Option<&[u32]> {
 fn contradictory_place(table: &[u32], place: usize) -> Option<usize> {
     let rows: Vec<&[u32]> = table.chunks(ROW_WORDS).collect();
     let row = RawRow::from_words(rows.get(place)?, NEWEST);
-    let kind = match place {
+    contradicts(&row).then_some(kind_of_place(place, rows.len()))
+}
+
+/// The first, the last, or one between.
+fn kind_of_place(place: usize, places: usize) -> usize {
+    match place {
         0 => 0,
-        _ if place + 1 == rows.len() => 1,
+        _ if place + 1 == places => 1,
         _ => 2,
-    };
-    contradicts(&row).then_some(kind)
+    }
 }
 
 /// A listing's refusal is read from its text.
@@ -260,8 +305,8 @@ fn number_and_place(call: &Call, answer: &[u32]) -> (u32, u32) {
     (number(), number())
 }
 
-/// The size of a success: rows made, tried, numbered, listed or kept, atoms read. For
-/// the tree's action 1 or 0, whether it is anything but don't care.
+/// The size of a success: rows made, tried, numbered, listed or kept, atoms read, packets.
+/// For the tree's action 1 or 0, whether it is anything but don't care.
 fn size(call: &Call, answer: &[u32]) -> usize {
     match call {
         Call::Read { .. } => answer[ATOMS_AT] as usize,
@@ -271,5 +316,6 @@ fn size(call: &Call, answer: &[u32]) -> usize {
         Call::Number { table, .. } => table.len() / ROW_WORDS,
         Call::Listing { .. } => text_of_answer(answer).lines().count() - 1,
         Call::Hidden { .. } => answer[PLACED_WORDS] as usize,
+        Call::Capture { packets, .. } => packets.len() / PACKET_WORDS,
     }
 }

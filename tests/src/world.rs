@@ -9,7 +9,8 @@ use crate::model::fields::{
 use crate::model::matches::{Match, Prefix, WORD_BITS};
 use crate::model::record::RawRow;
 use crate::model::rows::Row;
-use crate::ports::{contradicted, reconciled, WITHOUT_PORTS};
+use crate::numberings::lengths;
+use crate::ports::{constrains_port, contradicted, reconciled, WITHOUT_PORTS};
 use crate::random::Random;
 use crate::sums::{lacking, NEAR_THE_CAP};
 
@@ -187,6 +188,33 @@ impl World {
             Kind::Number { most, .. } => random.word() % (most + 1),
         };
         packet.with(place, value)
+    }
+
+    /// A right packet of the world's values, or one that meets one of the rows.
+    pub fn packet_near(&self, random: &mut Random, rows: &[RawRow]) -> Packet {
+        if rows.is_empty() || random.percent(50) {
+            return self.packet(random);
+        }
+        let row = random.pick(rows);
+        self.packet_of(random, &row)
+    }
+
+    /// A right packet that meets this right row; what the row leaves open is as in any.
+    fn packet_of(&self, random: &mut Random, row: &RawRow) -> Packet {
+        let mut packet = self.packet(random);
+        for (place, kind) in KINDS.list().into_iter().enumerate() {
+            let (wanted, any) = (*row.values.list()[place], *packet.list()[place]);
+            let value = match *kind {
+                Kind::Number { flag, .. } if row.flags & flag == 0 => any,
+                Kind::Number { .. } => wanted,
+                Kind::Address => wanted | any ^ cut(any, *lengths(row).list()[place]),
+            };
+            packet = packet.with(place, value);
+        }
+        if constrains_port(row) && !WITH_PORTS.contains(&packet.protocol) {
+            packet.protocol = random.pick(&WITH_PORTS);
+        }
+        packet
     }
 
     /// Every packet of the world's values. Two rows of a tiny world overlap

@@ -7,8 +7,8 @@ use Rattle.words.specs.Bytes.{word_bytes, word_of, words_in, bytes_of}
 use Rattle.words.specs.Theorems.{EveryByte}
 use Rattle.words.proofs.Bytes.{length-bytes, length-words, words-read, bytes-of, bytes_read}
 use Rattle.calls.specs.Sent.{most_words, most_bytes, slice_bytes, padding, counted}
-use Rattle.calls.specs.Calls.{Call, read, tree_action, compile, scan, number, list, hidden, Within, Sent, IsCall}
-use Rattle.calls.specs.Calls.{read_call, tree_action_call, compile_call, scan_call, number_call, list_call, hidden_call}
+use Rattle.calls.specs.Calls.{Call, read, tree_action, compile, scan, number, list, hidden, capture, Within, Sent, IsCall}
+use Rattle.calls.specs.Calls.{read_call, tree_action_call, compile_call, scan_call, number_call, list_call, hidden_call, capture_call}
 use Rattle.calls.specs.Taken.{found, then_in, bytes_in, word_in, at_most, count_in, slice_in, two_in, three_in, text_in, body_in, call_in}
 use Rattle.calls.specs.Theorems.{CallFound, FoundCall}
 
@@ -230,6 +230,9 @@ call_found (list b) s rest c =
     sent list_call s (counted (length b) b c.sent.0) rest c.sent.2
     ∙ ap (found (λ x. list x)) (text-found b c.sent.0 rest c.within c.sent.1)
 call_found (hidden t) s rest c = sent hidden_call s (slice_bytes t) rest c.sent ∙ ap (found (λ x. hidden x)) (slice-found t rest c.within)
+call_found (capture t ps xs) s rest c =
+    sent capture_call s ((slice_bytes t ++ slice_bytes ps) ++ slice_bytes xs) rest c.sent
+    ∙ ap (found (λ x. capture x.0 x.1 x.2)) (three-found t ps xs rest c.within.0 c.within.1 c.within.2)
 
 -- and what was found was sent
 Called : (b rest : List ℕ) → Call → Type 0
@@ -285,7 +288,13 @@ by_number b rest call n mid w e =
     let r = found_of (λ x. hidden x) (slice_in mid) call rest d in
     let s = found_slice mid r.0 rest h r.1 in
     called n hidden_call b mid rest call (hidden r.0) (slice_bytes r.0) t w s.0.parts r.2 s.1 refl)
-    (λ _ e. absurd (none-some call (halves _ _ e).0))))))))
+    (λ _ e. chosen (eqb n capture_call) _ _ _ e
+    (λ t d.
+    let r = found_of (λ x. capture x.0 x.1 x.2) (three_in mid) call rest d in
+    let s = found_three mid rest r.0 h r.1 in
+    called n capture_call b mid rest call (capture r.0.0 r.0.1 r.0.2) ((slice_bytes r.0.0 ++ slice_bytes r.0.1) ++ slice_bytes r.0.2) t w s.0.parts r.2
+    (s.1, s.2, s.3) refl)
+    (λ _ e. absurd (none-some call (halves _ _ e).0)))))))))
 
 pub found_call : FoundCall
 unfolding call_in Called

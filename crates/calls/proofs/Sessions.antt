@@ -3,8 +3,8 @@ use Rattle.std.proofs.Common.{◌≡◌, refl, sym, ap, ◌∙◌, arith, ℕ, z
 use Rattle.std.specs.declared.option.Option.{Option}
 use Rattle.words.specs.Bytes.{word_bytes, word_of, words_in}
 use Rattle.calls.specs.Sent.{most_words, most_bytes, padding}
-use Rattle.calls.specs.Calls.{Call, read, tree_action, compile, scan, number, list, hidden, reply_of}
-use Rattle.calls.specs.Calls.{read_call, tree_action_call, compile_call, scan_call, number_call, list_call, hidden_call}
+use Rattle.calls.specs.Calls.{Call, read, tree_action, compile, scan, number, list, hidden, capture, reply_of}
+use Rattle.calls.specs.Calls.{read_call, tree_action_call, compile_call, scan_call, number_call, list_call, hidden_call, capture_call}
 use Rattle.calls.specs.Taken.{found, then_in, bytes_in, word_in, at_most, count_in, slice_in, two_in, three_in, text_in, body_in, call_in}
 use Rattle.calls.specs.Session.{replies_then, session_up_to, session}
 use Rattle.calls.specs.Theorems.{CallShorter, SessionStep}
@@ -102,7 +102,8 @@ body-shorter n =
     (either-shorter (eqb n scan_call) _ _ (found-shorter 0 (λ s. scan s.0 s.1) two_in two-shorter)
     (either-shorter (eqb n number_call) _ _ (found-shorter 0 (λ s. number s.0 s.1 s.2) three_in three-shorter)
     (either-shorter (eqb n list_call) _ _ (found-shorter 0 (λ t. list t) text_in text-shorter)
-    (either-shorter (eqb n hidden_call) _ _ (found-shorter 0 (λ t. hidden t) slice_in slice-shorter) (none-shorter Call)))))))
+    (either-shorter (eqb n hidden_call) _ _ (found-shorter 0 (λ t. hidden t) slice_in slice-shorter)
+    (either-shorter (eqb n capture_call) _ _ (found-shorter 0 (λ s. capture s.0 s.1 s.2) three_in three-shorter) (none-shorter Call))))))))
 
 pub call-shorter : CallShorter
 unfolding call_in Shorter

@@ -2,7 +2,7 @@
 --
 --   Call                       a call, with the slices that it brings
 --   Within c                   its slices are no longer than is taken
---   read_call .. hidden_call   the number that each call begins with
+--   read_call .. capture_call  the number that each call begins with
 --   Sent c s                   the bytes s are the call c: its number, and its slices
 --   IsCall c s                 the same of a call that is within
 --   reply_of c                 the bytes that a call is answered
@@ -10,7 +10,8 @@ use Rattle.std.specs.Prelude.{ℕ, ◌≡◌, ◌≤◌, List, ◌++◌, length}
 use Rattle.words.specs.Bytes.{bytes_of}
 use Rattle.calls.specs.Sent.{most_words, most_bytes, slice_bytes, padding, counted}
 use Rattle.text.specs.Listing.{listing_of}
-use Rattle.calls.specs.Replies.{read_reply, action_reply, compile_reply, scan_reply, number_reply, hidden_reply, text_reply}
+use Rattle.calls.specs.Replies.{read_reply, action_reply, compile_reply, scan_reply, number_reply, hidden_reply}
+use Rattle.calls.specs.Replies.{capture_reply, text_reply}
 
 -- a call, with the slices that it brings: those of words, and of a listing its bytes
 pub data Call : Type 0 where
@@ -21,6 +22,7 @@ pub data Call : Type 0 where
   number : (table priorities chain : List ℕ) → Call
   list : (file : List ℕ) → Call
   hidden : (table : List ℕ) → Call
+  capture : (table packets answers : List ℕ) → Call
 
 -- its slices are no longer than is taken
 abbrev pub Within : Call → Type 0
@@ -31,6 +33,7 @@ Within (scan t p) = (length t ≤ most_words) × (length p ≤ most_words)
 Within (number t ps cs) = (length t ≤ most_words) × (length ps ≤ most_words) × (length cs ≤ most_words)
 Within (list b) = length b ≤ most_bytes
 Within (hidden t) = length t ≤ most_words
+Within (capture t ps xs) = (length t ≤ most_words) × (length ps ≤ most_words) × (length xs ≤ most_words)
 
 -- the number that each call begins with
 abbrev pub read_call : ℕ
@@ -54,6 +57,9 @@ list_call = 6
 abbrev pub hidden_call : ℕ
 hidden_call = 7
 
+abbrev pub capture_call : ℕ
+capture_call = 8
+
 -- each call begins with its number
 abbrev pub Sent : Call → List ℕ → Type 0
 Sent (read f) s = s ≡ bytes_of read_call ++ slice_bytes f
@@ -64,6 +70,7 @@ Sent (number t ps cs) s = s ≡ bytes_of number_call ++ ((slice_bytes t ++ slice
 Sent (list b) s =
     (pad : List ℕ) × (length pad ≡ padding (length b)) × (s ≡ bytes_of list_call ++ counted (length b) b pad)
 Sent (hidden t) s = s ≡ bytes_of hidden_call ++ slice_bytes t
+Sent (capture t ps xs) s = s ≡ bytes_of capture_call ++ ((slice_bytes t ++ slice_bytes ps) ++ slice_bytes xs)
 
 -- the bytes are that call, which is within
 pub record IsCall (call : Call) (bytes : List ℕ) : Type 0 where
@@ -79,3 +86,4 @@ reply_of (scan t p) = scan_reply t p
 reply_of (number t ps cs) = number_reply t ps cs
 reply_of (list b) = text_reply (listing_of b)
 reply_of (hidden t) = hidden_reply t
+reply_of (capture t ps xs) = capture_reply t ps xs

@@ -12,9 +12,9 @@
 --   layout_words, action_words, found_words, row_count_words
 --                         the words of each function's value
 --   answer_words          the words of an answer: a refusal's, and then a value's
---   reading_words, evaluated_words, compiled_words, scanned_words, numbered_words, kept_words
+--   reading_words, evaluated_words, compiled_words, scanned_words, numbered_words, kept_words, captured_words
 --                         the words of each function's answer, before the buffers
---   read_reply, action_reply, compile_reply, scan_reply, number_reply, hidden_reply, text_reply
+--   read_reply, action_reply, compile_reply, scan_reply, number_reply, hidden_reply, capture_reply, text_reply
 --                         the bytes that each call is answered, with every buffer that was lent for writing
 use Rattle.std.specs.Prelude.{ℕ, ◌+◌, ◌*◌, List, [], ◌∷◌, ◌++◌, Option, Some, None, Result, Ok, Err, length, replicate}
 use Rattle.words.specs.Words.{zeros}
@@ -25,7 +25,7 @@ use Rattle.action.specs.Laws.{actions_of}
 use Rattle.action.specs.declared.Action.{Action}
 use Rattle.action.specs.declared.LawFailure.{LawFailure}
 use Rattle.action.specs.declared.LawFailure.TheVariants.{Commutativity, Associativity}
-use Rattle.refusal.specs.Refusals.{refusal_number, failure_of}
+use Rattle.refusal.specs.Refusals.{refusal_number, failure_of, answer_number, answer_place}
 use Rattle.refusal.specs.declared.Refusal.{Refusal}
 use Rattle.calls.specs.declared.replies.TableRefusal.{TableRefusal}
 use Rattle.policy.specs.Read.{read_of}
@@ -36,6 +36,7 @@ use Rattle.table.specs.Scan.{scan_of}
 use Rattle.table.specs.declared.Found.{Found}
 use Rattle.priority.specs.Numbering.{number_of, priorities_after, chain_after}
 use Rattle.hidden.specs.Hidden.{kept_of, table_kept}
+use Rattle.capture.specs.Capture.{capture_of, answers_after}
 use Rattle.streams.specs.Count.{low}
 use Rattle.calls.specs.Sent.{padding, counted}
 
@@ -136,6 +137,10 @@ numbered_words r = answer_words 1 (λ n. n ∷ []) table_refusal_width table_ref
 abbrev pub kept_words : Result ℕ Refusal → List ℕ
 kept_words r = answer_words 1 row_count_words table_refusal_width table_refusal_words (of_table r)
 
+-- what the scan of a capture answers: number and place, and no count, since the caller knows how many packets there are
+unfoldable pub captured_words : Result ℕ Refusal → List ℕ
+captured_words r = answer_number r ∷ low (answer_place r) ∷ []
+
 -- the reply to reading a file
 abbrev pub read_reply : List ℕ → List ℕ
 read_reply f = flat bytes_of (reading_words (read_of f))
@@ -163,6 +168,11 @@ number_reply t ps cs =
 -- to the pass that takes hidden rows out, with the table after it
 unfoldable pub hidden_reply : List ℕ → List ℕ
 hidden_reply t = flat bytes_of (kept_words (kept_of t)) ++ flat bytes_of (table_kept t)
+
+-- to the scan of a table for each packet of a capture, with the answers' buffer after it
+unfoldable pub capture_reply : List ℕ → List ℕ → List ℕ → List ℕ
+capture_reply t ps xs =
+    flat bytes_of (captured_words (capture_of t ps (length xs))) ++ flat bytes_of (answers_after t ps xs)
 
 -- a text: how many bytes there are, they, and zeros up to a whole word
 abbrev pub text_reply : List ℕ → List ℕ

@@ -11,7 +11,7 @@
 --   slice_in b                a slice of words
 --   two_in, three_in          two slices, and three
 --   text_in b                 bytes: how many there are, they, and what stands behind them up to a whole word
---   read_in .. hidden_in      the call of that name, by what stands behind its number
+--   read_in .. capture_in     the call of that name, by what stands behind its number
 --   body_in n b               the call of a number, by what stands behind the number
 --   call_in b                 a call
 --   TakenFrom o rest taken    what was taken is what is found, and the bytes behind it are left
@@ -24,8 +24,9 @@ use Rattle.words.specs.Bytes.{word_bytes, word_of, words_in}
 use Rattle.streams.specs.declared.input.Input.{Input}
 use Rattle.streams.specs.Input.{read_failure, left}
 use Rattle.calls.specs.Sent.{most_words, most_bytes, padding}
-use Rattle.calls.specs.Calls.{Call, read, tree_action, compile, scan, number, list, hidden, reply_of}
+use Rattle.calls.specs.Calls.{Call, read, tree_action, compile, scan, number, list, hidden, capture, reply_of}
 use Rattle.calls.specs.Calls.{read_call, tree_action_call, compile_call, scan_call, number_call, list_call, hidden_call}
+use Rattle.calls.specs.Calls.{capture_call}
 
 -- what was found, as f has it
 abbrev pub found : {A B : Type 0} → (A → B) → Option A × List ℕ → Option B × List ℕ
@@ -92,6 +93,9 @@ list_in b = found (λ t. list t) (text_in b)
 abbrev pub hidden_in : List ℕ → Option Call × List ℕ
 hidden_in b = found (λ t. hidden t) (slice_in b)
 
+abbrev pub capture_in : List ℕ → Option Call × List ℕ
+capture_in b = found (λ s. capture s.0 s.1 s.2) (three_in b)
+
 -- the call of a number, by what stands behind the number
 unfoldable pub body_in : ℕ → List ℕ → Option Call × List ℕ
 body_in n b =
@@ -102,7 +106,8 @@ body_in n b =
     else (if n == number_call then number_in b
     else (if n == list_call then list_in b
     else (if n == hidden_call then hidden_in b
-    else (None, b)))))))
+    else (if n == capture_call then capture_in b
+    else (None, b))))))))
 
 -- A CALL: its number, then its slices
 unfoldable pub call_in : List ℕ → Option Call × List ℕ

@@ -5,7 +5,9 @@ ghost use Rattle.std.specs.Option.{option_map};
 ghost use Rattle.calls.specs.Taken.{bytes_in, word_in, count_in, slice_in, text_in, Takes};
 
 use crate::put::padding;
-use crate::replies::{Reply, of_table, reply_compile, reply_hidden, reply_list, reply_number};
+use crate::replies::{
+    Reply, of_table, reply_capture, reply_compile, reply_hidden, reply_list, reply_number,
+};
 use std::io::Read;
 use streams::{Input, Sink};
 use words::WORD_BYTES;
@@ -28,7 +30,7 @@ pub struct Room {
 
 impl Room {
     ghost use Rattle.calls.specs.Taken.{two_in, three_in, read_in, tree_action_in, compile_in, scan_in, number_in};
-    ghost use Rattle.calls.specs.Taken.{list_in, hidden_in, call_in, Answers};
+    ghost use Rattle.calls.specs.Taken.{list_in, hidden_in, capture_in, call_in, Answers};
 
     /// One that is blank.
     pub fn new() -> Room {
@@ -57,6 +59,7 @@ impl Room {
             5 => self.answer_number(input, sink),
             6 => self.answer_list(input, sink),
             7 => self.answer_hidden(input, sink),
+            8 => self.answer_capture(input, sink),
             _ => None,
         }
     }
@@ -139,6 +142,22 @@ impl Room {
     {
         let table = self.take_one(input)?;
         reply_hidden(&mut self.first[..table], sink);
+        Some(())
+    }
+
+    #[tactic(auto, using(crate::proofs::Takes::answers_none))]
+    fn answer_capture<R: Read, S: Sink>(&mut self, input: &mut Input<R>, sink: &mut S) -> Option<()>
+        ensures { Answers R.remaining S.gives capture_in input.old input.new sink.old sink.new result }
+    {
+        let (table, packets, answers) = self.take_three(input)?;
+        // As in the compile.
+        let third = &mut self.third[..];
+        reply_capture(
+            &self.first[..table],
+            &self.second[..packets],
+            &mut third[..answers],
+            sink,
+        );
         Some(())
     }
 

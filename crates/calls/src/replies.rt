@@ -1,5 +1,6 @@
-//! Replies as words: number and place, for a policy file the law and three actions too, then the values, then every
-//! buffer that was lent for writing. A success has zeros for its number, a refusal for its values.
+//! Replies as words: number and place, for a policy file the law and three actions too, then the values, of which a
+//! capture has none, then every buffer that was lent for writing. A success has zeros for its number, a refusal for its
+//! values.
 
 ghost use Rattle.std.specs.Prelude.{◌≡◌, List, ℕ, length};
 ghost use Rattle.words.specs.Records.{flat};
@@ -7,15 +8,17 @@ ghost use Rattle.words.specs.Bytes.{bytes_of};
 ghost use Rattle.compile.specs.Compile.{table_after, scratch_after};
 ghost use Rattle.priority.specs.Numbering.{priorities_after, chain_after};
 ghost use Rattle.hidden.specs.Hidden.{table_kept};
+ghost use Rattle.capture.specs.Capture.{answers_after};
 ghost use Rattle.text.specs.Listing.{listing_of};
 ghost use Rattle.calls.specs.Replies.{action_width, failure_width, table_refusal_width, refusal_width};
 ghost use Rattle.calls.specs.Replies.{layout_width, found_width, law_number, action_words, refusal_words};
 ghost use Rattle.calls.specs.Replies.{failure_words, broken_words, table_refusal_words, of_table, layout_words};
-ghost use Rattle.calls.specs.Replies.{found_words, row_count_words, answer_words};
-ghost use Rattle.calls.specs.Replies.{compile_reply, number_reply, hidden_reply, text_reply};
+ghost use Rattle.calls.specs.Replies.{found_words, row_count_words, answer_words, captured_words};
+ghost use Rattle.calls.specs.Replies.{compile_reply, number_reply, hidden_reply, capture_reply, text_reply};
 
 use crate::put::{padding, put_words, put_zeros};
 use action::{Action, ActionWords, LawFailure};
+use capture::scan_capture;
 use compile::compile;
 use hidden::drop_hidden;
 use policy::Layout;
@@ -256,7 +259,18 @@ pub(crate) fn of_table<T: Drop>(answer: Result<T, Refusal>) -> Result<T, TableRe
     answer.map_err(TableRefusal::from)
 }
 
-/// Compiles a policy file; the table and the scratch are put in too. It and the two that follow stay three functions:
+// Puts in the number and place of the answer for a capture: zeros where it is no refusal.
+#[tactic(auto, unfolding(crate::specs::Replies::captured_words))]
+fn put_captured<S: Sink>(answer: Result<usize, Refusal>, sink: &mut S)
+    ensures { S.gives sink.old (flat bytes_of (captured_words answer)) sink.new }
+{
+    match answer {
+        Ok(_) => put_zeros(TableRefusal::WIDTH, sink),
+        Err(refusal) => TableRefusal::from(refusal).reply(sink),
+    }
+}
+
+/// Compiles a policy file; the table and the scratch are put in too. It and the three that follow stay four functions:
 /// each states what its own lent buffers hold.
 #[tactic(auto, unfolding(crate::specs::Replies::compile_reply))]
 pub fn reply_compile<S: Sink>(file: &[u32], table: &mut [u32], scratch: &mut [u32], sink: &mut S)
@@ -290,6 +304,17 @@ pub fn reply_hidden<S: Sink>(table: &mut [u32], sink: &mut S)
 {
     of_table(drop_hidden(table)).reply(sink);
     put_words(table, sink);
+}
+
+/// Scans a table for each packet of a capture; the buffer of what is found is put in too. No count is: the caller knows
+/// how many packets it sent.
+#[tactic(auto, unfolding(crate::specs::Replies::capture_reply))]
+pub fn reply_capture<S: Sink>(table: &[u32], packets: &[u32], answers: &mut [u32], sink: &mut S)
+    ensures answers_after { answers.new ≡ answers_after table.now packets.now answers.old }
+    ensures given { S.gives sink.old (capture_reply table.now packets.now answers.old) sink.new }
+{
+    put_captured(scan_capture(table, packets, answers), sink);
+    put_words(answers, sink);
 }
 
 /// Lists a file. The listing is counted before it is put in, since its length stands before it.

@@ -50,7 +50,7 @@ fn keep_rows(table: &mut [u32]) -> usize
 }
 
 // Whether a match lies inside that of one of some rows. Inlined into its caller, which leaves it fewer registers, it
-// takes up to 1.3 times as long for disjoint rows.
+// takes longer for disjoint rows.
 #[inline(never)]
 fn inside_one(m: Match, rows: &[u32]) -> bool
     ensures { result ≡ inside_one inside m (rows_in rows.now) }

@@ -128,7 +128,7 @@ fn level(table: Table<'_>, levels: &[u32], i: usize, count: u32) -> u32
     let mut best = 0;
     let mut j = i;
     // The level is the larger of best and what row j - 1 and those before it ask for. One test for both ends is one
-    // jump back: as a `for` with a return, or over an iterator of the levels, it took up to 1.3 times as long.
+    // jump back: as a `for` with a return, or over an iterator of the levels, it takes longer.
     while j != 0 && best < count {
         j -= 1;
         best = raised(&rows[j], m, levels[j], best);

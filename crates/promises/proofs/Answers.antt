@@ -76,10 +76,12 @@ use Rattle.tree.proofs.tree_action.Reads as tree_action
 use Rattle.table.proofs.scan.Reads as scan
 use Rattle.table.proofs.check.Reads as check
 use Rattle.table.proofs.Table.row_count.Reads as row_count
+use Rattle.table.proofs.first_met.Reads as first_met
 use Rattle.table.proofs.first_match.Reads as first_match
 use Rattle.table.proofs.match_at.Reads as match_at
 use Rattle.table.proofs.rows.Reads as rows
 use Rattle.hidden.proofs.drop_hidden.Reads as drop_hidden
+use Rattle.capture.proofs.scan_capture.Reads as scan_capture
 use Rattle.priority.proofs.number.Reads as number
 use Rattle.compile.proofs.compile.Reads as compile
 use Rattle.streams.specs.declared.sink.Sink.{Ghosts}
@@ -95,6 +97,7 @@ use Rattle.calls.proofs.put_words.Reads as put_words
 use Rattle.calls.proofs.reply_compile.Reads as reply_compile
 use Rattle.calls.proofs.reply_number.Reads as reply_number
 use Rattle.calls.proofs.reply_hidden.Reads as reply_hidden
+use Rattle.calls.proofs.reply_capture.Reads as reply_capture
 use Rattle.calls.proofs.reply_list.Reads as reply_list
 
 -- an operator is its cells
@@ -172,10 +175,12 @@ one-answers =
     ∷ (OneAnswer scan.Pre scan.Post (λ κ r s. r), fixed (λ κ a r s p. p))
     ∷ (OneAnswer check.Pre check.Post (λ κ r s. r), fixed (λ κ a r s p. p))
     ∷ (OneAnswer row_count.Pre row_count.Post (λ κ r s. r), fixed (λ κ a r s p. p))
+    ∷ (OneAnswer first_met.Pre first_met.Post (λ κ r s. r), fixed (λ κ a r s p. p))
     ∷ (OneAnswer first_match.Pre first_match.Post (λ κ r s. r), fixed (λ κ a r s p. p))
     ∷ (OneAnswer match_at.Pre match_at.Post (λ κ r s. r), fixed (λ κ a r s p. p))
     ∷ (OneAnswer rows.Pre rows.Post (λ κ r s. r.now), fixed (λ κ a r s p. p.0))
     ∷ (OneAnswer drop_hidden.Pre drop_hidden.Post (λ κ r s. answer_with r s.0.now), fixed (λ κ a r s p. both p.0 p.1))
+    ∷ (OneAnswer scan_capture.Pre scan_capture.Post (λ κ r s. answer_with r s.1.1.0.now), fixed (λ κ a r s p. both p.0 p.1))
     ∷ (OneAnswer number.Pre number.Post (λ κ r s. answer_and r s.1.0.now s.1.1.0.now), fixed (λ κ a r s p. all p.0 p.1 p.2))
     ∷ (OneAnswer compile.Pre compile.Post (λ κ r s. answer_and r s.1.0.now s.1.1.0.now), fixed (λ κ a r s p. all p.answer p.table p.scratch))
     ∷ (OneAnswer low_bits.Pre low_bits.Post (λ κ r s. r), fixed (λ κ a r s p. p))
@@ -249,6 +254,13 @@ reply_number-one S = record {
 reply_hidden-one : (S : SeenSink) → OneAnswer (reply_hidden.Pre S.sink S.laws S.ghosts S.dict) (reply_hidden.Post S.sink S.laws S.ghosts S.dict)
     (λ κ r s. answer_with (S.seen s.1.0.now) s.0.now)
 reply_hidden-one S = record {
+  asks_nothing = λ κ a i m. absurd (S.holds_none i m);
+  no_second = λ κ a r₁ r₂ s₁ s₂ p q. both (S.settled _ _ _ _ p.1 q.1) (p.0 ∙ sym q.0);
+}
+
+reply_capture-one : (S : SeenSink) → OneAnswer (reply_capture.Pre S.sink S.laws S.ghosts S.dict) (reply_capture.Post S.sink S.laws S.ghosts S.dict)
+    (λ κ r s. answer_with (S.seen s.1.1.1.0.now) s.1.1.0.now)
+reply_capture-one S = record {
   asks_nothing = λ κ a i m. absurd (S.holds_none i m);
   no_second = λ κ a r₁ r₂ s₁ s₂ p q. both (S.settled _ _ _ _ p.1 q.1) (p.0 ∙ sym q.0);
 }

@@ -5,6 +5,7 @@ use Rattle.flow.specs.Packet.{right_packet, right_packet_words}
 use Rattle.flow.specs.Match.{meets_ports, meets}
 use Rattle.tree.specs.Action as tree
 use Rattle.table.specs.Scan.{scan_of}
+use Rattle.capture.specs.Capture.{right_capture, check_packets, capture_of, captured_words, answers_after}
 use Rattle.priority.specs.Numbering.{priorities_after, chain_after}
 use Rattle.compile.specs.Compile.{scratch_after}
 use Rattle.text.proofs.Examples as listing
@@ -12,11 +13,12 @@ use Rattle.promises.specs.Cases.{Case, Hold}
 use Rattle.promises.specs.Ports.{port_cases}
 use Rattle.promises.specs.Reservations.{reserved_cases}
 use Rattle.promises.specs.Rates.{rate_cases}
+use Rattle.promises.specs.Captures.{capture_cases}
 
 -- an `unfolding` of this one unfolds all that the calls compute with
 unfoldable pub computed : ⊤
 unfolding listing.computed right_packet right_packet_words meets_ports meets tree.accepted_action tree.tree_action_of scan_of priorities_after chain_after
-    scratch_after
+    scratch_after right_capture check_packets capture_of captured_words answers_after
 computed = tt
 
 -- the calls of a list, and what is said that they give
@@ -47,3 +49,7 @@ reserved-cases = hold reserved_cases refl
 pub rate-cases : Hold rate_cases
 unfolding computed
 rate-cases = hold rate_cases refl
+
+pub capture-cases : Hold capture_cases
+unfolding computed
+capture-cases = hold capture_cases refl

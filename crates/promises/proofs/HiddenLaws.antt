@@ -23,7 +23,9 @@ use Rattle.refusal.specs.Refusals.{refusal_at}
 use Rattle.refusal.specs.declared.Reason.TheVariants.{NoRoom, WrongTable, WrongRow}
 use Rattle.table.specs.Table.{row_count, past, right_length, check_of, row_at, RightTable}
 use Rattle.table.specs.Scan.{scan_tried}
-use Rattle.table.proofs.Tables.{length-rows, flat-at, right-row-at, rows_written, check-exactly, check-first}
+use Rattle.words.proofs.RecordLaws.{flat-at}
+use Rattle.row.specs.Spelled.{row-long}
+use Rattle.table.proofs.Tables.{length-rows, right-row-at, rows_written, check-exactly, check-first}
 use Rattle.table.proofs.Scans.{scan-first, scan-unmatched}
 use Rattle.hidden.specs.Hidden.{kept_rows, kept_of, table_kept, kept_count}
 use Rattle.hidden.specs.Theorems.{KeptTells}
@@ -62,7 +64,9 @@ get_d_map f (x ∷ xs) (suc k) d e h = get_d_map f xs k d e (omega arith)
 module _ (ws : List ℕ) (right : RightTable ws) where
   -- the words of a row, from the row
   row_words-at : (i : ℕ) → i < row_count ws → row_words (row_in ws i) ≡ row_at ws i
-  row_words-at i h = sym (flat-at (rows_in ws) i (omega (arith, length-rows ws))) ∙ ap (λ l. row_at l i) (rows_written ws right)
+  row_words-at i h =
+      sym (flat-at row_length row_words row-long (rows_in ws) past i (omega (arith, length-rows ws)))
+      ∙ ap (λ l. row_at l i) (rows_written ws right)
 
   -- for rows of the table lying inside is by meaning
   by-meaning : (i j : ℕ) → i < row_count ws → j < row_count ws → (inside (row_in ws i).matching (row_in ws j).matching ≡ true → Inside ws i j)

@@ -14,6 +14,7 @@ use Rattle.row.specs.declared.TheConstants.{ROW_WORDS, MOST_ROWS}
 use Rattle.policy.specs.declared.Edition.TheVariants.{First}
 use Rattle.policy.specs.declared.TheConstants.{HEADER_WORDS, OPERATOR_WORDS, ATOM_WORDS, NODE_WORDS, FIRST_OPERATOR}
 use Rattle.policy.specs.declared.TheConstants.{MOST_OPERATORS, MOST_ATOMS, MOST_NODES, LONGEST_FILE, LATEST}
+use Rattle.capture.specs.declared.TheConstants.{MOST_PACKETS, FOUND_WORDS}
 use Rattle.show.specs.declared.TheConstants.{ROOM}
 use Rattle.text.specs.declared.TheConstants.{LONGEST_INPUT, INPUT_ROOM}
 
@@ -36,16 +37,17 @@ pub record Constants : Type 0 where
   -- flags: in-port, protocol, source port, destination port
   pub flags : (IN_PORT ∷ PROTOCOL ∷ SOURCE_PORT ∷ DESTINATION_PORT ∷ []) ≡ 1 ∷ 2 ∷ 4 ∷ 8 ∷ []
   -- the words of a packet, a match, a row, an operator's cells, an operator, an atom and a node; the bits of an address
-  -- and the bytes of a word
+  -- and the bytes of a word; the words of what is found for a packet
   pub lengths :
       (PACKET_WORDS ∷ MATCH_WORDS ∷ ROW_WORDS ∷ CELLS ∷ OPERATOR_WORDS ∷ ATOM_WORDS ∷ NODE_WORDS ∷ ADDRESS_BITS
-      ∷ WORD_BYTES ∷ [])
-      ≡ 6 ∷ 9 ∷ 11 ∷ 9 ∷ 9 ∷ 11 ∷ 5 ∷ 32 ∷ 4 ∷ []
+      ∷ WORD_BYTES ∷ FOUND_WORDS ∷ [])
+      ≡ 6 ∷ 9 ∷ 11 ∷ 9 ∷ 9 ∷ 11 ∷ 5 ∷ 32 ∷ 4 ∷ 3 ∷ []
   -- the newest edition: the words before the first count, and the first operator's place
   pub edition : (LATEST ≡ First) × (HEADER_WORDS ≡ 0) × (FIRST_OPERATOR ≡ 1)
-  -- the most operators, atoms, nodes, words of a file, rows of a table, rows of a listing, and the largest rate
+  -- the most operators, atoms, nodes, words of a file, rows of a table, packets of a capture, rows of a listing, and
+  -- the largest rate
   pub limits :
-      (MOST_OPERATORS ∷ MOST_ATOMS ∷ MOST_NODES ∷ LONGEST_FILE ∷ MOST_ROWS ∷ ROOM ∷ LARGEST_RATE ∷ [])
-      ≡ 32 ∷ 1024 ∷ 256 ∷ 12835 ∷ 4096 ∷ 1024 ∷ 100000000 ∷ []
+      (MOST_OPERATORS ∷ MOST_ATOMS ∷ MOST_NODES ∷ LONGEST_FILE ∷ MOST_ROWS ∷ MOST_PACKETS ∷ ROOM ∷ LARGEST_RATE ∷ [])
+      ≡ 32 ∷ 1024 ∷ 256 ∷ 12835 ∷ 4096 ∷ 4096 ∷ 1024 ∷ 100000000 ∷ []
   -- the bytes of the longest file, and a byte more
   pub bytes : (LONGEST_INPUT ∷ INPUT_ROOM ∷ []) ≡ 51340 ∷ 51341 ∷ []

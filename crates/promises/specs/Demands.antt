@@ -8,6 +8,7 @@
 --   scan_of                                       table::scan         of a table and a packet
 --   number_of, priorities_after, chain_after      priority::number    of a table, a priority buffer and a chain buffer
 --   kept_of, table_kept                           hidden::drop_hidden of a table
+--   capture_of, answers_after                     capture::scan_capture of a table, packets and a buffer
 use Rattle.std.specs.Prelude.{ℕ, None, suc, ◌*◌, ◌-◌, ◌≤◌, ◌<◌, ◌≡◌, true, false, not, List, [], ◌++◌, Ok, Err, ◌↔◌, ◌⊎◌, length, take, drop, slice_index, slice_index_or}
 use Rattle.theory.specs.Rows.{matches_at}
 use Rattle.theory.specs.Nodes.{list_tree}
@@ -15,7 +16,7 @@ use Rattle.theory.specs.Number.{FirstPlace, distinct, Obeyed}
 use Rattle.action.specs.declared.LawFailure.{LawFailure}
 use Rattle.refusal.specs.Refusals.{law_broken, reason_number, failure_of, refusal_at, refusal_number, answer_number}
 use Rattle.refusal.specs.declared.Reason.{Reason}
-use Rattle.refusal.specs.declared.Reason.TheVariants.{LawBroken, WrongPacket, NoRoom, NoScratch, WrongTable, WrongRow, ShortBuffer}
+use Rattle.refusal.specs.declared.Reason.TheVariants.{LawBroken, WrongPacket, NoRoom, NoScratch, WrongTable, WrongRow, ShortBuffer, WrongCapture, ShortAnswers}
 use Rattle.refusal.specs.declared.Refusal.{Refusal}
 use Rattle.flow.specs.Packet.{packet_of, right_packet_words}
 use Rattle.flow.specs.Match.{meets}
@@ -39,10 +40,11 @@ use Rattle.table.specs.Scan.{scan_of, scan_action}
 use Rattle.priority.specs.Numbering.{number_of, priorities_after, chain_after, Ready, Shared, priority, link}
 use Rattle.words.specs.Words.{zeros}
 use Rattle.hidden.specs.Hidden.{kept_rows, kept_of, table_kept}
+use Rattle.capture.specs.Capture.{found_length, packet_count, packet_at, right_capture, capture_of, answers_after}
 use Rattle.compile.specs.Compile.{room, compiled_rows, answer_of, table_after}
 use Rattle.compile.specs.Compile.{scratch_after}
 use Rattle.promises.specs.Told.{search_told, read_told, action_told, compile_told, check_told, scan_told, number_told}
-use Rattle.promises.specs.Told.{kept_told}
+use Rattle.promises.specs.Told.{kept_told, capture_told}
 use Rattle.promises.specs.Told.{between, Fixed}
 
 -- FIXED ANSWERS. Every file, packet or table handed in, however broken, gets a result or one numbered refusal. Callers
@@ -51,6 +53,10 @@ use Rattle.promises.specs.Told.{between, Fixed}
 -- the numbers of the compile
 abbrev pub compile_numbers : ℕ → Type 0
 compile_numbers n = between 1 10 n ⊎ between 12 13 n
+
+-- the numbers of a capture
+abbrev pub capture_numbers : ℕ → Type 0
+capture_numbers n = (n ≡ 11) ⊎ (between 15 16 n ⊎ between 19 20 n)
 
 -- "Every file, packet or table handed in, however broken, gets a result or one numbered refusal": which numbers each
 -- function can give.
@@ -63,6 +69,7 @@ pub record EveryInput : Type 0 where
   pub scan : (ws p : List ℕ) → Fixed (λ n. (n ≡ 11) ⊎ between 15 16 n) (scan_told (scan_of ws p))
   pub number : (ws : List ℕ) (p c : ℕ) → Fixed (between 15 17) (number_told (number_of ws p c))
   pub hidden : (ws : List ℕ) → Fixed (between 15 16) (kept_told (kept_of ws))
+  pub capture : (ws ps : List ℕ) (room : ℕ) → Fixed capture_numbers (capture_told (capture_of ws ps room))
 
 -- "The refusals, their order": which comes first where several could be given.
 pub record Order : Type 0 where
@@ -98,6 +105,19 @@ pub record Order : Type 0 where
       → number_of ws p c ≡ Err (refusal_at ShortBuffer 0)
   -- hidden rows out: 15 or 16
   pub hidden_table : (ws : List ℕ) (f : Refusal) → check_of ws ≡ Err f → kept_of ws ≡ Err f
+  -- a capture: 19, 11 at the first wrong packet, 15 or 16, then 20
+  pub capture_length : (ws ps : List ℕ) (room : ℕ) → right_capture ps ≡ false
+      → capture_of ws ps room ≡ Err (refusal_at WrongCapture 0)
+  pub capture_packet : (ws ps : List ℕ) (room i : ℕ) → right_capture ps ≡ true
+      → FirstPlace (λ j. not (right_packet_words (packet_at ps j))) (packet_count ps) i
+      → capture_of ws ps room ≡ Err (refusal_at WrongPacket i)
+  pub capture_table : (ws ps : List ℕ) (room : ℕ) (f : Refusal) → right_capture ps ≡ true
+      → ((i : ℕ) → i < packet_count ps → right_packet_words (packet_at ps i) ≡ true) → check_of ws ≡ Err f
+      → capture_of ws ps room ≡ Err f
+  pub capture_buffer : (ws ps : List ℕ) (room : ℕ) → right_capture ps ≡ true
+      → ((i : ℕ) → i < packet_count ps → right_packet_words (packet_at ps i) ≡ true) → RightTable ws
+      → room < packet_count ps * found_length
+      → capture_of ws ps room ≡ Err (refusal_at ShortAnswers 0)
 
 -- "and the words left in each lent buffer are fixed": what they are after each answer.
 pub record WordsLeft : Type 0 where
@@ -123,6 +143,11 @@ pub record WordsLeft : Type 0 where
   pub hidden_stays : (ws : List ℕ) (f : Refusal) → kept_of ws ≡ Err f → table_kept ws ≡ ws
   pub hidden_rows : (ws : List ℕ) (n : ℕ) → kept_of ws ≡ Ok n
       → table_kept ws ≡ words_of (kept_rows ws) ++ zeros (length ws - length (words_of (kept_rows ws)))
+  -- a refused capture leaves the buffer; after a success the words beyond what was found stay
+  pub capture_stays : (ws ps old : List ℕ) (f : Refusal) → capture_of ws ps (length old) ≡ Err f
+      → answers_after ws ps old ≡ old
+  pub capture_beyond : (ws ps old : List ℕ) (n : ℕ) → capture_of ws ps (length old) ≡ Ok n
+      → drop (n * found_length) (answers_after ws ps old) ≡ drop (n * found_length) old
 
 pub record FixedAnswers : Type 0 where
   pub every_input : EveryInput

@@ -21,7 +21,7 @@ use Rattle.refusal.specs.declared.Reason.{Reason}
 use Rattle.refusal.specs.declared.Refusal.{Refusal}
 use Rattle.refusal.specs.declared.Reason.TheVariants.{ShortFile, WrongCount, WrongCell, WrongMatch, WrongAction, WrongNode}
 use Rattle.refusal.specs.declared.Reason.TheVariants.{ExtraWords, NoTree, WrongSum, LawBroken, WrongPacket, NoRoom, NoScratch}
-use Rattle.refusal.specs.declared.Reason.TheVariants.{WrongTable, WrongRow, ShortBuffer, WrongInput}
+use Rattle.refusal.specs.declared.Reason.TheVariants.{WrongTable, WrongRow, ShortBuffer, WrongInput, WrongCapture, ShortAnswers}
 use Rattle.row.specs.Row.{row_length, most_rows, row_of, rows_in}
 use Rattle.policy.specs.Numbers.{node_length, most_operators, most_atoms, most_nodes, most_children, deepest, longest_file}
 use Rattle.policy.specs.Sections.{inner_of, parent_of, sibling_of, own_of, children_of}
@@ -34,6 +34,7 @@ use Rattle.theory.specs.Tree.{Node, own, compile, bare, ◌▸◌}
 use Rattle.theory.specs.Tree as tree
 use Rattle.theory.specs.Number.{rows_overlap, levels, priorities, FirstPlace, Obeyed}
 use Rattle.flow.specs.declared.Match.{Match}
+use Rattle.capture.specs.Capture.{most_packets, found_length, found_words, right_capture}
 use Rattle.compile.specs.Compile.{room}
 use Rattle.show.specs.Sheet.{listing_room}
 use Rattle.show.specs.Text.{head, refusal, action_text, address}
@@ -111,24 +112,31 @@ pub record Numbers : Type 0 where
       ∷ LawBroken f ∷ [])
       ≡ 1 ∷ 2 ∷ 3 ∷ 4 ∷ 5 ∷ 6 ∷ 7 ∷ 8 ∷ 9 ∷ 10 ∷ []
   pub others :
-      map reason_number (WrongPacket ∷ NoRoom ∷ NoScratch ∷ WrongTable ∷ WrongRow ∷ ShortBuffer ∷ WrongInput ∷ [])
-      ≡ 11 ∷ 12 ∷ 13 ∷ 15 ∷ 16 ∷ 17 ∷ 18 ∷ []
-  -- limits; those of rows in a table and of bytes hold up to them and not beyond
+      map reason_number
+      (WrongPacket ∷ NoRoom ∷ NoScratch ∷ WrongTable ∷ WrongRow ∷ ShortBuffer ∷ WrongInput ∷ WrongCapture
+      ∷ ShortAnswers ∷ [])
+      ≡ 11 ∷ 12 ∷ 13 ∷ 15 ∷ 16 ∷ 17 ∷ 18 ∷ 19 ∷ 20 ∷ []
+  -- limits; those of rows in a table, of packets in a capture and of bytes hold up to them and not beyond
   pub limits :
       (most_operators ∷ most_atoms ∷ most_nodes ∷ most_children ∷ deepest ∷ longest_file ∷ [])
       ≡ 32 ∷ 1024 ∷ 256 ∷ 255 ∷ 16 ∷ 12835 ∷ []
   pub rows : (most_rows ∷ listing_room ∷ []) ≡ 4096 ∷ 1024 ∷ []
+  pub packets : most_packets ≡ 4096
   -- the rows that so many words have room for
   pub rooms : (words : ℕ) → room words ≡ min (words / 11) 4096
   pub values : (port_limit ∷ protocol_limit ∷ largest_rate ∷ []) ≡ 65536 ∷ 256 ∷ 100000000 ∷ []
   pub longest_table : (ws : List ℕ) → length ws ≡ 45056 → right_length ws ≡ true
   pub longer_table : (ws : List ℕ) → length ws ≡ 45067 → right_length ws ≡ false
+  pub longest_capture : (ps : List ℕ) → length ps ≡ 24576 → right_capture ps ≡ true
+  pub longer_capture : (ps : List ℕ) → length ps ≡ 24582 → right_capture ps ≡ false
   pub longest_bytes : (b : List ℕ) → length b ≡ 51340 → right_input b ≡ true
   pub longer_bytes : (b : List ℕ) → length b ≡ 51344 → right_input b ≡ false
   pub blank_words : length blank ≡ 11264
-  -- the words of a packet, a match, an atom or a row, an operator and a node, and the bytes of a word
-  pub lengths : (packet_length ∷ match_length ∷ row_length ∷ cell_count ∷ node_length ∷ word_bytes ∷ [])
-      ≡ 6 ∷ 9 ∷ 11 ∷ 9 ∷ 5 ∷ 4 ∷ []
+  -- the words of a packet, a match, an atom or a row, an operator and a node, the bytes of a word, and the words of
+  -- what is found for a packet
+  pub lengths :
+      (packet_length ∷ match_length ∷ row_length ∷ cell_count ∷ node_length ∷ word_bytes ∷ found_length ∷ [])
+      ≡ 6 ∷ 9 ∷ 11 ∷ 9 ∷ 5 ∷ 4 ∷ 3 ∷ []
   -- and which each of them is
   pub packet : (a b c d e f : ℕ)
       → packet_of (a ∷ b ∷ c ∷ d ∷ e ∷ f ∷ [])
@@ -150,6 +158,12 @@ pub record Numbers : Type 0 where
   pub node : (a b c d e : ℕ)
       → let node : List ℕ = a ∷ b ∷ c ∷ d ∷ e ∷ [] in
       (inner_of node ∷ parent_of node ∷ sibling_of node ∷ own_of node ∷ children_of node ∷ []) ≡ node
+  pub found : (n t : ℕ)
+      → map found_words
+      (record { action = DontCare; tried = t } ∷ record { action = Allow; tried = t }
+      ∷ record { action = Deny; tried = t }
+      ∷ record { action = Gmb n; tried = t } ∷ [])
+      ≡ (0 ∷ 0 ∷ t ∷ []) ∷ (1 ∷ 0 ∷ t ∷ []) ∷ (2 ∷ 0 ∷ t ∷ []) ∷ (3 ∷ n ∷ t ∷ []) ∷ []
   -- flags: in-port, protocol, source port, destination port, the empty match
   pub flags : (in_port_flag ∷ protocol_flag ∷ source_port_flag ∷ destination_port_flag ∷ empty_flag ∷ [])
       ≡ 1 ∷ 2 ∷ 4 ∷ 8 ∷ 16 ∷ []

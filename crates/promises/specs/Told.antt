@@ -11,6 +11,7 @@
 --   scan_told           of the scan
 --   number_told         of the numbering
 --   kept_told           of the pass that takes hidden rows out
+--   capture_told        of a capture
 --   between a b         the numbers from a to b
 --   Fixed numbers t     what is told has one of the numbers, and its other values where it has no use for them
 use Rattle.std.specs.Prelude.{ℕ, ◌≤◌, ◌≡◌, Result, Ok, Err, Option, Some, None, ◌⊎◌}
@@ -74,6 +75,11 @@ number_told x = told x DontCare (answer_count x)
 -- how many rows stay
 abbrev pub kept_told : Result ℕ Refusal → Told
 kept_told x = told x DontCare (kept_count x)
+
+-- how many packets a capture has
+abbrev pub capture_told : Result ℕ Refusal → Told
+capture_told (Ok n) = told {X = ℕ} (Ok n) DontCare n
+capture_told (Err f) = told {X = ℕ} (Err f) DontCare 0
 
 -- a number from a to b
 abbrev pub between : ℕ → ℕ → ℕ → Type 0

@@ -8,6 +8,7 @@ ghost use Rattle.promises.specs.Ports.{PortsOnly};
 ghost use Rattle.promises.specs.Prefixes.{PrefixTest};
 ghost use Rattle.promises.specs.Reservations.{ReservationsAddUp};
 ghost use Rattle.promises.specs.Rates.{RatesStayInRange};
+ghost use Rattle.promises.specs.Captures.{CaptureScans};
 ghost use Rattle.promises.specs.Prints.{EveryListing};
 ghost use Rattle.promises.specs.Cases.{WorkedCases};
 ghost use Rattle.promises.specs.Held.{Numbers, Premises, RestsOn};
@@ -74,6 +75,12 @@ pub fn reservations_add_up()
 #[tactic(auto, using(crate::proofs::Rates::rates_stay_in_range))]
 pub fn rates_stay_in_range()
     ensures { RatesStayInRange }
+{}
+
+/// A capture is answered as single scans.
+#[tactic(auto, using(crate::proofs::Captures::capture_scans))]
+pub fn capture_scans()
+    ensures { CaptureScans }
 {}
 
 /// Every input has its listing.

@@ -2,7 +2,7 @@
 use Rattle.std.proofs.Common.{arith, inl, inr}
 use Rattle.refusal.specs.Theorems.{NumbersGiven}
 use Rattle.refusal.specs.declared.Reason.TheVariants.{ShortFile, WrongCount, WrongCell, WrongMatch, WrongAction, WrongNode, ExtraWords, NoTree}
-use Rattle.refusal.specs.declared.Reason.TheVariants.{WrongSum, LawBroken, WrongPacket, NoRoom, NoScratch, WrongTable, WrongRow, ShortBuffer, WrongInput}
+use Rattle.refusal.specs.declared.Reason.TheVariants.{WrongSum, LawBroken, WrongPacket, NoRoom, NoScratch, WrongTable, WrongRow, ShortBuffer, WrongInput, WrongCapture, ShortAnswers}
 
 pub numbers-given : NumbersGiven
 numbers-given ShortFile = inl (omega arith, omega arith)
@@ -22,3 +22,5 @@ numbers-given WrongTable = inr (omega arith, omega arith)
 numbers-given WrongRow = inr (omega arith, omega arith)
 numbers-given ShortBuffer = inr (omega arith, omega arith)
 numbers-given WrongInput = inr (omega arith, omega arith)
+numbers-given WrongCapture = inr (omega arith, omega arith)
+numbers-given ShortAnswers = inr (omega arith, omega arith)

@@ -44,6 +44,10 @@ pub enum Reason {
     ShortBuffer,
     /// The bytes of a file are not whole words, or too many.
     WrongInput,
+    /// The words of a capture are not whole packets, or too many.
+    WrongCapture,
+    /// A buffer is too short for what is found for the packets of a capture.
+    ShortAnswers,
 }
 
 impl Reason {
@@ -69,6 +73,8 @@ impl Reason {
             Reason::WrongRow => 16,
             Reason::ShortBuffer => 17,
             Reason::WrongInput => 18,
+            Reason::WrongCapture => 19,
+            Reason::ShortAnswers => 20,
         }
     }
 

@@ -13,7 +13,7 @@ use Rattle.row.specs.Row.{row_length, row_of, row_action, row_words, words_of, k
 
 -- rows have so many words
 pub words_count : (N : List (Row Match Action)) → length (words_of N) ≡ length N * row_length
-words_count N = length-flat row_length row_of row-some row_words row-long row_back N
+words_count N = length-flat row_length row_words row-long N
 
 -- an action that some words have is in range where these are right
 pub action-read : (ws : List ℕ) → right_row_action ws ≡ true → in_range (row_action ws) ≡ true

@@ -7,6 +7,7 @@ use Rattle.speed.proofs.speed_compile.Reads as speed_compile
 use Rattle.speed.proofs.speed_scan.Reads as speed_scan
 use Rattle.speed.proofs.speed_number.Reads as speed_number
 use Rattle.speed.proofs.speed_hidden.Reads as speed_hidden
+use Rattle.speed.proofs.speed_capture.Reads as speed_capture
 
 speed_read-one : OneAnswer speed_read.Pre speed_read.Post (λ κ r s. r)
 speed_read-one = fixed (λ κ a r s p. p)
@@ -25,3 +26,6 @@ speed_number-one = fixed (λ κ a r s p. all p.0 p.1.0 p.1.1)
 
 speed_hidden-one : OneAnswer speed_hidden.Pre speed_hidden.Post (λ κ r s. answer_with r s.0.now)
 speed_hidden-one = fixed (λ κ a r s p. both p.0 p.1)
+
+speed_capture-one : OneAnswer speed_capture.Pre speed_capture.Post (λ κ r s. answer_with r s.1.1.0.now)
+speed_capture-one = fixed (λ κ a r s p. both p.0 p.1)

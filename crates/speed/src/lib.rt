@@ -9,10 +9,12 @@ ghost use Rattle.compile.specs.Compile.{answer_of, table_after, scratch_after, c
 ghost use Rattle.table.specs.Scan.{scan_of, scan_action, scan_tried};
 ghost use Rattle.priority.specs.Numbering.{number_of, answer_count, priorities_after, chain_after};
 ghost use Rattle.hidden.specs.Hidden.{kept_of, table_kept, kept_count};
+ghost use Rattle.capture.specs.Capture.{capture_of, answers_after};
 ghost use Rattle.refusal.specs.Refusals.{answer_number};
-ghost use Rattle.speed.specs.Answers.{tree_action, with_action};
+ghost use Rattle.speed.specs.Answers.{tree_action, with_action, captured_count};
 
 use action::{Action, ActionWords};
+use capture::scan_capture;
 use compile::compile;
 use hidden::drop_hidden;
 use policy::read;
@@ -86,6 +88,15 @@ pub extern "C" fn speed_hidden(table: &mut [u32]) -> usize
     ensures table_after { table.new ≡ table_kept table.old }
 {
     drop_hidden(table).unwrap_or(0)
+}
+
+/// The scan of a table for each packet of a capture; the answer is how many packets there are, 0 where it is refused.
+#[unsafe(no_mangle)]
+pub extern "C" fn speed_capture(table: &[u32], packets: &[u32], answers: &mut [u32]) -> usize
+    ensures value { result ≡ captured_count (capture_of table.now packets.now (length answers.old)) }
+    ensures answers_after { answers.new ≡ answers_after table.now packets.now answers.old }
+{
+    scan_capture(table, packets, answers).unwrap_or(0)
 }
 
 // The number of a refusal, 0 where there is none.

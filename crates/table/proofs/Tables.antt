@@ -6,11 +6,11 @@ use mathlib.Core.Bool.{Bool, true, not, ◌&&◌}
 use mathlib.Core.List.{List, [], ◌∷◌, ◌++◌, map}
 use lib.Dec.{eqb, leb}
 use lib.ListN.{length, get_or, take, drop, length-drop, length-map, take-append-drop, get_or-map}
-use lib.Seq.{drop-drop, take_at, take_all, drop_at, length-take-le}
+use lib.Seq.{take_all, length-take-le}
 use borrow.Author.Tests.{eqb-true, eq-eqb, leb-true, le-leb, not-true, not-false}
 use Rattle.logic.proofs.Tests.{by-test, by_le, and_left, and_right, and_both}
 use Rattle.words.specs.Records.{records, rows_of, flat}
-use Rattle.words.proofs.RecordLaws.{length-records, rows-flat}
+use Rattle.words.proofs.RecordLaws.{length-records, records-at, rows-flat, flat-at}
 use Rattle.theory.specs.declared.Row.{Row}
 use Rattle.theory.specs.Number.{FirstPlace}
 use Rattle.flow.specs.Match.{match_of, is_empty, right_match}
@@ -22,20 +22,13 @@ use Rattle.row.specs.Row.{rows_in, table_rows}
 use Rattle.row.specs.Spelled.{row-some, row-long, row_back}
 use Rattle.row.proofs.RowLaws.{words_count, action-read, words_back}
 use Rattle.refusal.specs.Refusals.{refusal_at}
+use Rattle.refusal.specs.declared.Reason.{Reason}
 use Rattle.refusal.specs.declared.Reason.TheVariants.{WrongTable, WrongRow}
 use Rattle.refusal.specs.declared.Refusal.{Refusal}
-use Rattle.table.specs.Table.{row_count, past, right_length, check_from, check_rows, check_of, row_at, RightTable}
+use Rattle.table.specs.Table.{row_count, past, right_length, first_wrong, check_rows, check_of, row_at, RightTable}
 use Rattle.table.specs.Theorems.{CheckExactly, CheckFirst, TableRows, TableWords, RowsRead, RowsWritten}
 use Rattle.std.specs.Prelude.{Result, Ok, Err}
 use Rattle.logic.proofs.Lists.{all-at, all_map}
-
--- record i of records that stand k words apart
-records-at : (n k i : ℕ) (ws : List ℕ) → i < n → get_or (records n k ws) i [] ≡ take k (drop (i * k) ws)
-records-at zero k i ws h = absurd (omega arith)
-records-at (suc n) k zero ws h = let e : zero * k ≡ 0 = omega arith in rw e
-records-at (suc n) k (suc i) ws h =
-    let e : suc i * k ≡ k + i * k = omega arith in
-    records-at n k i (drop k ws) (omega arith) ∙ rw (e, drop-drop (i * k) k ws)
 
 -- a table has as many rows as its row count says
 pub length-rows : (ws : List ℕ) → length (rows_in ws) ≡ row_count ws
@@ -76,38 +69,48 @@ pub right-action : (ws : List ℕ) → right_row ws ≡ true → right_row_actio
 unfolding right_row
 right-action ws h = and_right (right_row_match ws && not (is_empty (match_of ws))) (right_row_action ws) h
 
--- the two answers of the check of the rows
+-- the two answers of a check of records
 abbrev counted : ℕ → Result ℕ Refusal
 counted n = Ok n
 
-abbrev named : ℕ → Result ℕ Refusal
-named i = Err (refusal_at WrongRow i)
+abbrev pub named : Reason → ℕ → Result ℕ Refusal
+named why i = Err (refusal_at why i)
 
--- where all rows are right, the check counts them; where row j is the first that is not, it names it
-check-counts : (i : ℕ) (rs : List (List ℕ)) → ((j : ℕ) → j < length rs → right_row (get_or rs j []) ≡ true) → check_from i rs ≡ counted (i + length rs)
-check-counts i [] f = let e : i ≡ i + 0 = omega arith in ap counted e
-check-counts i (r ∷ rs) f =
-    let e : suc i + length rs ≡ i + suc (length rs) = omega arith in
-    rw (f 0 (omega arith)) (check-counts (suc i) rs (λ j h. f (suc j) (omega arith)) ∙ ap counted e)
+-- a check of records, of which each is to be right
+module _ (right : List ℕ → Bool) (why : Reason) where
+  -- where all are right, it counts them; where record j is the first that is not, it names it
+  pub check-counts : (i : ℕ) (rs : List (List ℕ)) → ((j : ℕ) → j < length rs → right (get_or rs j []) ≡ true)
+      → first_wrong right why i rs ≡ counted (i + length rs)
+  check-counts i [] f = let e : i ≡ i + 0 = omega arith in ap counted e
+  check-counts i (r ∷ rs) f =
+      let e : suc i + length rs ≡ i + suc (length rs) = omega arith in
+      rw (f 0 (omega arith)) (check-counts (suc i) rs (λ j h. f (suc j) (omega arith)) ∙ ap counted e)
 
-check-names : (i j : ℕ) (rs : List (List ℕ)) → FirstPlace (λ k. not (right_row (get_or rs k []))) (length rs) j → check_from i rs ≡ named (i + j)
-check-names i j [] f = absurd (omega (arith, f.within))
-check-names i zero (r ∷ rs) f = let e : i ≡ i + 0 = omega arith in rw (not-true (right_row r) f.passes) (ap named e)
-check-names i (suc j) (r ∷ rs) f =
-    let e : suc i + j ≡ i + suc j = omega arith in
-    rw (not-false (right_row r) (f.skips 0 (omega arith)))
-    (check-names (suc i) j rs (record { within = omega (arith, f.within); passes = f.passes; skips = λ k h. f.skips (suc k) (omega arith) })
-    ∙ ap named e)
+  pub check-names : (i j : ℕ) (rs : List (List ℕ)) → FirstPlace (λ k. not (right (get_or rs k []))) (length rs) j
+      → first_wrong right why i rs ≡ named why (i + j)
+  check-names i j [] f = absurd (omega (arith, f.within))
+  check-names i zero (r ∷ rs) f = let e : i ≡ i + 0 = omega arith in rw (not-true (right r) f.passes) (ap (named why) e)
+  check-names i (suc j) (r ∷ rs) f =
+      let e : suc i + j ≡ i + suc j = omega arith in
+      rw (not-false (right r) (f.skips 0 (omega arith)))
+      (check-names (suc i) j rs (record { within = omega (arith, f.within); passes = f.passes; skips = λ k h. f.skips (suc k) (omega arith) })
+      ∙ ap (named why) e)
 
--- and a check that passes went over right rows
-check-passed : (i n : ℕ) (rs : List (List ℕ)) → check_from i rs ≡ counted n → (j : ℕ) → j < length rs → right_row (get_or rs j []) ≡ true
-check-passed i n [] e j h = absurd (omega arith)
-check-passed i n (r ∷ rs) e zero h =
-    by-test (right_row r) (λ t. t) (λ t. let e' : named i ≡ counted n = rw t at e in cc)
-check-passed i n (r ∷ rs) e (suc j) h =
-    by-test (right_row r)
-    (λ t. let e' : check_from (suc i) rs ≡ counted n = rw t at e in check-passed (suc i) n rs e' j (omega arith))
-    (λ t. let e' : named i ≡ counted n = rw t at e in cc)
+  -- and a check that passes went over all of them, and they are right
+  pub check-total : (i n : ℕ) (rs : List (List ℕ)) → first_wrong right why i rs ≡ counted n → n ≡ i + length rs
+  check-total i n [] e = let c : i ≡ n = cc in omega (arith, c)
+  check-total i n (r ∷ rs) e =
+      by-test (right r)
+      (λ t. let e' : first_wrong right why (suc i) rs ≡ counted n = rw t at e in omega (arith, check-total (suc i) n rs e'))
+      (λ t. let e' : named why i ≡ counted n = rw t at e in let z : ◌≡◌ {A = ℕ} 0 1 = cc in absurd (omega arith))
+
+  pub check-passed : (i n : ℕ) (rs : List (List ℕ)) → first_wrong right why i rs ≡ counted n → (j : ℕ) → j < length rs → right (get_or rs j []) ≡ true
+  check-passed i n [] e j h = absurd (omega arith)
+  check-passed i n (r ∷ rs) e zero h = by-test (right r) (λ t. t) (λ t. let e' : named why i ≡ counted n = rw t at e in cc)
+  check-passed i n (r ∷ rs) e (suc j) h =
+      by-test (right r)
+      (λ t. let e' : first_wrong right why (suc i) rs ≡ counted n = rw t at e in check-passed (suc i) n rs e' j (omega arith))
+      (λ t. let e' : named why i ≡ counted n = rw t at e in cc)
 
 -- the rows of a table, as the check goes over them
 module _ (ws : List ℕ) where
@@ -123,7 +126,7 @@ module _ (ws : List ℕ) where
       let n : length each ≡ row_count ws = length-records (row_count ws) row_length ws in
       let e : 0 + length each ≡ row_count ws = omega arith in
       rw (eq-eqb (length ws % row_length) 0 t.whole, le-leb (row_count ws) most_rows t.few)
-      (check-counts 0 each (λ j h. rw (each_at j h) (t.rows j (omega arith))) ∙ ap counted e)
+      (check-counts right_row WrongRow 0 each (λ j h. rw (each_at j h) (t.rows j (omega arith))) ∙ ap counted e)
 
   pub passes-right : (n : ℕ) → check_of ws ≡ counted n → RightTable ws
   unfolding check_of check_rows right_length
@@ -132,11 +135,13 @@ module _ (ws : List ℕ) where
       let few : Bool = leb (row_count ws) most_rows in
       by-test (whole && few)
       (λ t.
-      let e' : check_from 0 each ≡ counted n = rw t at e in
+      let e' : first_wrong right_row WrongRow 0 each ≡ counted n = rw t at e in
       record {
         whole = eqb-true (length ws % row_length) 0 (and_left whole few t);
         few = leb-true (row_count ws) most_rows (and_right whole few t);
-        rows = λ i h. let l : i < length each = omega (arith, length-records (row_count ws) row_length ws) in rw (← each_at i l) (check-passed 0 n each e' i l);
+        rows = λ i h.
+            let l : i < length each = omega (arith, length-records (row_count ws) row_length ws) in
+            rw (← each_at i l) (check-passed right_row WrongRow 0 n each e' i l);
       })
       (λ t. let e' : ◌≡◌ {A = Result ℕ Refusal} (Err (refusal_at WrongTable 0)) (counted n) = rw t at e in let z : ◌≡◌ {A = ℕ} 0 1 = cc in absurd (omega arith))
 
@@ -153,13 +158,13 @@ check-first ws i t f =
     let e : 0 + i ≡ i = omega arith in
     let same : (j : ℕ) → j < row_count ws → get_or (each ws) j [] ≡ row_at ws j = λ j h. each_at ws j (omega arith) in
     rw t
-    (check-names 0 i (each ws)
+    (check-names right_row WrongRow 0 i (each ws)
     (record {
       within = omega (arith, f.within);
       passes = rw (same i f.within) f.passes;
       skips = λ j h. rw (same j (omega (arith, f.within))) (f.skips j h);
     })
-    ∙ ap named e)
+    ∙ ap (named WrongRow) e)
 
 right-each : (ws : List ℕ) → RightTable ws → (j : ℕ) → j < length (each ws) → right_row (get_or (each ws) j []) ≡ true
 right-each ws t j h = rw (each_at ws j h) (t.rows j (omega (arith, length-records (row_count ws) row_length ws)))
@@ -175,24 +180,15 @@ right-row-at ws t i h = all-at RightRow past (rows_in ws) i (table-rows ws t) (o
 pub rows-read : RowsRead
 rows-read = rows-flat row_length row_of row-some row_words row-long row_back
 
--- row i of the words of rows
-pub flat-at : (N : List (Row Match Action)) (i : ℕ) → i < length N → row_at (flat row_words N) i ≡ row_words (get_or N i past)
-flat-at [] i h = absurd (omega arith)
-flat-at (r ∷ N) zero h = take_at (row_words r) (flat row_words N) row_length (row-long r)
-flat-at (r ∷ N) (suc i) h =
-    let e : suc i * row_length ≡ row_length + i * row_length = omega arith in
-    ap (λ k. take row_length (drop k (row_words r ++ flat row_words N))) e
-    ∙ ap (take row_length) (sym (drop-drop (i * row_length) row_length (row_words r ++ flat row_words N)))
-    ∙ ap (λ l. take row_length (drop (i * row_length) l)) (drop_at (row_words r) (flat row_words N) row_length (row-long r))
-    ∙ flat-at N i (omega arith)
-
 pub table-words : TableWords
 table-words N f h =
     let e : length (flat row_words N) ≡ length N * row_length = words_count N in
     record {
       whole = rw e (omega arith);
       few = rw e (omega arith);
-      rows = λ i g. let l : i < length N = omega arith in rw (flat-at N i l) (words_right (get_or N i past) (all-at RightRow past N i f l));
+      rows = λ i g.
+          let l : i < length N = omega arith in
+          rw (flat-at row_length row_words row-long N past i l) (words_right (get_or N i past) (all-at RightRow past N i f l));
     }
 
 -- right rows that are read are written again

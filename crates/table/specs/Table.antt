@@ -4,7 +4,8 @@
 --   row_count ws      how many rows the words hold
 --   past              stands for a row past the last
 --   right_length ws   the words are whole rows, and not too many
---   check_from i rs   of the rows from row i on, the first wrong one, or how many rows there are
+--   first_wrong right why i rs
+--                     of the records from record i on, the first that is not right, or how many records there are
 --   check_rows ws     the same of all rows
 --   check_of ws       the check's answer
 --   row_at ws i       the words of row i
@@ -16,6 +17,7 @@ use Rattle.flow.specs.declared.Match.{Match}
 use Rattle.action.specs.declared.Action.{Action}
 use Rattle.row.specs.Row.{row_length, most_rows, row_of, right_row}
 use Rattle.refusal.specs.Refusals.{refusal_at}
+use Rattle.refusal.specs.declared.Reason.{Reason}
 use Rattle.refusal.specs.declared.Reason.TheVariants.{WrongTable, WrongRow}
 use Rattle.refusal.specs.declared.Refusal.{Refusal}
 
@@ -31,14 +33,15 @@ past = row_of []
 unfoldable pub right_length : List ℕ → Bool
 right_length ws = length ws % row_length == 0 && nat_le (row_count ws) most_rows
 
--- the first wrong row of those from row i on, each given by its words; how many rows there are if none is wrong
-abbrev pub check_from : ℕ → List (List ℕ) → Result ℕ Refusal
-check_from i [] = Ok i
-check_from i (r ∷ rs) = if right_row r then check_from (suc i) rs else Err (refusal_at WrongRow i)
+-- of the records from record i on, each given by its words, the first that is not right, refused at its place; how many
+-- records there are if all are right
+abbrev pub first_wrong : (List ℕ → Bool) → Reason → ℕ → List (List ℕ) → Result ℕ Refusal
+first_wrong right why i [] = Ok i
+first_wrong right why i (r ∷ rs) = if right r then first_wrong right why (suc i) rs else Err (refusal_at why i)
 
--- the same of all rows
+-- the first wrong row, or how many rows there are
 unfoldable pub check_rows : List ℕ → Result ℕ Refusal
-check_rows ws = check_from 0 (records (row_count ws) row_length ws)
+check_rows ws = first_wrong right_row WrongRow 0 (records (row_count ws) row_length ws)
 
 -- the check: first the length, then each row
 unfoldable pub check_of : List ℕ → Result ℕ Refusal

@@ -2,15 +2,16 @@
 #![tactic(auto)]
 
 ghost use Rattle.std.specs.Prelude.{◌≡◌, length, ◌==◌, slice_index_or};
+ghost use Rattle.std.specs.List.{position};
 ghost use Rattle.table.specs.Table.{row_count, past, right_length, check_rows, check_of, RightTable};
-ghost use Rattle.table.specs.Scan.{found, scan_of};
+ghost use Rattle.table.specs.Scan.{met, found, scan_of};
 ghost use Rattle.row.specs.Row.{row_length, rows_in};
 ghost use Rattle.words.specs.Records.{records};
 
 use action::Action;
 use flow::{Match, Packet};
 use refusal::{Reason, Refusal};
-use row::{MOST_ROWS, ROW_WORDS, RowWords, Rows, right_row};
+use row::{MOST_ROWS, ROW_WORDS, RowWords, right_row, row_action};
 use words::Spelling;
 
 /// What a scan finds: the action, and how many rows were tried. No Option: where none matches, it is don't care and the
@@ -72,22 +73,30 @@ pub fn check(table: &[u32]) -> Result<usize, Refusal>
     check_rows(table)
 }
 
+/// The place of the first row that a packet meets, each given by its words; none if it meets none.
+#[inline]
+pub fn first_met(rows: &[RowWords], packet: Packet) -> Option<usize>
+    ensures { result ≡ position (met packet) rows.now }
+{
+    rows.iter().position(|row| Match::read(row).meets(packet))
+}
+
 /// The first matching row's action and its place plus 1; don't care and the row count if none matches.
+#[inline]
 pub fn first_match(table: &[u32], packet: Packet) -> Found
     ensures { result ≡ found 0 (rows_in table.now) packet }
 {
-    // None of the rows before row i matches.
-    for (i, row) in Rows::of(table).enumerate() {
-        if row.matching.meets(packet) {
-            return Found {
-                action: row.action,
-                tried: i + 1,
-            };
-        }
-    }
-    Found {
-        action: Action::DONT_CARE,
-        tried: table.len() / ROW_WORDS,
+    let rows = rows(table);
+    // Only the row that matches has its action read.
+    match first_met(rows, packet) {
+        Some(place) => Found {
+            action: row_action(&rows[place]),
+            tried: place + 1,
+        },
+        None => Found {
+            action: Action::DONT_CARE,
+            tried: rows.len(),
+        },
     }
 }
 

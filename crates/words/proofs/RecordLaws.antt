@@ -5,7 +5,7 @@ use native.Mathlib.Numerals.{add-one}
 use native.Mathlib.Nat.{add-div_right, div-eq_of_lt}
 use mathlib.Core.Path.{◌≡◌, refl, sym, ap, ap₂, ◌∙◌}
 use mathlib.Core.List.{List, [], ◌∷◌, ◌++◌, append_assoc, map}
-use lib.ListN.{length, take, drop, length-append, length-drop}
+use lib.ListN.{length, get_or, take, drop, length-append, length-drop}
 use lib.Seq.{drop-drop, take_at, drop_at, take-add, length-take-le}
 use Rattle.words.specs.Records.{records, rows_of, flat}
 
@@ -13,6 +13,14 @@ use Rattle.words.specs.Records.{records, rows_of, flat}
 pub length-records : (n k : ℕ) (f : List ℕ) → length (records n k f) ≡ n
 length-records zero k f = refl
 length-records (suc n) k f = ap suc (length-records n k (drop k f))
+
+-- record i
+pub records-at : (n k i : ℕ) (ws : List ℕ) → i < n → get_or (records n k ws) i [] ≡ take k (drop (i * k) ws)
+records-at zero k i ws h = absurd (omega arith)
+records-at (suc n) k zero ws h = let e : zero * k ≡ 0 = omega arith in rw e
+records-at (suc n) k (suc i) ws h =
+    let e : suc i * k ≡ k + i * k = omega arith in
+    records-at n k i (drop k ws) (omega arith) ∙ rw (e, drop-drop (i * k) k ws)
 
 pub flat_append : {R : Type 0} → (words : R → List ℕ) (N N' : List R) → flat words (N ++ N') ≡ flat words N ++ flat words N'
 flat_append words [] N' = refl
@@ -65,6 +73,18 @@ module _ {R : Type 0} (k : ℕ) (read : List ℕ → R) (pos : 0 < k) where
         ∙ ap₂ (λ x l. read x ∷ rows_of k read l) (take_at (words r) (flat words N) k (long r)) (drop_at (words r) (flat words N) k (long r))
         ∙ ap₂ (λ x l. x ∷ l) (back r) (rows-flat N)
 
-    pub length-flat : (N : List R) → length (flat words N) ≡ length N * k
-    length-flat [] = omega arith
-    length-flat (r ∷ N) = length-append (words r) (flat words N) ∙ rw (long, length-flat N) (omega arith)
+-- the words of rows that have k words each: how many they are, and those of row i
+module _ {R : Type 0} (k : ℕ) (words : R → List ℕ) (long : (r : R) → length (words r) ≡ k) where
+  pub length-flat : (N : List R) → length (flat words N) ≡ length N * k
+  length-flat [] = omega arith
+  length-flat (r ∷ N) = length-append (words r) (flat words N) ∙ rw (long, length-flat N) (omega arith)
+
+  pub flat-at : (N : List R) (d : R) (i : ℕ) → i < length N → take k (drop (i * k) (flat words N)) ≡ words (get_or N i d)
+  flat-at [] d i h = absurd (omega arith)
+  flat-at (r ∷ N) d zero h = let e : zero * k ≡ 0 = omega arith in rw e (take_at (words r) (flat words N) k (long r))
+  flat-at (r ∷ N) d (suc i) h =
+      let e : suc i * k ≡ k + i * k = omega arith in
+      ap (λ n. take k (drop n (words r ++ flat words N))) e
+      ∙ ap (take k) (sym (drop-drop (i * k) k (words r ++ flat words N)))
+      ∙ ap (λ l. take k (drop (i * k) l)) (drop_at (words r) (flat words N) k (long r))
+      ∙ flat-at N d i (omega arith)

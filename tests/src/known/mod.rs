@@ -1,5 +1,6 @@
 //! The known cases, with answers written down and not worked out by the model.
 
+mod captures;
 mod hidden;
 mod limits;
 mod ports;
@@ -29,6 +30,7 @@ pub fn known() -> Vec<Known> {
     cases.extend(hidden::cases());
     cases.extend(ports::cases());
     cases.extend(sums::cases());
+    cases.extend(captures::cases());
     cases
 }
 

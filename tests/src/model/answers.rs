@@ -1,6 +1,7 @@
 //! The public functions, from lent words to every word of the answer.
 
 use super::action::Action;
+use super::capture::{capture, FOUND_WORDS};
 use super::edition::{NEWEST, ROW_WORDS};
 use super::fields::Packet;
 use super::file::Policy;
@@ -30,6 +31,11 @@ pub fn answer(call: &Call) -> Vec<u32> {
         } => numbered(table, priorities, chain),
         Call::Listing { bytes } => words_of_bytes(listing(bytes).as_bytes()),
         Call::Hidden { table } => hidden_out(table),
+        Call::Capture {
+            table,
+            packets,
+            answers,
+        } => captured(table, packets, answers),
     }
 }
 
@@ -139,6 +145,20 @@ fn hidden_out(table: &[u32]) -> Vec<u32> {
     let (number, place) = number_and_place(result.err());
     let mut words = vec![number, place, count];
     words.extend(table);
+    words
+}
+
+fn captured(table: &[u32], packets: &[u32], answers: &[u32]) -> Vec<u32> {
+    let result = capture(table, packets, answers.len());
+    let mut answers = answers.to_vec();
+    let found = result.as_ref().map_or(&[][..], |found| &found[..]);
+    for (words, (action, tried)) in answers.chunks_mut(FOUND_WORDS).zip(found) {
+        let [kind, rate] = action.words();
+        words.copy_from_slice(&[kind, rate, *tried as u32]);
+    }
+    let (number, place) = number_and_place(result.err());
+    let mut words = vec![number, place];
+    words.extend(answers);
     words
 }
 

@@ -4,6 +4,7 @@
 
 pub mod action;
 pub mod answers;
+pub mod capture;
 pub mod edition;
 pub mod fields;
 pub mod file;

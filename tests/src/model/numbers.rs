@@ -17,9 +17,11 @@ pub const NOT_A_TABLE: u32 = 15;
 pub const WRONG_ROW: u32 = 16;
 pub const SHORT_BUFFER: u32 = 17;
 pub const WRONG_BYTES: u32 = 18;
+pub const WRONG_CAPTURE: u32 = 19;
+pub const SHORT_ANSWERS: u32 = 20;
 
 /// All of them, in order.
-pub const REFUSALS: [u32; 17] = [
+pub const REFUSALS: [u32; 19] = [
     ENDS_EARLY,
     COUNT_BEYOND,
     WRONG_CELL,
@@ -37,4 +39,6 @@ pub const REFUSALS: [u32; 17] = [
     WRONG_ROW,
     SHORT_BUFFER,
     WRONG_BYTES,
+    WRONG_CAPTURE,
+    SHORT_ANSWERS,
 ];

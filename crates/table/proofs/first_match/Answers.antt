@@ -1,20 +1,19 @@
--- The rows that are left at the start, and there are no more rows than words.
-use Rattle.std.proofs.Common.{ap, ◌∙◌, length, inl, arith}
-use Rattle.row.specs.Left.{rows_left}
-use Rattle.table.proofs.Tables.{length-rows}
+-- The first row that is met is the scan's; where there is none, all were tried.
+use Rattle.std.proofs.Common.{sym, ap, ◌∙◌, map}
+use Rattle.words.specs.Records.{rows_of}
+use Rattle.row.specs.Row.{row_of}
+use Rattle.table.specs.Scan.{found}
+use Rattle.table.proofs.First.{found-first, found-none}
 use Rattle.table.proofs.first_match.Goals as goal
 
-pub loop-i-init : goal.loop-i-init
-loop-i-init c =
-    let none = ap (λ s. s.count) c.into_iter-i-iterator.ensures.into_iter_gives ∙ c.enumerate-i-items.ensures.count in
-    let all = ap (λ s. rows_left s.iter) c.into_iter-i-iterator.ensures.into_iter_gives ∙ ap rows_left c.enumerate-i-items.ensures.source ∙ c.of.ensures in
-    record { rest = rw (none, all); all = rw (none, all) (omega (arith, length-rows c.args.table.now)) }
+pub returns-in-Some : goal.returns-in-Some
+unfolding rows_of
+returns-in-Some c =
+    rw c.row_action.ensures
+    (found-first c.args.packet _ c.in-Some.place (sym c.first_met.ensures ∙ c.in-Some.is)
+    ∙ ap (λ rs. found 0 (map row_of rs) c.args.packet) c.rows-rows.ensures.rows)
 
-pub loop-i-init-derived : goal.loop-i-init-derived
-loop-i-init-derived c =
-    let none = ap (λ s. s.count) c.into_iter-i-iterator.ensures.into_iter_gives ∙ c.enumerate-i-items.ensures.count in
-    let all =
-    ap (λ s. length (rows_left s.iter)) c.into_iter-i-iterator.ensures.into_iter_gives
-    ∙ ap (λ s. length (rows_left s)) c.enumerate-i-items.ensures.source
-    ∙ ap length c.of.ensures in
-    ((tt, tt, inl (rw (none, all) (omega (arith, length-rows c.args.table.now)))), tt)
+pub returns-in-None : goal.returns-in-None
+unfolding rows_of
+returns-in-None c =
+    found-none c.args.packet _ (sym c.first_met.ensures ∙ c.in-None.is) ∙ ap (λ rs. found 0 (map row_of rs) c.args.packet) c.rows-rows.ensures.rows

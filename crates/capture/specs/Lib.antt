@@ -1,0 +1,3 @@
+pub mod Capture
+pub mod Left
+pub mod Theorems
