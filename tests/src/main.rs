@@ -1,6 +1,7 @@
 //! An independent second program: it tests the product through the program
 //! `answers`, which takes calls as words and gives answers as words.
 
+mod branches;
 mod calls;
 mod captures;
 mod cases;
@@ -15,10 +16,13 @@ mod ports;
 mod program;
 mod properties;
 mod random;
+mod sets;
+mod shuffles;
 mod stock;
 mod sums;
 mod tables;
 mod tally;
+mod telling;
 mod work;
 mod world;
 

@@ -58,7 +58,7 @@ fn earlier(place: usize) -> Rows {
 /// written with, and for a row that wants a port a protocol that has ports; where
 /// the other has a prefix, the row's own address if that lies outside, else the
 /// address that differs in the prefix's last bit.
-fn telling_values(rows: &[RawRow]) -> Values {
+pub fn telling_values(rows: &[RawRow]) -> Values {
     std::array::from_fn(|place| {
         let mut values = match *KINDS.list()[place] {
             Kind::Number { flag, .. } => telling_numbers(rows, place, flag),

@@ -16,6 +16,7 @@ use crate::policies::{Draft, Size};
 use crate::ports::contradicted;
 use crate::program::{Difference, Program};
 use crate::random::Random;
+use crate::shuffles::shuffles_hold;
 use crate::tables::table_words;
 use crate::tally::Tally;
 use crate::world::World;
@@ -29,6 +30,8 @@ pub struct Subject {
 
 /// Room for the compiles: small policies make at most 63 rows.
 const ROOM: usize = 64;
+/// Files that are shuffled.
+const SHUFFLED: usize = 220;
 
 pub fn check(
     program: &Program,
@@ -43,7 +46,12 @@ pub fn check(
     passes_hold(program, &subjects, tally)?;
     captures_hold(program, &mut maker.random, &subjects, tally)?;
     faults_in_order(program, &mut maker.random, &subjects, tally)?;
-    contradictions_refused(program, &mut maker.random, &subjects[policies..], tally)
+    contradictions_refused(program, &mut maker.random, &subjects[policies..], tally)?;
+    // Half of these files add rates on purpose, so none of them counts for sums.
+    let sums = tally.sums;
+    shuffles_hold(program, maker, SHUFFLED, tally)?;
+    tally.sums = sums;
+    Ok(())
 }
 
 /// The answers of the program under test, which are the model's too.
@@ -59,6 +67,19 @@ pub fn ask(
     Ok(answers)
 }
 
+/// A small right policy, its size changed before it is drawn.
+pub fn right_draft(
+    maker: &mut Maker,
+    world: &World,
+    resize: impl FnOnce(&mut Random, &mut Size),
+) -> Draft {
+    let mut size = Size::small(&mut maker.random);
+    size.deepest = size.deepest.min(DEEPEST);
+    size.operators = size.operators.min(MOST_OPERATORS);
+    resize(&mut maker.random, &mut size);
+    maker.draft(world, size)
+}
+
 /// Tables that the program under test compiled from right policies.
 fn compiled(
     program: &Program,
@@ -70,10 +91,7 @@ fn compiled(
     let mut drafts = Vec::new();
     for _ in 0..policies {
         let world = World::tiny(&mut maker.random);
-        let mut size = Size::small(&mut maker.random);
-        size.deepest = size.deepest.min(DEEPEST);
-        size.operators = size.operators.min(MOST_OPERATORS);
-        drafts.push(maker.draft(&world, size));
+        drafts.push(right_draft(maker, &world, |_, _| {}));
         worlds.push(world);
     }
     let calls: Vec<Call> = drafts

@@ -147,6 +147,17 @@ fn symmetric(edition: Edition, random: &mut Random) -> Cells {
     cells
 }
 
+/// The operator that gives the same with the two sides changed about.
+pub fn turned(edition: Edition, cells: &Cells) -> Cells {
+    let mut turned = cells.clone();
+    for left in 1..=edition.kinds() as u32 {
+        for right in 1..=edition.kinds() as u32 {
+            turned[edition.cell(right, left)] = mirrored(cells[edition.cell(left, right)]);
+        }
+    }
+    turned
+}
+
 /// The code that gives the same with the two sides changed about.
 fn mirrored(code: u32) -> u32 {
     match code {

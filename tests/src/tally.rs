@@ -12,13 +12,14 @@ use crate::model::edition::{NEWEST, PACKET_WORDS, ROW_WORDS};
 use crate::model::numbers::{BROKEN_LAW, NOT_A_TABLE, REFUSALS, WRONG_PACKET, WRONG_ROW};
 use crate::model::record::RawRow;
 use crate::ports::{contradictory_atoms, contradicts};
+use crate::shuffles::{MET, MOST_MEMBERS};
 use crate::sums::{sums_shown, SUMS};
 
 /// Every refusal must be met this often; the two of a table, and that of a packet, by
 /// each function that reads one. So must matches that contradict themselves: in atoms,
 /// in rows by each of these functions, and in rows at each kind of place; each kind of
-/// sums; and captures whose packets have different answers, and whose first wrong
-/// packet is at each kind of place.
+/// sums; captures whose packets have different answers, and whose first wrong packet
+/// is at each kind of place; and each kind of shuffles and of what they show.
 const LEAST: usize = 100;
 const OF_TABLES: [usize; 2] = [NOT_A_TABLE as usize, WRONG_ROW as usize];
 const READ_TABLES: [&str; 4] = ["scan", "number", "hidden", "capture"];
@@ -50,11 +51,13 @@ pub struct Tally {
     contradictory_atoms: usize,
     contradictory_rows: [[usize; PLACES.len()]; FUNCTIONS],
     /// Tree's actions that rest on a sum of this kind.
-    sums: [usize; SUMS.len()],
+    pub sums: [usize; SUMS.len()],
     /// Captures with different answers, and refused ones by the kind of the wrong
     /// packet's place.
     different_answers: usize,
     wrong_packets: [usize; PLACES.len()],
+    /// Shuffles and what they are compared with, by group and member.
+    pub shuffles: [[usize; MOST_MEMBERS]; MET.len()],
     pub properties: usize,
 }
 
@@ -133,6 +136,10 @@ impl Tally {
         for (wrong, more) in self.wrong_packets.iter_mut().zip(other.wrong_packets) {
             *wrong += more;
         }
+        let shuffles = other.shuffles.iter().flatten();
+        for (met, more) in self.shuffles.iter_mut().flatten().zip(shuffles) {
+            *met += more;
+        }
         self.different_answers += other.different_answers;
         self.most_priorities = self.most_priorities.max(other.most_priorities);
         self.stayed += other.stayed;
@@ -194,6 +201,13 @@ impl Tally {
                 seldom.push(format!("wrong packets of captures, {place}"));
             }
         }
+        for ((group, members), met) in MET.iter().zip(&self.shuffles) {
+            for (member, met) in members.iter().zip(met) {
+                if *met < LEAST {
+                    seldom.push(format!("{group} {member}"));
+                }
+            }
+        }
         seldom
     }
 
@@ -240,6 +254,9 @@ impl Tally {
         text += &format!("wrong packets of captures:{wrong}\n");
         let different = self.different_answers;
         text += &format!("captures with different answers: {different}\n");
+        for ((group, members), met) in MET.iter().zip(&self.shuffles) {
+            text += &format!("{group}:{}\n", times(members, met));
+        }
         text += &format!("{} properties checked\n", self.properties);
         text
     }

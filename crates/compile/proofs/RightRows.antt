@@ -31,7 +31,7 @@ use Rattle.compile.specs.Compile.{compiled_rows}
 use Rattle.compile.specs.Theorems.{RowsRight}
 
 -- an atom whose match is right and whose rate lies in its range; its match may be empty
-abbrev RightAtom : Row Match Action → Type 0
+abbrev pub RightAtom : Row Match Action → Type 0
 RightAtom r = (right_match r.matching ≡ true) × (in_range r.action ≡ true)
 
 -- the nodes of a file with right codes and right atoms
@@ -49,7 +49,7 @@ module _ (f : List ℕ) (l : Layout) (e : read_of f ≡ Ok l) where
   well : WellFormed f l
   well = (accepted-exactly f l).0 e
 
-  right-atoms : All RightAtom (atoms_of f l)
+  pub right-atoms : All RightAtom (atoms_of f l)
   unfolding right_row_match
   right-atoms =
       let xs : List (List ℕ) = atom_records f l.operators l.atoms in
@@ -57,7 +57,7 @@ module _ (f : List ℕ) (l : Layout) (e : read_of f ≡ Ok l) where
       all_map RightAtom row_of [] xs (λ i h. (well.otherwise.matches i (omega arith), action-read (get_or xs i []) (well.otherwise.actions i (omega arith))))
 
   -- so the nodes of its tree are good
-  good : EveryNode (GoodNode RightCodes RightAtom) (tree_of f l)
+  pub good : EveryNode (GoodNode RightCodes RightAtom) (tree_of f l)
   good =
       let os : List (List ℕ) = operator_records f l.operators in
       let ns : List (List ℕ) = node_records f l.operators l.atoms l.nodes in

@@ -1,3 +1,4 @@
+pub mod Any
 pub mod ByFlags
 pub mod Flags
 pub mod Inside

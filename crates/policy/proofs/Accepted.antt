@@ -6,7 +6,7 @@ use Rattle.policy.specs.Sections.{Test}
 use Rattle.logic.specs.Lists.{All}
 use Rattle.words.proofs.RecordLaws.{length-records}
 use Rattle.theory.specs.declared.Row.{Row}
-use Rattle.theory.specs.Nodes.{plant}
+use Rattle.theory.specs.Nodes.{plant, all_atoms}
 use Rattle.theory.specs.Tree.{bare, ◌▸◌}
 use Rattle.row.specs.Row.{row_of}
 use Rattle.flow.specs.declared.Match.{Match}
@@ -18,7 +18,7 @@ use Rattle.policy.specs.Whole.{shape, shape_fault, own_atoms, sum_fault, laws_fa
 use Rattle.policy.specs.Read.{extra_fault, atoms_at_in, nodes_at_in, end_in, operators_in, nodes_in, atoms_at, operator_records, atom_records, node_records}
 use Rattle.policy.specs.Read.{whole_stages, stages, layout, answer, read_as}
 use Rattle.policy.specs.Cells.{operator_rows}
-use Rattle.policy.specs.File.{held, atoms_of_in, file_nodes_in, atoms_of, file_nodes, first_tree, tree_of, all_atoms}
+use Rattle.policy.specs.File.{held, atoms_of_in, file_nodes_in, atoms_of, file_nodes, first_tree, tree_of}
 use Rattle.policy.specs.Meaning.{OneTree}
 use Rattle.policy.specs.WellFormed.{OtherwiseIn, WellFormedIn}
 use Rattle.policy.specs.Order.{GoodSections}

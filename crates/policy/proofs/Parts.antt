@@ -9,7 +9,7 @@ use Rattle.policy.specs.Read.{atoms_at_in, nodes_at_in, end_in, operators_in, at
 use Rattle.policy.specs.Due.{Present, RightHeader}
 use Rattle.policy.specs.WellFormed.{OtherwiseIn, WellFormedIn}
 use Rattle.policy.specs.Parts.{Parts, record_words, section_words, file_words_in, parts_in, layout_of_parts, EachLong, RightPartsIn, LawfulPartsIn}
-use Rattle.policy.specs.Theorems.{PartsAccepted, AcceptedParts, PartsWhole, PartsRead}
+use Rattle.policy.specs.Theorems.{PartsAccepted, AcceptedParts, PartsWhole, PartsRead, PartsSame}
 use Rattle.policy.specs.declared.Edition.{Edition}
 use Rattle.policy.specs.declared.Edition.TheVariants.{First}
 use Rattle.policy.proofs.Accepted.{accepted-as}
@@ -113,6 +113,37 @@ standing f at k rs rest long e =
       read = ap (records (length rs) k) d ∙ records-words k rs rest long;
       after = sym (drop-drop (k * length rs) (at + 1) f) ∙ ap (drop (k * length rs)) d ∙ drop_at (record_words rs) rest (k * length rs) (long-words k rs long);
     }
+
+-- parts by their three lists
+abbrev the_parts : List (List ℕ) → List (List ℕ) → List (List ℕ) → Parts
+the_parts o a n = record { operators = o; atoms = a; nodes = n }
+
+-- two sections of the same words have the same records, and the same behind them
+section-same : (k : ℕ) (rs ss : List (List ℕ)) (rest more : List ℕ) → EachLong k rs → EachLong k ss → section_words rs rest ≡ section_words ss more
+    → (rs ≡ ss) × (rest ≡ more)
+section-same k rs ss rest more p q e =
+    let f : List ℕ = section_words rs rest in
+    let x : Standing f 0 k rs rest = standing f 0 k rs rest p refl in
+    let y : Standing f 0 k ss more = standing f 0 k ss more q e in
+    let many : length rs ≡ length ss = sym x.count ∙ y.count in
+    (sym x.read ∙ ap (λ n. records n k (drop 1 f)) many ∙ y.read, sym x.after ∙ ap (λ n. drop (0 + 1 + k * n) f) many ∙ y.after)
+
+-- PARTS OF THE RIGHT LENGTHS THAT MAKE ONE FILE ARE THE SAME
+pub parts-same : PartsSame
+parts-same e P Q p q g =
+    let x : List ℕ = section_words P.operators (section_words P.atoms (section_words P.nodes [])) in
+    let y : List ℕ = section_words Q.operators (section_words Q.atoms (section_words Q.nodes [])) in
+    let bare : x ≡ y =
+    sym (drop_at (header_of e) x (header_length_in e) (header-many e))
+    ∙ ap (drop (header_length_in e)) g
+    ∙ drop_at (header_of e) y (header_length_in e) (header-many e) in
+    let o = section-same (operator_length_in e) P.operators Q.operators _ _ p.operators q.operators bare in
+    let a = section-same (atom_length_in e) P.atoms Q.atoms _ _ p.atoms q.atoms o.1 in
+    let n = section-same node_length P.nodes Q.nodes [] [] p.nodes q.nodes a.1 in
+    same_parts P.operators Q.operators P.atoms Q.atoms P.nodes Q.nodes o.0 a.0 n.0
+  where
+    same_parts : (o o' a a' n n' : List (List ℕ)) → o ≡ o' → a ≡ a' → n ≡ n' → the_parts o a n ≡ the_parts o' a' n'
+    same_parts o o' a a' n n' x y z = rw (x, y, z) refl
 
 -- the three sections of the words of parts
 module _ (e : Edition) (P : Parts) (r : RightPartsIn e P) where

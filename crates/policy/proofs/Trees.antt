@@ -1,17 +1,17 @@
 -- The shape test is exact: it passes exactly where every node finds its children and the trees that were awaited stand there, each as deep
 -- as its place allows. Assumes nothing.
-use Rattle.std.proofs.Common.{ℕ, zero, suc, ◌-◌, ◌≤◌, arith, ◌≡◌, refl, sym, ap, ◌∙◌, Bool, true, false, cond, ◌&&◌, List, [], ◌∷◌, ◌++◌, map, append_assoc}
+use Rattle.std.proofs.Common.{ℕ, zero, suc, ◌-◌, ◌≤◌, arith, ◌≡◌, refl, sym, ap, ◌∙◌, Bool, true, false, cond, ◌&&◌, List, [], ◌∷◌, map}
 use Rattle.std.proofs.Common.{append-nil, eqb, leb, length, eqb-true, leb-true, le-leb, Ok, Err}
-use Rattle.theory.specs.Tree.{Tree, Forest, node, bare, ◌▸◌}
+use Rattle.theory.specs.Tree.{Tree, Forest, node, bare, ◌▸◌, depth, depths}
 use Rattle.theory.specs.Nodes.{Listed, take_trees, drop_trees, count_trees, plant, list_tree, list_trees, ChildrenFound}
-use Rattle.theory.proofs.Nodes.{◌⧺◌, list-plant, plants-before, plant-list}
+use Rattle.theory.proofs.Nodes.{list-plant, plant-list, list-found}
 use Rattle.refusal.specs.Refusals.{refusal_at}
 use Rattle.refusal.specs.declared.Reason.TheVariants.{NoTree}
 use Rattle.refusal.specs.declared.Refusal.{Refusal}
 use Rattle.policy.specs.Numbers.{deepest}
 use Rattle.policy.specs.Sections.{Test}
 use Rattle.policy.specs.Whole.{waiting_nodes, one_less, shape}
-use Rattle.policy.specs.Meaning.{depth, depths, OneTree}
+use Rattle.policy.specs.Meaning.{OneTree}
 use Rattle.policy.proofs.Records.{unless-true}
 use Rattle.logic.proofs.Tests.{and_left, and_right}
 
@@ -88,19 +88,6 @@ module _ {X : Type 0} where
       let d : suc (depths (take_trees k (plant ns))) ≤ suc deepest - length s = h.1 in
       rw (le-leb 1 (length s) waits, le-leb (length s) deepest (omega arith))
       (trees-shape ns (k ∷ one_less s) (suc i) f.1 (f.0, omega arith, h.2))
-
-  -- the list of trees has every child where it belongs
-  count-before : (ts us : Forest X) → count_trees ts ≤ count_trees (ts ⧺ us)
-  count-before bare us = omega arith
-  count-before (t ▸ ts) us = omega (arith, count-before ts us)
-
-  mutual
-    list-found : (t : Tree X) (ns : List (Listed X)) → ChildrenFound ns → ChildrenFound (list_tree t ++ ns)
-    list-found (node x ts) ns f = (rw (plants-before ts ns) (count-before ts (plant ns)), lists-found ts ns f)
-
-    lists-found : (ts : Forest X) (ns : List (Listed X)) → ChildrenFound ns → ChildrenFound (list_trees ts ++ ns)
-    lists-found bare ns f = f
-    lists-found (t ▸ ts) ns f = rw append_assoc (list-found t (list_trees ts ++ ns) (lists-found ts ns f))
 
   -- a forest of which nothing is left behind its first tree
   only : (ts : Forest X) → 1 ≤ count_trees ts → depths (take_trees 1 ts) ≤ deepest → drop_trees 1 ts ≡ bare

@@ -6,8 +6,7 @@
 --   held                        the nodes, each with its own atoms, taken from where the node before it stopped
 --   file_nodes_in, file_nodes   the nodes of a file
 --   tree_in, tree_of            the tree that they are
---   all_atoms                   the atoms of some nodes, one node's behind the other's
-use Rattle.std.specs.Prelude.{ℕ, List, [], ◌∷◌, ◌++◌, map, take, drop}
+use Rattle.std.specs.Prelude.{ℕ, List, [], ◌∷◌, map, take, drop}
 use Rattle.theory.specs.declared.Row.{Row}
 use Rattle.theory.specs.Tree.{Tree, Forest, node, bare, ◌▸◌, Node}
 use Rattle.theory.specs.Nodes.{Listed, plant}
@@ -73,8 +72,3 @@ file_nodes f l = file_nodes_in latest f l
 
 abbrev pub tree_of : List ℕ → Layout → PolicyTree
 tree_of f l = tree_in latest f l
-
--- the atoms of some nodes, one node's behind the other's
-abbrev pub all_atoms : List (Listed PolicyNode) → List (Row Match Action)
-all_atoms [] = []
-all_atoms (n ∷ ns) = n.what.atoms ++ all_atoms ns

@@ -1,31 +1,19 @@
 -- What the tests of a whole file mean, in the words of the scope: one tree of the depth allowed, a place for each node,
 -- and laws that are kept. See docs/FORMAT.md, "The policy file".
 --
---   depth, depths           how deep a tree is; the deepest of some trees
 --   OneTree                 some nodes in file order are those of one tree, no deeper than allowed
 --   lacking, ended          how many nodes are lacking behind some nodes; the tree has ended
 --   nodes_above, HasPlace   how many nodes are above the next one; the tree has a place for a node
 --   operator_at             the cells of the operator at an index
 --   KeepsLaws               an operator is commutative and associative over all actions with allowed rates
 --   LawsKept                the operators that nodes name as inner or sibling keep the laws
-use Rattle.std.specs.Prelude.{ℕ, zero, suc, ◌+◌, ◌≤◌, ◌<◌, max, ◌≡◌, Bool, false, List, [], ◌∷◌, length, take, if◌then◌else◌, ◌==◌, slice_index_or}
-use Rattle.theory.specs.Tree.{Tree, Forest, node, bare, ◌▸◌}
+use Rattle.std.specs.Prelude.{ℕ, zero, suc, ◌+◌, ◌≤◌, ◌<◌, ◌≡◌, Bool, false, List, [], ◌∷◌, length, take, if◌then◌else◌, ◌==◌, slice_index_or}
+use Rattle.theory.specs.Tree.{Tree, depth}
 use Rattle.theory.specs.Nodes.{Listed, list_tree}
 use Rattle.action.specs.Operator.{cells_of}
 use Rattle.action.specs.Laws.{Commutative, Associative}
 use Rattle.policy.specs.Numbers.{deepest}
 use Rattle.policy.specs.Sections.{inner_of, sibling_of}
-
-module _ {X : Type 0} where
-  abbrev mutual
-    -- how deep a tree is: a node without children is 1 deep
-    pub depth : Tree X → ℕ
-    depth (node x ts) = suc (depths ts)
-
-    -- the deepest of some trees
-    pub depths : Forest X → ℕ
-    depths bare = 0
-    depths (t ▸ ts) = max (depth t) (depths ts)
 
 -- the nodes, parent first and then each child's whole subtree, are those of one tree
 pub record OneTree {X : Type 0} (ns : List (Listed X)) : Type 0 where

@@ -6,6 +6,7 @@
 --   parts_in e f l      the parts of a file of a layout
 --   layout_of_parts P   how many there are of each
 --   EachLong k rs       each record has k words
+--   LongPartsIn e P     each record is as long as the edition has it
 --   RightPartsIn e P    the parts are right, but for the laws
 --   LawfulPartsIn e P   the operators keep the laws where nodes name them as inner or sibling
 use Rattle.std.specs.Prelude.{ℕ, ◌≤◌, ◌<◌, ◌≡◌, true, List, [], ◌∷◌, ◌++◌, map, length, slice_index, slice_index_or}
@@ -57,6 +58,12 @@ layout_of_parts P = layout (length P.operators) (length P.atoms) (length P.nodes
 -- each record has k words
 abbrev pub EachLong : ℕ → List (List ℕ) → Type 0
 EachLong k rs = All (λ r. length r ≡ k) rs
+
+-- each record is as long as the edition has it
+pub record LongPartsIn (e : Edition) (P : Parts) : Type 0 where
+  pub operators : EachLong (operator_length_in e) P.operators
+  pub atoms : EachLong (atom_length_in e) P.atoms
+  pub nodes : EachLong node_length P.nodes
 
 -- right parts, but for the laws
 pub record RightPartsIn (e : Edition) (P : Parts) : Type 0 where

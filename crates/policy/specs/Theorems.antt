@@ -8,9 +8,10 @@
 --   RefusedPlain                           every other refusal names no law
 --   PartsAccepted, AcceptedParts           a file is accepted exactly when its parts are right and lawful
 --   PartsWhole, PartsRead                  a file is what its parts make, and has the parts that it is made of
+--   PartsSame                              parts of the right lengths that make one file are the same
 use Rattle.std.specs.Prelude.{ℕ, ◌≤◌, ◌<◌, ◌≡◌, true, List, ◌↔◌, Ok, Err, None}
-use Rattle.theory.specs.Tree.{bare, ◌▸◌}
-use Rattle.theory.specs.Nodes.{plant, list_tree}
+use Rattle.theory.specs.Tree.{bare, ◌▸◌, depth}
+use Rattle.theory.specs.Nodes.{plant, list_tree, all_atoms}
 use Rattle.action.specs.Laws.{Shows}
 use Rattle.refusal.specs.Refusals.{law_broken, failure_of, refusal_number}
 use Rattle.refusal.specs.declared.Reason.TheVariants.{LawBroken}
@@ -20,10 +21,11 @@ use Rattle.policy.specs.Numbers.{latest, deepest}
 use Rattle.policy.specs.Read.{operators_in, nodes_in, operator_records, node_records, layout, read_as, read_of}
 use Rattle.policy.specs.Whole.{named}
 use Rattle.policy.specs.Cells.{operator_rows}
-use Rattle.policy.specs.Meaning.{operator_at, depth, LawsKept, KeepsLaws}
-use Rattle.policy.specs.File.{atoms_of, file_nodes, tree_of, all_atoms}
+use Rattle.policy.specs.Meaning.{operator_at, LawsKept, KeepsLaws}
+use Rattle.policy.specs.File.{atoms_of, file_nodes, tree_of}
 use Rattle.policy.specs.WellFormed.{OtherwiseIn, Otherwise, WellFormedIn, WellFormed}
-use Rattle.policy.specs.Parts.{Parts, file_words_in, parts_in, layout_of_parts, RightPartsIn, LawfulPartsIn}
+use Rattle.policy.specs.Parts.{Parts, file_words_in, parts_in, layout_of_parts}
+use Rattle.policy.specs.Parts.{LongPartsIn, RightPartsIn, LawfulPartsIn}
 use Rattle.policy.specs.declared.Edition.{Edition}
 use Rattle.policy.specs.declared.Layout.{Layout}
 
@@ -112,3 +114,8 @@ PartsWhole = (e : Edition) (f : List ℕ) (a b c : ℕ) → OtherwiseIn e f a b 
 -- and the file that right parts make has these parts (parts-read)
 abbrev pub PartsRead : Type 0
 PartsRead = (e : Edition) (P : Parts) → RightPartsIn e P → parts_in e (file_words_in e P) (layout_of_parts P) ≡ P
+
+-- parts of the right lengths that make one file are the same, whatever their words are (parts-same)
+abbrev pub PartsSame : Type 0
+PartsSame = (e : Edition) (P Q : Parts) → LongPartsIn e P → LongPartsIn e Q → file_words_in e P ≡ file_words_in e Q
+    → P ≡ Q

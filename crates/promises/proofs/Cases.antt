@@ -14,6 +14,7 @@ use Rattle.promises.specs.Ports.{port_cases}
 use Rattle.promises.specs.Reservations.{reserved_cases}
 use Rattle.promises.specs.Rates.{rate_cases}
 use Rattle.promises.specs.Captures.{capture_cases}
+use Rattle.promises.specs.Shuffles.{shuffle_cases}
 
 -- an `unfolding` of this one unfolds all that the calls compute with
 unfoldable pub computed : ⊤
@@ -53,3 +54,7 @@ rate-cases = hold rate_cases refl
 pub capture-cases : Hold capture_cases
 unfolding computed
 capture-cases = hold capture_cases refl
+
+pub shuffle-cases : Hold shuffle_cases
+unfolding computed
+shuffle-cases = hold shuffle_cases refl

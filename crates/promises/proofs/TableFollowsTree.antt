@@ -15,7 +15,7 @@ use Rattle.policy.specs.Read.{read_of, atoms_at, nodes_at, operator_records, nod
 use Rattle.policy.specs.Whole.{named, names}
 use Rattle.policy.specs.Sections.{inner_of, sibling_of}
 use Rattle.policy.specs.Meaning.{operator_at, KeepsLaws, LawsKept}
-use Rattle.policy.specs.File.{all_atoms}
+use Rattle.theory.specs.Nodes.{all_atoms}
 use Rattle.policy.specs.WellFormed.{Otherwise}
 use Rattle.policy.specs.Theorems.{BrokenLaw}
 use Rattle.policy.proofs.Named.{named_by, Naming, naming}

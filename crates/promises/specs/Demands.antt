@@ -11,7 +11,7 @@
 --   capture_of, answers_after                     capture::scan_capture of a table, packets and a buffer
 use Rattle.std.specs.Prelude.{ℕ, None, suc, ◌*◌, ◌-◌, ◌≤◌, ◌<◌, ◌≡◌, true, false, not, List, [], ◌++◌, Ok, Err, ◌↔◌, ◌⊎◌, length, take, drop, slice_index, slice_index_or}
 use Rattle.theory.specs.Rows.{matches_at}
-use Rattle.theory.specs.Nodes.{list_tree}
+use Rattle.theory.specs.Nodes.{list_tree, all_atoms}
 use Rattle.theory.specs.Number.{FirstPlace, distinct, Obeyed}
 use Rattle.action.specs.declared.LawFailure.{LawFailure}
 use Rattle.refusal.specs.Refusals.{law_broken, reason_number, failure_of, refusal_at, refusal_number, answer_number}
@@ -29,7 +29,7 @@ use Rattle.row.specs.Row.{row_length, right_row, words_of, rows_in, table_rows}
 use Rattle.policy.specs.Read.{read_of, operator_records, node_records}
 use Rattle.policy.specs.Sections.{inner_of, sibling_of}
 use Rattle.policy.specs.Meaning.{operator_at}
-use Rattle.policy.specs.File.{atoms_of, tree_of, all_atoms}
+use Rattle.policy.specs.File.{atoms_of, tree_of}
 use Rattle.policy.specs.WellFormed.{Otherwise, WellFormed}
 use Rattle.policy.specs.declared.Edition.{Edition}
 use Rattle.policy.specs.Order.{Due, FileOrder}

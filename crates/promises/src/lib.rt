@@ -9,6 +9,7 @@ ghost use Rattle.promises.specs.Prefixes.{PrefixTest};
 ghost use Rattle.promises.specs.Reservations.{ReservationsAddUp};
 ghost use Rattle.promises.specs.Rates.{RatesStayInRange};
 ghost use Rattle.promises.specs.Captures.{CaptureScans};
+ghost use Rattle.promises.specs.Shuffles.{ShuffledFiles};
 ghost use Rattle.promises.specs.Prints.{EveryListing};
 ghost use Rattle.promises.specs.Cases.{WorkedCases};
 ghost use Rattle.promises.specs.Held.{Numbers, Premises, RestsOn};
@@ -81,6 +82,12 @@ pub fn rates_stay_in_range()
 #[tactic(auto, using(crate::proofs::Captures::capture_scans))]
 pub fn capture_scans()
     ensures { CaptureScans }
+{}
+
+/// Atoms and children in another order.
+#[tactic(auto, using(crate::proofs::Shuffles::shuffled_files))]
+pub fn shuffled_files()
+    ensures { ShuffledFiles }
 {}
 
 /// Every input has its listing.

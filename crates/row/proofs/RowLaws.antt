@@ -8,7 +8,7 @@ use Rattle.flow.proofs.Words.{match-read-words}
 use Rattle.action.specs.Action.{kind_of, rate_of, action_of, right_action, in_range}
 use Rattle.action.specs.declared.Action.{Action}
 use Rattle.action.proofs.Words.{words-of-action, right-words}
-use Rattle.row.specs.Spelled.{row-some, row-long, row_back}
+use Rattle.row.specs.Spelled.{row-long}
 use Rattle.row.specs.Row.{row_length, row_of, row_action, row_words, words_of, kind_place, rate_place, right_row_action}
 
 -- rows have so many words

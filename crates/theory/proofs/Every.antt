@@ -22,6 +22,16 @@ module _ {X : Type 0} (Q : X → Type 0) where
     listed-all bare f = tt
     listed-all (t ▸ ts) f = let g = all_split Held (list_tree t) (list_trees ts) f in (listed-every t g.0, listed-all ts g.1)
 
+-- what every node has, by two things that every node has
+module _ {X : Type 0} (P Q R : X → Type 0) (gives : (x : X) → P x → Q x → R x) where
+  mutual
+    pub every_both : (t : Tree X) → EveryNode P t → EveryNode Q t → EveryNode R t
+    every_both (node x ts) f g = (gives x f.0 g.0, all_both ts f.1 g.1)
+
+    all_both : (ts : Forest X) → EveryNodes P ts → EveryNodes Q ts → EveryNodes R ts
+    all_both bare f g = tt
+    all_both (t ▸ ts) f g = (every_both t f.0 g.0, all_both ts f.1 g.1)
+
 module _ {M A O : Type 0} (joined : O → A → A → A) (common : M → M → M) (empty : M → Bool) (K : O → Type 0) (T : Row M A → Type 0)
     (keeps : (o : O) (r s : Row M A) → K o → T r → T s → T (common_row common (joined o) r s)) where
   -- The property, of a row whose match is not empty.
@@ -47,7 +57,7 @@ module _ {M A O : Type 0} (joined : O → A → A → A) (common : M → M → M
   every-join o k N N' f g =
       all_append Kept (common_rows common empty (joined o) N N') (N ++ N') (every-common o k N N' f g) (all_append Kept N N' f g)
 
-  every-table : (i : O) → K i → (xs : List (Row M A)) → All T xs → All Kept (table common empty joined i xs)
+  pub every-table : (i : O) → K i → (xs : List (Row M A)) → All T xs → All Kept (table common empty joined i xs)
   every-table i k [] f = tt
   every-table i k (x ∷ xs) f = every-join i k (kept empty x) (table common empty joined i xs) (every-kept x f.0) (every-table i k xs f.1)
 
@@ -57,7 +67,7 @@ module _ {M A O : Type 0} (joined : O → A → A → A) (common : M → M → M
         every-join n.parent f.0.parent (table common empty joined n.inner n.atoms) (compiles common empty joined ts n.sibling)
         (every-table n.inner f.0.inner n.atoms f.0.atoms) (every-trees ts n.sibling f.0.sibling f.1)
 
-    every-trees : (ts : Forest (Node O M A)) (s : O) → K s → EveryNodes (GoodNode K T) ts → All Kept (compiles common empty joined ts s)
+    pub every-trees : (ts : Forest (Node O M A)) (s : O) → K s → EveryNodes (GoodNode K T) ts → All Kept (compiles common empty joined ts s)
     every-trees bare s k f = tt
     every-trees (t ▸ ts) s k f =
         every-join s k (compile common empty joined t) (compiles common empty joined ts s) (every-tree t f.0) (every-trees ts s k f.1)

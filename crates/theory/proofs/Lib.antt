@@ -2,6 +2,7 @@ pub mod Join
 pub mod Compile
 pub mod Every
 pub mod Nodes
+pub mod ShuffleNodes
 pub mod Places
 pub mod Seek
 pub mod Levels
@@ -10,3 +11,8 @@ pub mod Fewest
 pub mod Switch
 pub mod Where
 pub mod HiddenLaws
+pub mod Count
+pub mod Sets
+pub mod OneCount
+pub mod Shuffle
+pub mod ShuffleRows

@@ -1,7 +1,7 @@
 -- Nodes in file order and trees say the same: what a node takes and what it leaves, put together again, is what stood there.
 use Rattle.std.proofs.Common.{ℕ, zero, suc, ◌-◌, ◌≤◌, arith, ◌≡◌, refl, ap, List, [], ◌∷◌, ◌++◌, append_assoc, append-nil}
 use Rattle.theory.specs.Tree.{Tree, Forest, node, bare, ◌▸◌}
-use Rattle.theory.specs.Nodes.{Listed, take_trees, drop_trees, count_trees, plant, list_tree, list_trees}
+use Rattle.theory.specs.Nodes.{Listed, take_trees, drop_trees, count_trees, plant, list_tree, list_trees, ChildrenFound}
 use Rattle.theory.specs.Theorems.{ListPlant, PlantList}
 
 module _ {X : Type 0} where
@@ -37,11 +37,11 @@ module _ {X : Type 0} where
       let ts : Forest X = plant ns in
       simp (count-take k ts found.0, ← list-append (take_trees k ts) (drop_trees k ts), take-drop k ts, list-plant ns found.1)
 
-  take_all : (ts us : Forest X) → take_trees (count_trees ts) (ts ⧺ us) ≡ ts
+  pub take_all : (ts us : Forest X) → take_trees (count_trees ts) (ts ⧺ us) ≡ ts
   take_all bare us = refl
   take_all (t ▸ ts) us = ap (λ vs. t ▸ vs) (take_all ts us)
 
-  drop_all : (ts us : Forest X) → drop_trees (count_trees ts) (ts ⧺ us) ≡ us
+  pub drop_all : (ts us : Forest X) → drop_trees (count_trees ts) (ts ⧺ us) ≡ us
   drop_all bare us = refl
   drop_all (t ▸ ts) us = drop_all ts us
 
@@ -56,3 +56,16 @@ module _ {X : Type 0} where
 
   pub plant-list : PlantList X
   plant-list t = rw append-nil at (plant-before t [])
+
+  count-before : (ts us : Forest X) → count_trees ts ≤ count_trees (ts ⧺ us)
+  count-before bare us = omega arith
+  count-before (t ▸ ts) us = omega (arith, count-before ts us)
+
+  -- Before nodes that find their children, those of a tree or a forest find theirs.
+  mutual
+    pub list-found : (t : Tree X) (ns : List (Listed X)) → ChildrenFound ns → ChildrenFound (list_tree t ++ ns)
+    list-found (node x ts) ns f = (rw (plants-before ts ns) (count-before ts (plant ns)), lists-found ts ns f)
+
+    lists-found : (ts : Forest X) (ns : List (Listed X)) → ChildrenFound ns → ChildrenFound (list_trees ts ++ ns)
+    lists-found bare ns f = f
+    lists-found (t ▸ ts) ns f = rw append_assoc (list-found t (list_trees ts ++ ns) (lists-found ts ns f))

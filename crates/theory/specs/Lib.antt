@@ -3,4 +3,5 @@ pub mod Tree
 pub mod Nodes
 pub mod Number
 pub mod Hidden
+pub mod Shuffle
 pub mod Theorems

@@ -7,8 +7,10 @@
 --   plant                    the trees that nodes in file order are
 --   list_tree, list_trees    the nodes of a tree, and of a forest, in file order
 --   ChildrenFound            every node finds its children
+--   all_atoms                the atoms of some nodes, one node's behind the other's
 use Rattle.std.specs.Prelude.{ℕ, zero, suc, ◌≤◌, List, [], ◌∷◌, ◌++◌, ⊤}
-use Rattle.theory.specs.Tree.{Tree, Forest, node, bare, ◌▸◌}
+use Rattle.theory.specs.declared.Row.{Row}
+use Rattle.theory.specs.Tree.{Tree, Forest, node, bare, ◌▸◌, Node}
 
 -- What a node holds, and its child count.
 pub record Listed (X : Type 0) : Type 0 where
@@ -55,3 +57,8 @@ module _ {X : Type 0} where
   abbrev pub ChildrenFound : List (Listed X) → Type 0
   ChildrenFound [] = ⊤
   ChildrenFound (n ∷ ns) = (n.child_count ≤ count_trees (plant ns)) × ChildrenFound ns
+
+-- The atoms of some nodes, one node's behind the other's.
+abbrev pub all_atoms : {O M A : Type 0} → List (Listed (Node O M A)) → List (Row M A)
+all_atoms [] = []
+all_atoms (n ∷ ns) = n.what.atoms ++ all_atoms ns

@@ -19,6 +19,8 @@
 --   NoneHidden, HiddenAgain                of what stays no row lies inside an earlier one, and all stay once more
 --   HiddenStep                             one row more, asking only the rows that stay
 --   HiddenLess, HiddenEvery                no more rows than before, each with what every row has
+--   AtomsShuffled, ChildrenShuffled        of Shuffle.antt: nodes of which one has its atoms or its children in another
+--                                          order are those of a tree one step away
 --   Theorems                               all of these that a contract can hold, at any types
 use Rattle.std.specs.Prelude.{ℕ, suc, ◌+◌, ◌*◌, ◌≤◌, ◌<◌, ◌≡◌, Bool, true, false, not, ◌&&◌, List, [], ◌∷◌, ◌++◌, map, ◌↔◌, length, take, if◌then◌else◌, nat_lt, slice_index, slice_index_or}
 use Rattle.logic.specs.Lists.{All}
@@ -26,6 +28,7 @@ use Rattle.theory.specs.declared.Row.{Row}
 use Rattle.theory.specs.Rows.{scan, place, tried, matches_at, common_row, join}
 use Rattle.theory.specs.Tree.{Tree, node, bare, ◌▸◌, Node, EveryNode, GoodNode, own, eval, compile}
 use Rattle.theory.specs.Nodes.{Listed, plant, list_tree, list_trees, ChildrenFound}
+use Rattle.theory.specs.Shuffle.{AtomsShuffled, ChildrenShuffled}
 use Rattle.theory.specs.Number.{rows_overlap, FirstPlace, levels, level_count, priorities, chain, Chained, Right}
 use Rattle.theory.specs.Number.{distinct, has, Obeyed}
 use Rattle.theory.specs.Hidden.{inside_one, staying, inside_earlier, InsideSome, places_where, Enclosing, Nesting}
@@ -205,6 +208,8 @@ pub record Theorems (M P A O : Type 0) : Type 0 where
   pub join_size : (common : M → M → M) (empty : M → Bool) (op : A → A → A) → JoinSize common empty op
   pub list_plant : ListPlant O
   pub plant_list : PlantList O
+  pub atoms_shuffled : AtomsShuffled O M A
+  pub children_shuffled : ChildrenShuffled O M A
   pub scan_place : (meets : M → P → Bool) (dont_care : A) → ScanPlace meets dont_care
   pub scan_none : (meets : M → P → Bool) (dont_care : A) → ScanNone meets dont_care
   pub priorities_right : (over : ℕ → ℕ → Bool) (n : ℕ) → PrioritiesRight over n

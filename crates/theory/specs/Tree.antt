@@ -2,6 +2,7 @@
 -- See docs/FORMAT.md, "The tree's action" and "Rows".
 --
 --   Tree X, Forest X     a tree whose nodes each hold an X, and trees in order: node, bare, _▸_
+--   depth, depths        how deep a tree is; the deepest of some trees
 --   Node O M A           what a node of a policy holds: its operators and its atoms
 --   EveryNode            what every node of a tree holds has a property; EveryNodes of a forest
 --   GoodNode             a node's operators have one property, and its atoms another
@@ -9,7 +10,7 @@
 --   eval, evals          the action of a tree, and of children under a sibling operator
 --   table                a node's own table
 --   compile, compiles    the table of a tree, and of children under a sibling operator
-use Rattle.std.specs.Prelude.{Bool, List, [], ◌∷◌, if◌then◌else◌, ⊤}
+use Rattle.std.specs.Prelude.{ℕ, suc, max, Bool, List, [], ◌∷◌, if◌then◌else◌, ⊤}
 use Rattle.logic.specs.Lists.{All}
 use Rattle.theory.specs.declared.Row.{Row}
 use Rattle.theory.specs.Rows.{kept, join}
@@ -24,6 +25,17 @@ mutual
   pub data Forest (X : Type 0) : Type 0 where
     bare : Forest X
     ◌▸◌ : Tree X → Forest X → Forest X
+
+module _ {X : Type 0} where
+  abbrev mutual
+    -- How deep a tree is: a node without children is 1 deep.
+    pub depth : Tree X → ℕ
+    depth (node x ts) = suc (depths ts)
+
+    -- The deepest of some trees.
+    pub depths : Forest X → ℕ
+    depths bare = 0
+    depths (t ▸ ts) = max (depth t) (depths ts)
 
 -- Inner, parent and sibling operator, and the atoms in file order. Figure 1: D = (+D) × 2^P, here with (+P) and (+S).
 pub record Node (O M A : Type 0) : Type 0 where

@@ -4,6 +4,7 @@ mod captures;
 mod hidden;
 mod limits;
 mod ports;
+mod shuffles;
 mod sums;
 mod worked;
 
@@ -31,6 +32,7 @@ pub fn known() -> Vec<Known> {
     cases.extend(ports::cases());
     cases.extend(sums::cases());
     cases.extend(captures::cases());
+    cases.extend(shuffles::cases());
     cases
 }
 

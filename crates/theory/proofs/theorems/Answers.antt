@@ -2,6 +2,7 @@
 use Rattle.theory.proofs.Join.{scan-join, join-size}
 use Rattle.theory.proofs.Compile.{scan-compile, node-chain}
 use Rattle.theory.proofs.Nodes.{list-plant, plant-list}
+use Rattle.theory.proofs.ShuffleNodes.{atoms-shuffled, children-shuffled}
 use Rattle.theory.proofs.Places.{scan-place, scan-none}
 use Rattle.theory.proofs.Levels.{priorities-right, priorities-range}
 use Rattle.theory.proofs.Fewest.{fewest-priorities, priorities-count}
@@ -19,6 +20,8 @@ returns g c = record {
   join_size = join-size;
   list_plant = list-plant;
   plant_list = plant-list;
+  atoms_shuffled = atoms-shuffled;
+  children_shuffled = children-shuffled;
   scan_place = scan-place;
   scan_none = scan-none;
   priorities_right = priorities-right;
