@@ -1,6 +1,7 @@
-//! Times the proved functions against hand-written ones, on the same inputs, in the same run.
+//! Times the proved functions against hand-written ones, and those over bytes against those over words, on the same inputs, in the same run.
 
 mod action;
+mod bytes;
 mod capture;
 mod compile;
 mod flow;
@@ -14,6 +15,7 @@ mod table;
 mod tree;
 
 use action::ACTION_WORDS;
+use bytes::{ANSWER_WORDS, Bytes, to_bytes};
 use capture::{FOUND_WORDS, MOST_PACKETS};
 use flow::{PACKET_WORDS, ROW_WORDS};
 use std::hint::black_box;
@@ -99,9 +101,18 @@ fn tables() {
             scan(&size, table);
             number(&size, table);
             hidden(&size, table);
+            agent_scan(&size, table, ALIGNED);
+            agent_number(&size, table, ALIGNED);
         }
     }
+    let table = inputs::disjoint(1024);
+    agent_scan("1024 odd", table.as_flattened(), ODD);
+    agent_number("1024 odd", table.as_flattened(), ODD);
 }
+
+/// How many bytes behind an aligned address the buffers lie that are lent as bytes.
+const ALIGNED: usize = 0;
+const ODD: usize = 1;
 
 fn captures() {
     for rows in [64, 1024] {
@@ -336,6 +347,60 @@ fn hidden(size: &str, table: &[u32]) {
             },
         );
     }
+}
+
+/// The agent's scan, over bytes, against the proved one over words.
+fn agent_scan(size: &str, table: &[u32], behind: usize) {
+    let (lent, packet) = (Bytes::of(table, behind), Bytes::of(&inputs::PACKET, behind));
+    let mut answer = Bytes::of(&[7; ANSWER_WORDS], behind);
+    let mut given = [7; ACTION_WORDS];
+    let by_bytes = |answer: &mut [u8]| rattle::agent_scan(black_box(&lent), black_box(&packet), answer);
+    let by_words = |given: &mut [u32]| rattle::scan(black_box(table), black_box(&inputs::PACKET), given);
+    assert_eq!(by_bytes(&mut answer), 0);
+    let tried = by_words(&mut given);
+    let by_rust = table::scan(table, &inputs::PACKET).map(|(a, tried)| (action::words(a), tried));
+    assert_eq!(Ok((given, tried)), by_rust);
+    let [kind, rate] = given;
+    assert!(*answer == to_bytes(&[0, kind, rate, tried as u32]));
+    line(
+        &format!("agent scan {size}"),
+        8,
+        || {},
+        || _ = by_bytes(&mut answer),
+        || _ = by_words(&mut given),
+    );
+}
+
+/// The agent's numbering, over bytes, against the proved one over words.
+fn agent_number(size: &str, table: &[u32], behind: usize) {
+    let buffer = vec![7; table.len() / ROW_WORDS + 1];
+    let lent = Bytes::of(table, behind);
+    let mut bytes = [&buffer[..], &buffer, &[7; ANSWER_WORDS]].map(|words| Bytes::of(words, behind));
+    let mut words = [buffer.clone(), buffer];
+    let mut theirs = words.clone();
+    let by_bytes = |[priorities, chain, answer]: &mut [Bytes; 3]| {
+        rattle::agent_number(black_box(&lent), priorities, chain, answer)
+    };
+    let by_words = |[priorities, chain]: &mut [Vec<u32>; 2]| rattle::number(black_box(table), priorities, chain);
+    assert_eq!(by_bytes(&mut bytes), 0);
+    let count = by_words(&mut words);
+    let [priorities, chain] = &mut theirs;
+    assert_eq!(Ok(count), number::all_pairs(table, priorities, chain));
+    assert!(words == theirs);
+    let wanted = [&words[0][..], &words[1], &[0, count, 0, 0]].map(to_bytes);
+    assert!(bytes.iter().zip(&wanted).all(|(bytes, wanted)| **bytes == *wanted));
+    let buffers = std::cell::RefCell::new((bytes, words));
+    line(
+        &format!("agent number {size}"),
+        1,
+        || {
+            let (bytes, words) = &mut *buffers.borrow_mut();
+            bytes.iter_mut().for_each(|b| b.fill(0));
+            words.iter_mut().for_each(|b| b.fill(0));
+        },
+        || _ = black_box(by_bytes(&mut buffers.borrow_mut().0)),
+        || _ = black_box(by_words(&mut buffers.borrow_mut().1)),
+    );
 }
 
 /// Runs the two in turn, each time so many calls, with the buffers made ready before and outside the timing, and prints the medians for one call.

@@ -1,4 +1,5 @@
-//! The proved functions, from the static library of the crate `speed`. A slice is lent as its pointer and its length.
+//! The proved functions, from the static libraries of the crates `speed`, over words, and `agent`, over bytes. A slice is lent
+//! as its pointer and its length.
 
 mod raw {
     #[link(name = "speed", kind = "static")]
@@ -45,6 +46,28 @@ mod raw {
             answers: *mut u32,
             room: usize,
         ) -> usize;
+    }
+
+    #[link(name = "agent", kind = "static")]
+    unsafe extern "C" {
+        pub fn agent_scan(
+            table: *const u8,
+            bytes: usize,
+            packet: *const u8,
+            values: usize,
+            answer: *mut u8,
+            room: usize,
+        ) -> u32;
+        pub fn agent_number(
+            table: *const u8,
+            bytes: usize,
+            priorities: *mut u8,
+            many: usize,
+            chain: *mut u8,
+            long: usize,
+            answer: *mut u8,
+            room: usize,
+        ) -> u32;
     }
 }
 
@@ -119,6 +142,34 @@ pub fn capture(table: &[u32], packets: &[u32], answers: &mut [u32]) -> usize {
             packets.len(),
             answers.as_mut_ptr(),
             answers.len(),
+        )
+    }
+}
+
+pub fn agent_scan(table: &[u8], packet: &[u8], answer: &mut [u8]) -> u32 {
+    unsafe {
+        raw::agent_scan(
+            table.as_ptr(),
+            table.len(),
+            packet.as_ptr(),
+            packet.len(),
+            answer.as_mut_ptr(),
+            answer.len(),
+        )
+    }
+}
+
+pub fn agent_number(table: &[u8], priorities: &mut [u8], chain: &mut [u8], answer: &mut [u8]) -> u32 {
+    unsafe {
+        raw::agent_number(
+            table.as_ptr(),
+            table.len(),
+            priorities.as_mut_ptr(),
+            priorities.len(),
+            chain.as_mut_ptr(),
+            chain.len(),
+            answer.as_mut_ptr(),
+            answer.len(),
         )
     }
 }

@@ -8,11 +8,13 @@ use crate::model::action::ACTION_WORDS;
 /// Bytes of a word.
 pub const WORD_BYTES: usize = 4;
 
-/// The longest slice and listing input that the program under test takes.
+/// The longest slice, listing input and buffer of an agent's call that the program under
+/// test takes.
 pub const MOST_SLICE_WORDS: usize = 45_100;
 pub const MOST_INPUT_BYTES: usize = 52_000;
+pub const MOST_LENT_BYTES: usize = 180_300;
 
-/// Number and place are the front of every answer but a listing's.
+/// Number and place are the front of every answer but a listing's and an agent's.
 pub const PLACED_WORDS: usize = 2;
 /// Where a refusal of a file has its law; three actions follow.
 pub const LAW_AT: usize = PLACED_WORDS;
@@ -26,6 +28,9 @@ pub const ATOMS_AT: usize = REFUSAL_WORDS + 1;
 pub const TRIED_AT: usize = PLACED_WORDS + ACTION_WORDS;
 /// Where the rows stand that are not hidden, behind their count.
 pub const ROWS_AT: usize = PLACED_WORDS + 1;
+/// Where an agent's answer has its words, behind the number that is returned and the
+/// number of its bytes. The first is the place, then come three values.
+pub const TOLD_AT: usize = 2;
 
 #[derive(Clone, PartialEq, Eq, Debug)]
 pub enum Call {
@@ -61,13 +66,33 @@ pub enum Call {
         packets: Vec<u32>,
         answers: Vec<u32>,
     },
+    AgentScan {
+        table: Vec<u8>,
+        packet: Vec<u8>,
+        answer: Vec<u8>,
+    },
+    AgentNumber {
+        table: Vec<u8>,
+        priorities: Vec<u8>,
+        chain: Vec<u8>,
+        answer: Vec<u8>,
+    },
 }
 
 /// Names of the functions, by call code less 1.
 pub const NAMES: [&str; FUNCTIONS] = [
-    "read", "action", "compile", "scan", "number", "listing", "hidden", "capture",
+    "read",
+    "action",
+    "compile",
+    "scan",
+    "number",
+    "listing",
+    "hidden",
+    "capture",
+    "agent's scan",
+    "agent's number",
 ];
-pub const FUNCTIONS: usize = 8;
+pub const FUNCTIONS: usize = 10;
 
 impl Call {
     pub fn code(&self) -> u32 {
@@ -80,6 +105,8 @@ impl Call {
             Call::Listing { .. } => 6,
             Call::Hidden { .. } => 7,
             Call::Capture { .. } => 8,
+            Call::AgentScan { .. } => 9,
+            Call::AgentNumber { .. } => 10,
         }
     }
 
@@ -103,16 +130,24 @@ impl Call {
                 priorities,
                 chain,
             } => &[table, priorities, chain],
-            Call::Listing { bytes } => {
-                words.extend(words_of_bytes(bytes));
-                &[]
-            }
+            Call::Listing { bytes } => return put_bytes(&[bytes], words),
             Call::Hidden { table } => &[table],
             Call::Capture {
                 table,
                 packets,
                 answers,
             } => &[table, packets, answers],
+            Call::AgentScan {
+                table,
+                packet,
+                answer,
+            } => return put_bytes(&[table, packet, answer], words),
+            Call::AgentNumber {
+                table,
+                priorities,
+                chain,
+                answer,
+            } => return put_bytes(&[table, priorities, chain, answer], words),
         };
         for slice in slices {
             words.push(slice.len() as u32);
@@ -156,6 +191,17 @@ impl Call {
                 packets: take_slice(words)?,
                 answers: take_slice(words)?,
             },
+            9 => Call::AgentScan {
+                table: take_bytes(words)?,
+                packet: take_bytes(words)?,
+                answer: take_bytes(words)?,
+            },
+            10 => Call::AgentNumber {
+                table: take_bytes(words)?,
+                priorities: take_bytes(words)?,
+                chain: take_bytes(words)?,
+                answer: take_bytes(words)?,
+            },
             _ => return None,
         })
     }
@@ -170,9 +216,19 @@ impl Call {
             Call::Number {
                 priorities, chain, ..
             } => PLACED_WORDS + 1 + priorities.len() + chain.len(),
-            Call::Listing { .. } => 1 + (*words.first()? as usize).div_ceil(WORD_BYTES),
+            Call::Listing { .. } => bytes_words(*words.first()? as usize),
             Call::Hidden { table } => ROWS_AT + table.len(),
             Call::Capture { answers, .. } => PLACED_WORDS + answers.len(),
+            Call::AgentScan { answer, .. } => 1 + bytes_words(answer.len()),
+            Call::AgentNumber {
+                priorities,
+                chain,
+                answer,
+                ..
+            } => {
+                let lengths = [answer, priorities, chain].map(Vec::len);
+                1 + lengths.map(bytes_words).iter().sum::<usize>()
+            }
         };
         take(words, length).map(<[u32]>::to_vec)
     }
@@ -196,6 +252,16 @@ fn take_bytes(words: &mut &[u32]) -> Option<Vec<u8>> {
     Some(bytes)
 }
 
+/// Words that so many bytes take, their number among them.
+fn bytes_words(bytes: usize) -> usize {
+    1 + bytes.div_ceil(WORD_BYTES)
+}
+
+/// Adds each of these bytes as the words that hold them, behind their number.
+pub fn put_bytes(all: &[&[u8]], words: &mut Vec<u32>) {
+    words.extend(all.iter().flat_map(|bytes| words_of_bytes(bytes)));
+}
+
 /// The number of bytes, then the words that hold them.
 pub fn words_of_bytes(bytes: &[u8]) -> Vec<u32> {
     let mut words = vec![bytes.len() as u32];
@@ -205,6 +271,13 @@ pub fn words_of_bytes(bytes: &[u8]) -> Vec<u32> {
         words.push(u32::from_le_bytes(full));
     }
     words
+}
+
+/// The buffers in the answer to an agent's call: its own answer, and for a numbering
+/// the priorities and the chain.
+pub fn buffers_of_answer(answer: &[u32]) -> Vec<Vec<u8>> {
+    let mut rest = &answer[1..];
+    std::iter::from_fn(|| take_bytes(&mut rest)).collect()
 }
 
 /// The text in a listing's answer.

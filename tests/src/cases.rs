@@ -17,7 +17,7 @@ use crate::world::World;
 const MOST_FILE_WORDS: usize = MOST_INPUT_BYTES / WORD_BYTES;
 
 /// Kinds of cases at large sizes.
-pub const BIG_KINDS: usize = 17;
+pub const BIG_KINDS: usize = 19;
 
 pub struct Maker<'a> {
     pub random: Random,
@@ -28,7 +28,7 @@ impl Maker<'_> {
     pub fn small(&mut self) -> Call {
         let world = World::tiny(&mut self.random);
         let size = Size::small(&mut self.random);
-        match self.random.below(110) {
+        match self.random.below(124) {
             0..=25 => Call::Read {
                 file: self.file(&world, size, 60),
             },
@@ -47,10 +47,18 @@ impl Maker<'_> {
                 let rows = self.random.within(0, 24);
                 self.hidden(&world, rows)
             }
-            _ => {
+            100..=109 => {
                 let rows = self.random.within(0, 12);
                 let packets = self.random.within(0, 9);
                 self.capture(&world, rows, packets)
+            }
+            110..=116 => {
+                let rows = self.random.within(0, 12);
+                self.agent_scan(&world, rows)
+            }
+            _ => {
+                let rows = self.random.within(0, 24);
+                self.agent_number(&world, rows)
             }
         }
     }
@@ -101,7 +109,7 @@ impl Maker<'_> {
                 let rows = self.random.pick(&[0, 1, 12, 60]);
                 self.capture(&tiny, rows, packets)
             }
-            _ => {
+            16 => {
                 let near = [MOST_ROWS - 1, MOST_ROWS, MOST_ROWS, MOST_ROWS + 1];
                 let rows = self.random.pick(&near);
                 let packets = match self.random.below(8) {
@@ -109,6 +117,14 @@ impl Maker<'_> {
                     _ => self.random.within(0, 40),
                 };
                 self.capture(&wide, rows, packets)
+            }
+            17 => {
+                let rows = self.random.pick(&[MOST_ROWS, MOST_ROWS + 1]);
+                self.agent_scan(&wide, rows)
+            }
+            _ => {
+                let rows = self.random.pick(&[300, 300, 300, MOST_ROWS, MOST_ROWS + 1]);
+                self.agent_number(&wide, rows)
             }
         }
     }

@@ -1,6 +1,8 @@
 //! Damage: right policies, rows, packets and words made wrong in one or two places.
 
+use crate::calls::WORD_BYTES;
 use crate::model::action::{GMB, MOST_RATE};
+use crate::model::agent::ANSWER_BYTES;
 use crate::model::edition::{
     Edition, DEEPEST, MOST_ATOMS, MOST_CHILDREN, MOST_NODES, MOST_OPERATORS, NEWEST, NODE_WORDS,
     PACKET_WORDS,
@@ -258,6 +260,43 @@ pub fn spoil_value(random: &mut Random, packet: &Packet) -> Packet {
         _ => packet.destination_port = port,
     }
     packet
+}
+
+/// Lengths of an agent's answer that are not its own: of whole words, and others.
+const ANSWER_LENGTHS: [usize; 12] = [
+    0,
+    1,
+    WORD_BYTES,
+    ANSWER_BYTES - WORD_BYTES,
+    ANSWER_BYTES - 3,
+    ANSWER_BYTES - 2,
+    ANSWER_BYTES - 1,
+    ANSWER_BYTES + 1,
+    ANSWER_BYTES + 2,
+    ANSWER_BYTES + 3,
+    ANSWER_BYTES + WORD_BYTES,
+    2 * ANSWER_BYTES,
+];
+
+/// Wrong lengths of an agent's buffers: of one, or of one and half of the others. The last
+/// buffer is the answer.
+pub fn spoil_lengths(random: &mut Random, buffers: &mut [&mut Vec<u8>]) {
+    let one = random.below(buffers.len());
+    let others = random.pick(&[0, 50]);
+    let answer = buffers.len() - 1;
+    for (place, bytes) in buffers.iter_mut().enumerate() {
+        if place != one && !random.percent(others) {
+            continue;
+        }
+        let odd = random.within(1, WORD_BYTES - 1);
+        let length = match random.below(2) {
+            _ if place == answer => random.pick(&ANSWER_LENGTHS),
+            0 => bytes.len() + odd,
+            _ => bytes.len().saturating_sub(WORD_BYTES) + odd,
+        };
+        bytes.truncate(length);
+        bytes.extend(random.bytes(length - bytes.len()));
+    }
 }
 
 /// Any of so many places, the first and the last more often.

@@ -1,6 +1,7 @@
 //! An independent second program: it tests the product through the program
 //! `answers`, which takes calls as words and gives answers as words.
 
+mod agents;
 mod branches;
 mod calls;
 mod captures;
@@ -44,7 +45,7 @@ second --answers [--spoil N]                         answer calls by the model";
 
 /// Seeds of every run; a fresh one is added.
 const SEEDS: [u64; 2] = [1, 2];
-const CASES: usize = 231_000;
+const CASES: usize = 261_000;
 
 struct Options {
     program: Option<PathBuf>,

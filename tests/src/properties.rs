@@ -1,10 +1,12 @@
 //! Properties, each by means of its own: nothing here asks the model what a row
 //! meets, which rows overlap or hide others, or how long a chain is.
 
-use crate::calls::{Call, PLACED_WORDS, REFUSAL_WORDS, ROWS_AT, TRIED_AT};
+use crate::agents::agents_hold;
+use crate::calls::{to_bytes, Call, PLACED_WORDS, REFUSAL_WORDS, ROWS_AT, TRIED_AT};
 use crate::captures::{captures_hold, faults_in_order};
 use crate::cases::Maker;
 use crate::model::action::DONT_CARE;
+use crate::model::agent::ANSWER_BYTES;
 use crate::model::capture::FOUND_WORDS;
 use crate::model::edition::{DEEPEST, MOST_OPERATORS, NEWEST, ROW_WORDS};
 use crate::model::fields::Packet;
@@ -18,7 +20,7 @@ use crate::program::{Difference, Program};
 use crate::random::Random;
 use crate::shuffles::shuffles_hold;
 use crate::tables::table_words;
-use crate::tally::Tally;
+use crate::tally::{number_and_place, Tally};
 use crate::world::World;
 
 /// A table, the packets that can tell its rows apart, and its policy if it has one.
@@ -46,6 +48,7 @@ pub fn check(
     passes_hold(program, &subjects, tally)?;
     captures_hold(program, &mut maker.random, &subjects, tally)?;
     faults_in_order(program, &mut maker.random, &subjects, tally)?;
+    agents_hold(program, &mut maker.random, &subjects, tally)?;
     contradictions_refused(program, &mut maker.random, &subjects[policies..], tally)?;
     // Half of these files add rates on purpose, so none of them counts for sums.
     let sums = tally.sums;
@@ -286,7 +289,7 @@ fn passes_hold(
     Ok(())
 }
 
-/// Tables of which one row, the first, the last or any, contradicts itself. The four
+/// Tables of which one row, the first, the last or any, contradicts itself. The six
 /// functions that read a table take turns.
 fn contradictions_refused(
     program: &Program,
@@ -306,7 +309,7 @@ fn contradictions_refused(
         rows[place] = contradicted(random, &rows[place]);
         let table = table_words(&rows);
         let packet = subject.world.packet(random).words(NEWEST);
-        calls.push(match calls.len() % 4 {
+        calls.push(match calls.len() % 6 {
             0 => Call::Scan { table, packet },
             1 => Call::Number {
                 table,
@@ -314,17 +317,28 @@ fn contradictions_refused(
                 chain: vec![0; rows.len()],
             },
             2 => Call::Hidden { table },
-            _ => Call::Capture {
+            3 => Call::Capture {
                 table,
                 packets: packet,
                 answers: vec![0; FOUND_WORDS],
+            },
+            4 => Call::AgentScan {
+                table: to_bytes(&table),
+                packet: to_bytes(&packet),
+                answer: vec![0; ANSWER_BYTES],
+            },
+            _ => Call::AgentNumber {
+                table: to_bytes(&table),
+                priorities: to_bytes(&vec![0; rows.len()]),
+                chain: to_bytes(&vec![0; rows.len()]),
+                answer: vec![0; ANSWER_BYTES],
             },
         });
         places.push(place as u32);
     }
     let answers = ask(program, &calls, tally)?;
     for ((place, answer), call) in places.into_iter().zip(answers).zip(calls) {
-        if answer[..PLACED_WORDS] != [WRONG_ROW, place] {
+        if number_and_place(&call, &answer) != (WRONG_ROW, place) {
             return Err(broken(call, "a row that contradicts itself is not refused"));
         }
         tally.properties += 1;

@@ -1,6 +1,8 @@
 //! A small generator of random words (splitmix64): the same seed and stream give
 //! the same words on every machine.
 
+use crate::calls::{to_bytes, WORD_BYTES};
+
 pub struct Random(u64);
 
 impl Random {
@@ -43,5 +45,12 @@ impl Random {
     /// Any words: what a lent buffer may hold before a call.
     pub fn words(&mut self, count: usize) -> Vec<u32> {
         (0..count).map(|_| self.word()).collect()
+    }
+
+    /// Any bytes, for the same.
+    pub fn bytes(&mut self, count: usize) -> Vec<u8> {
+        let mut bytes = to_bytes(&self.words(count.div_ceil(WORD_BYTES)));
+        bytes.truncate(count);
+        bytes
     }
 }

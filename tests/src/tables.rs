@@ -1,9 +1,10 @@
-//! Cases about tables: scans, captures and numberings of right and damaged ones, and
-//! hidden rows out of them.
+//! Cases about tables: scans, captures and numberings of right and damaged ones, those
+//! of an agent too, and hidden rows out of them.
 
-use crate::calls::Call;
+use crate::calls::{to_bytes, Call, MOST_LENT_BYTES};
 use crate::cases::Maker;
-use crate::damage::{some_place, spoil_row, spoil_value};
+use crate::damage::{some_place, spoil_lengths, spoil_packet, spoil_row, spoil_value};
+use crate::model::agent::ANSWER_BYTES;
 use crate::model::capture::FOUND_WORDS;
 use crate::model::edition::{NEWEST, PACKET_WORDS, ROW_WORDS};
 use crate::model::fields::Packet;
@@ -129,6 +130,52 @@ impl Maker<'_> {
             table,
             priorities,
             chain,
+        }
+    }
+
+    /// A scan as an agent asks for it; every second packet meets a drawn row.
+    pub fn agent_scan(&mut self, world: &World, rows: usize) -> Call {
+        let rows = world.rows(&mut self.random, rows);
+        let packet = world.packet_near(&mut self.random, &rows);
+        let packet = match self.random.below(8) {
+            0 => spoil_packet(&mut self.random, &packet),
+            _ => packet.words(NEWEST),
+        };
+        let [mut table, mut packet] = [self.lent(rows), packet].map(|words| to_bytes(&words));
+        let mut answer = self.random.bytes(ANSWER_BYTES);
+        self.lend(&mut [&mut table, &mut packet, &mut answer]);
+        Call::AgentScan {
+            table,
+            packet,
+            answer,
+        }
+    }
+
+    pub fn agent_number(&mut self, world: &World, rows: usize) -> Call {
+        let lent = [
+            self.table(world, rows),
+            self.buffer(rows),
+            self.buffer(rows),
+        ];
+        let [mut table, mut priorities, mut chain] = lent.map(|words| to_bytes(&words));
+        let mut answer = self.random.bytes(ANSWER_BYTES);
+        self.lend(&mut [&mut table, &mut priorities, &mut chain, &mut answer]);
+        Call::AgentNumber {
+            table,
+            priorities,
+            chain,
+            answer,
+        }
+    }
+
+    /// An agent's buffers, of which some have a wrong length once in six times; none is
+    /// longer than the longest that is sent.
+    fn lend(&mut self, buffers: &mut [&mut Vec<u8>]) {
+        if self.random.percent(17) {
+            spoil_lengths(&mut self.random, buffers);
+        }
+        for bytes in buffers {
+            bytes.truncate(MOST_LENT_BYTES);
         }
     }
 

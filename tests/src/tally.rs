@@ -1,35 +1,66 @@
 //! How often each function, refusal and kind of success was met.
 
+use std::borrow::Cow;
 use std::collections::HashSet;
 
 use crate::calls::{
     text_of_answer, to_words, Call, ATOMS_AT, FUNCTIONS, LAW_AT, NAMES, PLACED_WORDS,
-    REFUSAL_WORDS, TRIED_AT,
+    REFUSAL_WORDS, TOLD_AT, TRIED_AT, WORD_BYTES,
 };
-use crate::model::action::DONT_CARE;
+use crate::model::action::{ACTION_WORDS, DONT_CARE};
+use crate::model::agent::ANSWER_BYTES;
 use crate::model::capture::FOUND_WORDS;
 use crate::model::edition::{NEWEST, PACKET_WORDS, ROW_WORDS};
-use crate::model::numbers::{BROKEN_LAW, NOT_A_TABLE, REFUSALS, WRONG_PACKET, WRONG_ROW};
+use crate::model::numbers::{
+    BROKEN_LAW, NOT_A_TABLE, REFUSALS, SHORT_BUFFER, WRONG_LENGTH, WRONG_PACKET, WRONG_ROW,
+};
 use crate::model::record::RawRow;
 use crate::ports::{contradictory_atoms, contradicts};
 use crate::shuffles::{MET, MOST_MEMBERS};
 use crate::sums::{sums_shown, SUMS};
 
-/// Every refusal must be met this often; the two of a table, and that of a packet, by
-/// each function that reads one. So must matches that contradict themselves: in atoms,
-/// in rows by each of these functions, and in rows at each kind of place; each kind of
-/// sums; captures whose packets have different answers, and whose first wrong packet
-/// is at each kind of place; and each kind of shuffles and of what they show.
+/// Every refusal must be met this often; those below by each function that can give
+/// them. So must matches that contradict themselves: in atoms, in rows by each function
+/// that reads a table, and in rows at each kind of place; each kind of sums; captures
+/// whose packets have different answers, and whose first wrong packet is at each kind of
+/// place; successes of an agent's calls with rows, and each kind of a wrong length alone;
+/// and each kind of shuffles and of what they show.
 const LEAST: usize = 100;
-const OF_TABLES: [usize; 2] = [NOT_A_TABLE as usize, WRONG_ROW as usize];
-const READ_TABLES: [&str; 4] = ["scan", "number", "hidden", "capture"];
-const READ_PACKETS: [&str; 3] = ["action", "scan", "capture"];
+const READ_TABLES: [&str; 6] = [
+    "scan",
+    "number",
+    "hidden",
+    "capture",
+    "agent's scan",
+    "agent's number",
+];
+const READ_PACKETS: [&str; 4] = ["action", "scan", "capture", "agent's scan"];
+const NUMBER_ROWS: [&str; 2] = ["number", "agent's number"];
+const OF_AGENTS: [&str; 2] = ["agent's scan", "agent's number"];
+const REFUSED_BY: [(u32, &[&str]); 5] = [
+    (NOT_A_TABLE, &READ_TABLES),
+    (WRONG_ROW, &READ_TABLES),
+    (WRONG_PACKET, &READ_PACKETS),
+    (SHORT_BUFFER, &NUMBER_ROWS),
+    (WRONG_LENGTH, &OF_AGENTS),
+];
 /// The last number.
 const NUMBERS: usize = REFUSALS[REFUSALS.len() - 1] as usize;
+/// The least width of a function's column.
+const COLUMN: usize = 8;
 /// No law, commutativity and associativity.
 const LAWS: usize = 3;
 /// Kinds of places in a table or a capture.
 const PLACES: [&str; 3] = ["first", "last", "between"];
+/// Buffers of an agent whose length can be wrong, those of an answer in two ways.
+const LENGTHS: [&str; 6] = [
+    "table",
+    "packet",
+    "priorities",
+    "chain",
+    "answer of no whole words",
+    "answer of whole words",
+];
 
 #[derive(Default)]
 pub struct Tally {
@@ -56,6 +87,8 @@ pub struct Tally {
     /// packet's place.
     different_answers: usize,
     wrong_packets: [usize; PLACES.len()],
+    /// Agent's calls with one wrong length, by the buffer that has it.
+    wrong_lengths: [usize; LENGTHS.len()],
     /// Shuffles and what they are compared with, by group and member.
     pub shuffles: [[usize; MOST_MEMBERS]; MET.len()],
     pub properties: usize,
@@ -75,9 +108,14 @@ impl Tally {
         if number == BROKEN_LAW as usize && of_file {
             self.laws[answer[LAW_AT] as usize % LAWS] += 1;
         }
-        if let (WRONG_ROW, Some(table)) = (number as u32, lent_table(call)) {
-            if let Some(kind) = contradictory_place(table, place as usize) {
+        if number == WRONG_ROW as usize {
+            if let Some(kind) = contradictory_place(&lent_table(call), place as usize) {
                 self.contradictory_rows[function][kind] += 1;
+            }
+        }
+        if number == WRONG_LENGTH as usize {
+            if let [kind] = wrong_lengths(call)[..] {
+                self.wrong_lengths[kind] += 1;
             }
         }
         if let (WRONG_PACKET, Call::Capture { packets, .. }) = (number as u32, call) {
@@ -97,6 +135,9 @@ impl Tally {
                 }
                 Call::Number { .. } => {
                     self.most_priorities = self.most_priorities.max(answer[PLACED_WORDS]);
+                }
+                Call::AgentNumber { .. } => {
+                    self.most_priorities = self.most_priorities.max(answer[TOLD_AT + 1]);
                 }
                 Call::Hidden { table } => {
                     self.stayed += size;
@@ -136,6 +177,9 @@ impl Tally {
         for (wrong, more) in self.wrong_packets.iter_mut().zip(other.wrong_packets) {
             *wrong += more;
         }
+        for (wrong, more) in self.wrong_lengths.iter_mut().zip(other.wrong_lengths) {
+            *wrong += more;
+        }
         let shuffles = other.shuffles.iter().flatten();
         for (met, more) in self.shuffles.iter_mut().flatten().zip(shuffles) {
             *met += more;
@@ -158,20 +202,27 @@ impl Tally {
     }
 
     /// What was met too seldom to say that it was tested: refusals by their numbers,
-    /// matches that contradict themselves, sums, and captures.
+    /// matches that contradict themselves, sums, captures, and calls of an agent.
     pub fn too_seldom(&self) -> Vec<String> {
         let seldom = REFUSALS
             .into_iter()
             .filter(|&number| self.met(number) < LEAST);
         let mut seldom: Vec<String> = seldom.map(|number| number.to_string()).collect();
         for (name, numbers) in NAMES.iter().zip(&self.numbers) {
-            for number in OF_TABLES {
-                if READ_TABLES.contains(name) && numbers[number] < LEAST {
+            for (number, names) in REFUSED_BY {
+                if names.contains(name) && numbers[number as usize] < LEAST {
                     seldom.push(format!("{number} of {name}"));
                 }
             }
-            if READ_PACKETS.contains(name) && numbers[WRONG_PACKET as usize] < LEAST {
-                seldom.push(format!("{WRONG_PACKET} of {name}"));
+        }
+        for (name, sized) in NAMES.iter().zip(self.sized) {
+            if OF_AGENTS.contains(name) && sized < LEAST {
+                seldom.push(format!("successes of {name}"));
+            }
+        }
+        for (buffer, wrong) in LENGTHS.iter().zip(self.wrong_lengths) {
+            if wrong < LEAST {
+                seldom.push(format!("wrong lengths alone, {buffer}"));
             }
         }
         if self.contradictory_atoms < LEAST {
@@ -213,11 +264,11 @@ impl Tally {
 
     pub fn report(&self) -> String {
         let mut text = format!("{} calls compared word for word\n", self.cases());
-        text += "function      calls  successes  size over 0    largest\n";
+        text += "function           calls  successes  size over 0    largest\n";
         for (function, name) in NAMES.iter().enumerate() {
             let numbers = &self.numbers[function];
             text += &format!(
-                "{name:<9} {:>9} {:>10} {:>12} {:>10}\n",
+                "{name:<14} {:>9} {:>10} {:>12} {:>10}\n",
                 numbers.iter().sum::<usize>(),
                 numbers[0],
                 self.sized[function],
@@ -226,13 +277,14 @@ impl Tally {
         }
         text += "(size: rows made, tried, numbered, listed or kept; atoms read; an action that cares; packets)\n";
         text += "refusal    times  different places";
-        text += &NAMES.map(|name| format!(" {name:>8}")).concat();
+        text += &NAMES.map(|name| format!(" {name:>COLUMN$}")).concat();
         text += "\n";
         for number in REFUSALS {
             let places = self.places[number as usize].len();
             text += &format!("{number:>7} {:>8} {places:>17}", self.met(number));
-            for numbers in &self.numbers {
-                text += &format!(" {:>8}", numbers[number as usize]);
+            for (name, numbers) in NAMES.iter().zip(&self.numbers) {
+                let width = name.len().max(COLUMN);
+                text += &format!(" {:>width$}", numbers[number as usize]);
             }
             text += "\n";
         }
@@ -254,6 +306,8 @@ impl Tally {
         text += &format!("wrong packets of captures:{wrong}\n");
         let different = self.different_answers;
         text += &format!("captures with different answers: {different}\n");
+        let wrong = times(&LENGTHS, &self.wrong_lengths);
+        text += &format!("wrong lengths alone:{wrong}\n");
         for ((group, members), met) in MET.iter().zip(&self.shuffles) {
             text += &format!("{group}:{}\n", times(members, met));
         }
@@ -282,14 +336,39 @@ fn atoms_that_contradict(call: &Call) -> usize {
     }
 }
 
-fn lent_table(call: &Call) -> Option<&[u32]> {
+/// The words of the table that a call lends, none where it lends none.
+fn lent_table(call: &Call) -> Cow<'_, [u32]> {
     match call {
         Call::Scan { table, .. }
         | Call::Number { table, .. }
         | Call::Hidden { table }
-        | Call::Capture { table, .. } => Some(table),
-        _ => None,
+        | Call::Capture { table, .. } => Cow::Borrowed(table),
+        Call::AgentScan { table, .. } | Call::AgentNumber { table, .. } => to_words(table).into(),
+        _ => Cow::default(),
     }
+}
+
+/// The buffers of an agent's call that have a wrong length.
+fn wrong_lengths(call: &Call) -> Vec<usize> {
+    let (others, answer): ([&[u8]; 4], &[u8]) = match call {
+        Call::AgentScan {
+            table,
+            packet,
+            answer,
+        } => ([table, packet, &[], &[]], answer),
+        Call::AgentNumber {
+            table,
+            priorities,
+            chain,
+            answer,
+        } => ([table, &[], priorities, chain], answer),
+        _ => return Vec::new(),
+    };
+    let whole = |bytes: &[u8]| bytes.len().is_multiple_of(WORD_BYTES);
+    let mut wrong = others.map(|bytes| !whole(bytes)).to_vec();
+    wrong.push(!whole(answer));
+    wrong.push(whole(answer) && answer.len() != ANSWER_BYTES);
+    (0..wrong.len()).filter(|kind| wrong[*kind]).collect()
 }
 
 /// The kind of this place, if the row there contradicts itself.
@@ -308,10 +387,15 @@ fn kind_of_place(place: usize, places: usize) -> usize {
     }
 }
 
-/// A listing's refusal is read from its text.
-fn number_and_place(call: &Call, answer: &[u32]) -> (u32, u32) {
-    if !matches!(call, Call::Listing { .. }) {
-        return (answer[0], answer[1]);
+/// A listing's refusal is read from its text. An agent's without an answer has place 0.
+pub fn number_and_place(call: &Call, answer: &[u32]) -> (u32, u32) {
+    match call {
+        Call::Listing { .. } => {}
+        Call::AgentScan { .. } | Call::AgentNumber { .. } => match answer[0] {
+            WRONG_LENGTH => return (WRONG_LENGTH, 0),
+            number => return (number, answer[TOLD_AT]),
+        },
+        _ => return (answer[0], answer[1]),
     }
     let text = text_of_answer(answer);
     let mut words = text.split_whitespace();
@@ -334,5 +418,7 @@ fn size(call: &Call, answer: &[u32]) -> usize {
         Call::Listing { .. } => text_of_answer(answer).lines().count() - 1,
         Call::Hidden { .. } => answer[PLACED_WORDS] as usize,
         Call::Capture { packets, .. } => packets.len() / PACKET_WORDS,
+        Call::AgentScan { .. } => answer[TOLD_AT + 1 + ACTION_WORDS] as usize,
+        Call::AgentNumber { table, .. } => table.len() / WORD_BYTES / ROW_WORDS,
     }
 }

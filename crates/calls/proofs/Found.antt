@@ -6,10 +6,12 @@ use Rattle.words.specs.Records.{flat}
 use Rattle.words.specs.Bytes.{word_bytes, word_of, words_in, bytes_of}
 use Rattle.words.specs.Theorems.{EveryByte}
 use Rattle.words.proofs.Bytes.{length-bytes, length-words, words-read, bytes-of, bytes_read}
-use Rattle.calls.specs.Sent.{most_words, most_bytes, slice_bytes, padding, counted}
-use Rattle.calls.specs.Calls.{Call, read, tree_action, compile, scan, number, list, hidden, capture, Within, Sent, IsCall}
+use Rattle.calls.specs.Sent.{most_words, most_bytes, most_lent, slice_bytes, padding, counted, TextSent}
+use Rattle.calls.specs.Calls.{Call, read, tree_action, compile, scan, number, list, hidden, capture, agent_scan, agent_number, Within, Sent, IsCall}
 use Rattle.calls.specs.Calls.{read_call, tree_action_call, compile_call, scan_call, number_call, list_call, hidden_call, capture_call}
+use Rattle.calls.specs.Calls.{agent_scan_call, agent_number_call}
 use Rattle.calls.specs.Taken.{found, then_in, bytes_in, word_in, at_most, count_in, slice_in, two_in, three_in, text_in, body_in, call_in}
+use Rattle.calls.specs.Taken.{two_lent_in, three_lent_in, four_lent_in}
 use Rattle.calls.specs.Theorems.{CallFound, FoundCall}
 
 -- a test decides
@@ -175,33 +177,101 @@ found_three b rest x h e =
     rw (← r.2) (part_then b (slice_bytes p.0.0 ++ slice_bytes p.0.1) p.1 (slice_bytes r.0) rest q.0 s.0 h, q.1, q.2, s.1)
 
 -- a text
-text-found : (t pad rest : List ℕ) → length t ≤ most_bytes → length pad ≡ padding (length t) → text_in (counted (length t) t pad ++ rest) ≡ (Some t, rest)
+counted-found : (most : ℕ) (t pad rest : List ℕ) → length t ≤ most → length pad ≡ padding (length t)
+    → text_in most (counted (length t) t pad ++ rest) ≡ (Some t, rest)
 unfolding text_in
-text-found t pad rest h e =
+counted-found most t pad rest h e =
     ap (λ o. then_in o (λ n mid. then_in (bytes_in n mid) (λ text behind. found (λ pad. text) (bytes_in (padding n) behind))))
-    (count-found most_bytes (length t) ((t ++ pad) ++ rest) h)
+    (count-found most (length t) ((t ++ pad) ++ rest) h)
     ∙ ap (λ l. then_in (bytes_in (length t) l) (λ text behind. found (λ pad. text) (bytes_in (padding (length t)) behind))) (append_assoc t pad rest)
     ∙ ap (λ o. then_in o (λ text behind. found (λ pad. text) (bytes_in (padding (length t)) behind))) (bytes-found (length t) t (pad ++ rest) refl)
     ∙ ap (found (λ pad. t)) (bytes-found (padding (length t)) pad rest e)
 
-found_text : (b t rest : List ℕ) → EveryByte b → text_in b ≡ (Some t, rest)
-    → (pad : List ℕ) × (length pad ≡ padding (length t)) × (b ≡ counted (length t) t pad ++ rest) × (length t ≤ most_bytes)
+text-found : (most : ℕ) (t s rest : List ℕ) → length t ≤ most → TextSent t s → text_in most (s ++ rest) ≡ (Some t, rest)
+text-found most t s rest h x = ap (λ l. text_in most (l ++ rest)) x.2 ∙ counted-found most t x.0 rest h x.1
+
+text_part : (b mid behind rest t pad : List ℕ) (n : ℕ) → EveryByte b → b ≡ bytes_of n ++ mid → mid ≡ t ++ behind → length t ≡ n → behind ≡ pad ++ rest
+    → length pad ≡ padding n → (s : List ℕ) × TextSent t s × Part b s rest
+text_part b mid behind rest t pad n h p q l r k = (
+  counted (length t) t pad,
+  (pad, k ∙ ap padding (sym l), refl),
+  part_of b (counted (length t) t pad) rest h
+      (p ∙ ap (λ k. bytes_of k ++ mid) (sym l) ∙ ap (λ s. bytes_of (length t) ++ s) (q ∙ ap (λ s. t ++ s) r ∙ sym (append_assoc t pad rest))
+      ∙ sym (append_assoc (bytes_of (length t)) (t ++ pad) rest)),
+)
+
+found_text : (most : ℕ) (b t rest : List ℕ) → EveryByte b → text_in most b ≡ (Some t, rest)
+    → (s : List ℕ) × TextSent t s × Part b s rest × (length t ≤ most)
 unfolding text_in
-found_text b t rest h e =
-    let p = then_of (count_in most_bytes b) (λ n mid. then_in (bytes_in n mid) (λ text behind. found (λ pad. text) (bytes_in (padding n) behind))) t rest e in
-    let n = found_count most_bytes p.0 b p.1 h p.2 in
+found_text most b t rest h e =
+    let p = then_of (count_in most b) (λ n mid. then_in (bytes_in n mid) (λ text behind. found (λ pad. text) (bytes_in (padding n) behind))) t rest e in
+    let n = found_count most p.0 b p.1 h p.2 in
     let q = then_of (bytes_in p.0 p.1) (λ text behind. found (λ pad. text) (bytes_in (padding p.0) behind)) t rest p.3 in
     let x = found_bytes p.0 p.1 q.0 q.1 q.2 in
     let r = found_of (λ pad. q.0) (bytes_in (padding p.0) q.1) t rest q.3 in
     let y = found_bytes (padding p.0) q.1 r.0 rest r.1 in
-    let l : length t ≡ p.0 = ap length (sym r.2) ∙ x.1 in (
-      r.0,
-      y.1 ∙ ap padding (sym l),
-      n.0.parts ∙ ap (λ k. bytes_of k ++ p.1) (sym l)
-          ∙ ap (λ s. bytes_of (length t) ++ s) (x.0 ∙ ap (λ s. s ++ q.1) r.2 ∙ ap (λ s. t ++ s) y.0 ∙ sym (append_assoc t r.0 rest))
-          ∙ sym (append_assoc (bytes_of (length t)) (t ++ r.0) rest),
-      rw l n.1,
-    )
+    let l : length t ≡ p.0 = ap length (sym r.2) ∙ x.1 in
+    let w = text_part b p.1 q.1 rest t r.0 p.0 h n.0.parts (x.0 ∙ ap (λ s. s ++ q.1) r.2) l y.0 y.1 in
+    (w.0, w.1, w.2, rw l n.1)
+
+-- two, three and four buffers of bytes
+two_lent-found : (t p x y rest : List ℕ) → length t ≤ most_lent → length p ≤ most_lent → TextSent t x → TextSent p y
+    → two_lent_in ((x ++ y) ++ rest) ≡ (Some (t, p), rest)
+unfolding two_lent_in
+two_lent-found t p x y rest h k s u =
+    ap (λ b. then_in (text_in most_lent b) (λ t behind. found (λ p. (t, p)) (text_in most_lent behind))) (append_assoc x y rest)
+    ∙ ap (λ o. then_in o (λ t behind. found (λ p. (t, p)) (text_in most_lent behind))) (text-found most_lent t x (y ++ rest) h s)
+    ∙ ap (found (λ p. (t, p))) (text-found most_lent p y rest k u)
+
+found_two_lent : (b rest : List ℕ) (x : List ℕ × List ℕ) → EveryByte b → two_lent_in b ≡ (Some x, rest)
+    → (s : List ℕ) × (u : List ℕ) × TextSent x.0 s × TextSent x.1 u × Part b (s ++ u) rest × (length x.0 ≤ most_lent) × (length x.1 ≤ most_lent)
+unfolding two_lent_in
+found_two_lent b rest x h e =
+    let p = then_of (text_in most_lent b) (λ t behind. found (λ p. (t, p)) (text_in most_lent behind)) x rest e in
+    let q = found_text most_lent b p.0 p.1 h p.2 in
+    let r = found_of (λ y. (p.0, y)) (text_in most_lent p.1) x rest p.3 in
+    let s = found_text most_lent p.1 r.0 rest q.2.left r.1 in
+    rw (← r.2) (q.0, s.0, q.1, s.1, part_then b q.0 p.1 s.0 rest q.2 s.2 h, q.3, s.3)
+
+three_lent-found : (t p a x y z rest : List ℕ) → length t ≤ most_lent → length p ≤ most_lent → length a ≤ most_lent
+    → TextSent t x → TextSent p y → TextSent a z → three_lent_in (((x ++ y) ++ z) ++ rest) ≡ (Some (t, p, a), rest)
+unfolding three_lent_in
+three_lent-found t p a x y z rest h k l s u v =
+    ap (λ b. then_in (two_lent_in b) (λ x behind. found (λ z. (x.0, x.1, z)) (text_in most_lent behind))) (append_assoc (x ++ y) z rest)
+    ∙ ap (λ o. then_in o (λ x behind. found (λ z. (x.0, x.1, z)) (text_in most_lent behind))) (two_lent-found t p x y (z ++ rest) h k s u)
+    ∙ ap (found (λ z. (t, p, z))) (text-found most_lent a z rest l v)
+
+found_three_lent : (b rest : List ℕ) (x : List ℕ × List ℕ × List ℕ) → EveryByte b → three_lent_in b ≡ (Some x, rest)
+    → (s : List ℕ) × (u : List ℕ) × (v : List ℕ) × TextSent x.0 s × TextSent x.1 u × TextSent x.2 v × Part b ((s ++ u) ++ v) rest
+    × (length x.0 ≤ most_lent) × (length x.1 ≤ most_lent) × (length x.2 ≤ most_lent)
+unfolding three_lent_in
+found_three_lent b rest x h e =
+    let p = then_of (two_lent_in b) (λ x behind. found (λ z. (x.0, x.1, z)) (text_in most_lent behind)) x rest e in
+    let q = found_two_lent b p.1 p.0 h p.2 in
+    let r = found_of (λ z. (p.0.0, p.0.1, z)) (text_in most_lent p.1) x rest p.3 in
+    let s = found_text most_lent p.1 r.0 rest q.4.left r.1 in
+    rw (← r.2) (q.0, q.1, s.0, q.2, q.3, s.1, part_then b (q.0 ++ q.1) p.1 s.0 rest q.4 s.2 h, q.5, q.6, s.3)
+
+four_lent-found : (t p c a x y z w rest : List ℕ) → length t ≤ most_lent → length p ≤ most_lent → length c ≤ most_lent → length a ≤ most_lent
+    → TextSent t x → TextSent p y → TextSent c z → TextSent a w → four_lent_in ((((x ++ y) ++ z) ++ w) ++ rest) ≡ (Some (t, p, c, a), rest)
+unfolding four_lent_in
+four_lent-found t p c a x y z w rest h k l m s u v o =
+    ap (λ b. then_in (three_lent_in b) (λ x behind. found (λ w. (x.0, x.1, x.2, w)) (text_in most_lent behind))) (append_assoc ((x ++ y) ++ z) w rest)
+    ∙ ap (λ f. then_in f (λ x behind. found (λ w. (x.0, x.1, x.2, w)) (text_in most_lent behind)))
+    (three_lent-found t p c x y z (w ++ rest) h k l s u v)
+    ∙ ap (found (λ w. (t, p, c, w))) (text-found most_lent a w rest m o)
+
+found_four_lent : (b rest : List ℕ) (x : List ℕ × List ℕ × List ℕ × List ℕ) → EveryByte b → four_lent_in b ≡ (Some x, rest)
+    → (s : List ℕ) × (u : List ℕ) × (v : List ℕ) × (w : List ℕ) × TextSent x.0 s × TextSent x.1 u × TextSent x.2 v × TextSent x.3 w
+    × Part b (((s ++ u) ++ v) ++ w) rest
+    × (length x.0 ≤ most_lent) × (length x.1 ≤ most_lent) × (length x.2 ≤ most_lent) × (length x.3 ≤ most_lent)
+unfolding four_lent_in
+found_four_lent b rest x h e =
+    let p = then_of (three_lent_in b) (λ x behind. found (λ w. (x.0, x.1, x.2, w)) (text_in most_lent behind)) x rest e in
+    let q = found_three_lent b p.1 p.0 h p.2 in
+    let r = found_of (λ w. (p.0.0, p.0.1, p.0.2, w)) (text_in most_lent p.1) x rest p.3 in
+    let s = found_text most_lent p.1 r.0 rest q.6.left r.1 in
+    rw (← r.2) (q.0, q.1, q.2, s.0, q.3, q.4, q.5, s.1, part_then b ((q.0 ++ q.1) ++ q.2) p.1 s.0 rest q.6 s.2 h, q.7, q.8, q.9, s.3)
 
 -- THE CALL: what stands behind its number, found
 behind : (n : ℕ) (body : List ℕ) → call_in (bytes_of n ++ body) ≡ body_in n body
@@ -227,12 +297,21 @@ call_found (number t ps cs) s rest c =
     sent number_call s ((slice_bytes t ++ slice_bytes ps) ++ slice_bytes cs) rest c.sent
     ∙ ap (found (λ x. number x.0 x.1 x.2)) (three-found t ps cs rest c.within.0 c.within.1 c.within.2)
 call_found (list b) s rest c =
-    sent list_call s (counted (length b) b c.sent.0) rest c.sent.2
-    ∙ ap (found (λ x. list x)) (text-found b c.sent.0 rest c.within c.sent.1)
+    sent list_call s c.sent.0 rest c.sent.2 ∙ ap (found (λ x. list x)) (text-found most_bytes b c.sent.0 rest c.within c.sent.1)
 call_found (hidden t) s rest c = sent hidden_call s (slice_bytes t) rest c.sent ∙ ap (found (λ x. hidden x)) (slice-found t rest c.within)
 call_found (capture t ps xs) s rest c =
     sent capture_call s ((slice_bytes t ++ slice_bytes ps) ++ slice_bytes xs) rest c.sent
     ∙ ap (found (λ x. capture x.0 x.1 x.2)) (three-found t ps xs rest c.within.0 c.within.1 c.within.2)
+call_found (agent_scan t p a) s rest c =
+    let d = c.sent in
+    let h = c.within in
+    sent agent_scan_call s ((d.0 ++ d.1) ++ d.2) rest d.6
+    ∙ ap (found (λ x. agent_scan x.0 x.1 x.2)) (three_lent-found t p a d.0 d.1 d.2 rest h.0 h.1 h.2 d.3 d.4 d.5)
+call_found (agent_number t ps cs a) s rest c =
+    let d = c.sent in
+    let h = c.within in
+    sent agent_number_call s (((d.0 ++ d.1) ++ d.2) ++ d.3) rest d.8
+    ∙ ap (found (λ x. agent_number x.0 x.1 x.2 x.3)) (four_lent-found t ps cs a d.0 d.1 d.2 d.3 rest h.0 h.1 h.2 h.3 d.4 d.5 d.6 d.7)
 
 -- and what was found was sent
 Called : (b rest : List ℕ) → Call → Type 0
@@ -246,6 +325,10 @@ called n k b mid rest call c body t w e d within sent = (
   subst (λ (x : Call). IsCall x (bytes_of k ++ body)) d (record { within = within; sent = sent }),
   w.parts ∙ ap (λ m. bytes_of m ++ mid) (eqb-true n k t) ∙ ap (λ s. bytes_of k ++ s) e ∙ sym (append_assoc (bytes_of k) body rest),
 )
+
+number_sent : (t ps cs a x y z w : List ℕ) → TextSent t x → TextSent ps y → TextSent cs z → TextSent a w
+    → Sent (agent_number t ps cs a) (bytes_of agent_number_call ++ (((x ++ y) ++ z) ++ w))
+number_sent t ps cs a x y z w s u v o = (x, y, z, w, s, u, v, o, refl)
 
 by_number : (b rest : List ℕ) (call : Call) (n : ℕ) (mid : List ℕ) → Part b (bytes_of n) mid → body_in n mid ≡ (Some call, rest) → Called b rest call
 unfolding body_in
@@ -280,9 +363,9 @@ by_number b rest call n mid w e =
     (s.1, s.2, s.3) refl)
     (λ _ e. chosen (eqb n list_call) _ _ _ e
     (λ t d.
-    let r = found_of (λ x. list x) (text_in mid) call rest d in
-    let s = found_text mid r.0 rest h r.1 in
-    called n list_call b mid rest call (list r.0) (counted (length r.0) r.0 s.0) t w s.2 r.2 s.3 (s.0, s.1, refl))
+    let r = found_of (λ x. list x) (text_in most_bytes mid) call rest d in
+    let s = found_text most_bytes mid r.0 rest h r.1 in
+    called n list_call b mid rest call (list r.0) s.0 t w s.2.parts r.2 s.3 (s.0, s.1, refl))
     (λ _ e. chosen (eqb n hidden_call) _ _ _ e
     (λ t d.
     let r = found_of (λ x. hidden x) (slice_in mid) call rest d in
@@ -294,7 +377,19 @@ by_number b rest call n mid w e =
     let s = found_three mid rest r.0 h r.1 in
     called n capture_call b mid rest call (capture r.0.0 r.0.1 r.0.2) ((slice_bytes r.0.0 ++ slice_bytes r.0.1) ++ slice_bytes r.0.2) t w s.0.parts r.2
     (s.1, s.2, s.3) refl)
-    (λ _ e. absurd (none-some call (halves _ _ e).0)))))))))
+    (λ _ e. chosen (eqb n agent_scan_call) _ _ _ e
+    (λ t d.
+    let r = found_of (λ x. agent_scan x.0 x.1 x.2) (three_lent_in mid) call rest d in
+    let s = found_three_lent mid rest r.0 h r.1 in
+    called n agent_scan_call b mid rest call (agent_scan r.0.0 r.0.1 r.0.2) ((s.0 ++ s.1) ++ s.2) t w s.6.parts r.2 (s.7, s.8, s.9)
+    (s.0, s.1, s.2, s.3, s.4, s.5, refl))
+    (λ _ e. chosen (eqb n agent_number_call) _ _ _ e
+    (λ t d.
+    let r = found_of (λ x. agent_number x.0 x.1 x.2 x.3) (four_lent_in mid) call rest d in
+    let s = found_four_lent mid rest r.0 h r.1 in
+    called n agent_number_call b mid rest call (agent_number r.0.0 r.0.1 r.0.2 r.0.3) (((s.0 ++ s.1) ++ s.2) ++ s.3) t w s.8.parts r.2
+    (s.9, s.10, s.11, s.12) (number_sent _ _ _ _ s.0 s.1 s.2 s.3 s.4 s.5 s.6 s.7))
+    (λ _ e. absurd (none-some call (halves _ _ e).0)))))))))))
 
 pub found_call : FoundCall
 unfolding call_in Called

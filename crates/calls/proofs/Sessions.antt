@@ -2,10 +2,12 @@
 use Rattle.std.proofs.Common.{◌≡◌, refl, sym, ap, ◌∙◌, arith, ℕ, zero, suc, ◌+◌, ◌*◌, ◌<◌, ◌≤◌, Bool, true, false, cond, eqb, List, [], ◌++◌, length, length-append, Some, None}
 use Rattle.std.specs.declared.option.Option.{Option}
 use Rattle.words.specs.Bytes.{word_bytes, word_of, words_in}
-use Rattle.calls.specs.Sent.{most_words, most_bytes, padding}
-use Rattle.calls.specs.Calls.{Call, read, tree_action, compile, scan, number, list, hidden, capture, reply_of}
+use Rattle.calls.specs.Sent.{most_words, most_bytes, most_lent, padding}
+use Rattle.calls.specs.Calls.{Call, read, tree_action, compile, scan, number, list, hidden, capture, agent_scan, agent_number, reply_of}
 use Rattle.calls.specs.Calls.{read_call, tree_action_call, compile_call, scan_call, number_call, list_call, hidden_call, capture_call}
+use Rattle.calls.specs.Calls.{agent_scan_call, agent_number_call}
 use Rattle.calls.specs.Taken.{found, then_in, bytes_in, word_in, at_most, count_in, slice_in, two_in, three_in, text_in, body_in, call_in}
+use Rattle.calls.specs.Taken.{two_lent_in, three_lent_in, four_lent_in}
 use Rattle.calls.specs.Session.{replies_then, session_up_to, session}
 use Rattle.calls.specs.Theorems.{CallShorter, SessionStep}
 use Rattle.calls.proofs.Found.{halves, found_of, then_of, found_bytes}
@@ -72,17 +74,35 @@ three-shorter =
     then-shorter 0 0 two_in (λ x rest. found (λ z. (x.0, x.1, z)) (slice_in rest)) two-shorter
     (λ x. found-shorter 0 (λ z. (x.0, x.1, z)) slice_in slice-shorter)
 
-text-shorter : Shorter 0 text_in
+text-shorter : (most : ℕ) → Shorter 0 (text_in most)
 unfolding text_in
-text-shorter =
-    less-shorter word_bytes 0 text_in (omega arith)
-    (then-shorter word_bytes 0 (count_in most_bytes)
+text-shorter most =
+    less-shorter word_bytes 0 (text_in most) (omega arith)
+    (then-shorter word_bytes 0 (count_in most)
     (λ n rest. then_in (bytes_in n rest) (λ text behind. found (λ pad. text) (bytes_in (padding n) behind)))
-    (count-shorter most_bytes)
+    (count-shorter most)
     (λ n.
     then-shorter 0 0 (bytes_in n) (λ text behind. found (λ pad. text) (bytes_in (padding n) behind))
     (less-shorter n 0 (bytes_in n) (omega arith) (bytes-shorter n))
     (λ text. part-shorter (padding n) (λ pad. text))))
+
+two_lent-shorter : Shorter 0 two_lent_in
+unfolding two_lent_in
+two_lent-shorter =
+    then-shorter 0 0 (text_in most_lent) (λ x rest. found (λ y. (x, y)) (text_in most_lent rest)) (text-shorter most_lent)
+    (λ x. found-shorter 0 (λ y. (x, y)) (text_in most_lent) (text-shorter most_lent))
+
+three_lent-shorter : Shorter 0 three_lent_in
+unfolding three_lent_in
+three_lent-shorter =
+    then-shorter 0 0 two_lent_in (λ x rest. found (λ z. (x.0, x.1, z)) (text_in most_lent rest)) two_lent-shorter
+    (λ x. found-shorter 0 (λ z. (x.0, x.1, z)) (text_in most_lent) (text-shorter most_lent))
+
+four_lent-shorter : Shorter 0 four_lent_in
+unfolding four_lent_in
+four_lent-shorter =
+    then-shorter 0 0 three_lent_in (λ x rest. found (λ w. (x.0, x.1, x.2, w)) (text_in most_lent rest)) three_lent-shorter
+    (λ x. found-shorter 0 (λ w. (x.0, x.1, x.2, w)) (text_in most_lent) (text-shorter most_lent))
 
 either-shorter : {A : Type 0} (t : Bool) (f g : List ℕ → Option A × List ℕ) → Shorter 0 f → Shorter 0 g → Shorter 0 (λ b. cond t (f b) (g b))
 unfolding Shorter
@@ -101,9 +121,12 @@ body-shorter n =
     (either-shorter (eqb n compile_call) _ _ (found-shorter 0 (λ s. compile s.0 s.1 s.2) three_in three-shorter)
     (either-shorter (eqb n scan_call) _ _ (found-shorter 0 (λ s. scan s.0 s.1) two_in two-shorter)
     (either-shorter (eqb n number_call) _ _ (found-shorter 0 (λ s. number s.0 s.1 s.2) three_in three-shorter)
-    (either-shorter (eqb n list_call) _ _ (found-shorter 0 (λ t. list t) text_in text-shorter)
+    (either-shorter (eqb n list_call) _ _ (found-shorter 0 (λ t. list t) (text_in most_bytes) (text-shorter most_bytes))
     (either-shorter (eqb n hidden_call) _ _ (found-shorter 0 (λ t. hidden t) slice_in slice-shorter)
-    (either-shorter (eqb n capture_call) _ _ (found-shorter 0 (λ s. capture s.0 s.1 s.2) three_in three-shorter) (none-shorter Call))))))))
+    (either-shorter (eqb n capture_call) _ _ (found-shorter 0 (λ s. capture s.0 s.1 s.2) three_in three-shorter)
+    (either-shorter (eqb n agent_scan_call) _ _ (found-shorter 0 (λ s. agent_scan s.0 s.1 s.2) three_lent_in three_lent-shorter)
+    (either-shorter (eqb n agent_number_call) _ _ (found-shorter 0 (λ s. agent_number s.0 s.1 s.2 s.3) four_lent_in four_lent-shorter)
+    (none-shorter Call))))))))))
 
 pub call-shorter : CallShorter
 unfolding call_in Shorter

@@ -14,7 +14,8 @@
 --   answer_words          the words of an answer: a refusal's, and then a value's
 --   reading_words, evaluated_words, compiled_words, scanned_words, numbered_words, kept_words, captured_words
 --                         the words of each function's answer, before the buffers
---   read_reply, action_reply, compile_reply, scan_reply, number_reply, hidden_reply, capture_reply, text_reply
+--   read_reply, action_reply, compile_reply, scan_reply, number_reply, hidden_reply, capture_reply, text_reply,
+--   agent_scan_reply, agent_number_reply, and answered_reply, which both of these begin with
 --                         the bytes that each call is answered, with every buffer that was lent for writing
 use Rattle.std.specs.Prelude.{ℕ, ◌+◌, ◌*◌, List, [], ◌∷◌, ◌++◌, Option, Some, None, Result, Ok, Err, length, replicate}
 use Rattle.words.specs.Words.{zeros}
@@ -37,6 +38,8 @@ use Rattle.table.specs.declared.Found.{Found}
 use Rattle.priority.specs.Numbering.{number_of, priorities_after, chain_after}
 use Rattle.hidden.specs.Hidden.{kept_of, table_kept}
 use Rattle.capture.specs.Capture.{capture_of, answers_after}
+use Rattle.exports.specs.Exports.{scan_number, scan_answer}
+use Rattle.exports.specs.Exports.{numbering_number, numbering_answer, priorities_left, chain_left}
 use Rattle.streams.specs.Count.{low}
 use Rattle.calls.specs.Sent.{padding, counted}
 
@@ -177,3 +180,17 @@ capture_reply t ps xs =
 -- a text: how many bytes there are, they, and zeros up to a whole word
 abbrev pub text_reply : List ℕ → List ℕ
 text_reply t = counted (low (length t)) t (replicate (padding (length t)) 0)
+
+-- what each agent's call is answered first: its number, and the answer's buffer after it
+unfoldable pub answered_reply : ℕ → List ℕ → List ℕ
+answered_reply n a = bytes_of n ++ text_reply a
+
+-- to an agent's scan of a table, for a packet
+unfoldable pub agent_scan_reply : List ℕ → List ℕ → List ℕ → List ℕ
+agent_scan_reply t p a = answered_reply (scan_number t p a) (scan_answer t p a)
+
+-- to an agent's numbering of a table, with the priorities and the chain after it
+unfoldable pub agent_number_reply : List ℕ → List ℕ → List ℕ → List ℕ → List ℕ
+agent_number_reply t ps cs a =
+    (answered_reply (numbering_number t ps cs a) (numbering_answer t ps cs a) ++ text_reply (priorities_left t ps cs a))
+    ++ text_reply (chain_left t ps cs a)

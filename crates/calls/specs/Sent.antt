@@ -2,10 +2,12 @@
 --
 --   most_words        the longest slice that is taken
 --   most_bytes        the longest text that is taken
+--   most_lent         the longest buffer of bytes that an agent's call may bring
 --   slice_bytes ws    a slice of words: its length, then its words
 --   padding n         how many bytes stand behind so many, up to a whole word
 --   counted n b pad   bytes: a word for how many there are, then they, then so much padding
-use Rattle.std.specs.Prelude.{ℕ, ◌-◌, ◌%◌, List, ◌++◌, length}
+--   TextSent b s      the bytes s are the text b: any padding is right that is as long as it has to be
+use Rattle.std.specs.Prelude.{ℕ, ◌≡◌, ◌-◌, ◌%◌, List, ◌++◌, length}
 use Rattle.words.specs.Records.{flat}
 use Rattle.words.specs.Bytes.{word_bytes, bytes_of}
 
@@ -16,6 +18,10 @@ most_words = 45100
 -- the longest text that is taken, in bytes
 abbrev pub most_bytes : ℕ
 most_bytes = 52000
+
+-- the longest buffer of bytes that an agent's call may bring
+abbrev pub most_lent : ℕ
+most_lent = 180300
 
 -- a slice of words: its length, then its words
 abbrev pub slice_bytes : List ℕ → List ℕ
@@ -28,3 +34,7 @@ padding n = (word_bytes - n % word_bytes) % word_bytes
 -- bytes: a word for how many there are, then they, then so much padding
 abbrev pub counted : ℕ → List ℕ → List ℕ → List ℕ
 counted n b pad = bytes_of n ++ (b ++ pad)
+
+-- the bytes s are the text b: any padding is right that is as long as it has to be
+abbrev pub TextSent : List ℕ → List ℕ → Type 0
+TextSent b s = (pad : List ℕ) × (length pad ≡ padding (length b)) × (s ≡ counted (length b) b pad)

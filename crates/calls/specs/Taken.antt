@@ -10,8 +10,12 @@
 --   count_in most b           a word that is no more than so much
 --   slice_in b                a slice of words
 --   two_in, three_in          two slices, and three
---   text_in b                 bytes: how many there are, they, and what stands behind them up to a whole word
---   read_in .. capture_in     the call of that name, by what stands behind its number
+--   text_in most b            bytes, no more than so many: how many there are, they, and what stands behind them up to
+--                             a whole word
+--   two_lent_in, three_lent_in, four_lent_in
+--                             two, three and four buffers of bytes
+--   read_in .. agent_number_in
+--                             the call of that name, by what stands behind its number
 --   body_in n b               the call of a number, by what stands behind the number
 --   call_in b                 a call
 --   TakenFrom o rest taken    what was taken is what is found, and the bytes behind it are left
@@ -23,10 +27,11 @@ use Rattle.std.specs.Option.{option_map}
 use Rattle.words.specs.Bytes.{word_bytes, word_of, words_in}
 use Rattle.streams.specs.declared.input.Input.{Input}
 use Rattle.streams.specs.Input.{read_failure, left}
-use Rattle.calls.specs.Sent.{most_words, most_bytes, padding}
+use Rattle.calls.specs.Sent.{most_words, most_bytes, most_lent, padding}
 use Rattle.calls.specs.Calls.{Call, read, tree_action, compile, scan, number, list, hidden, capture, reply_of}
+use Rattle.calls.specs.Calls.{agent_scan, agent_number}
 use Rattle.calls.specs.Calls.{read_call, tree_action_call, compile_call, scan_call, number_call, list_call, hidden_call}
-use Rattle.calls.specs.Calls.{capture_call}
+use Rattle.calls.specs.Calls.{capture_call, agent_scan_call, agent_number_call}
 
 -- what was found, as f has it
 abbrev pub found : {A B : Type 0} → (A → B) → Option A × List ℕ → Option B × List ℕ
@@ -65,11 +70,23 @@ two_in b = then_in (slice_in b) (λ x rest. found (λ y. (x, y)) (slice_in rest)
 unfoldable pub three_in : List ℕ → Option (List ℕ × List ℕ × List ℕ) × List ℕ
 three_in b = then_in (two_in b) (λ x rest. found (λ y. (x.0, x.1, y)) (slice_in rest))
 
--- bytes: how many there are, they, and what stands behind them up to a whole word
-unfoldable pub text_in : List ℕ → Option (List ℕ) × List ℕ
-text_in b =
-    then_in (count_in most_bytes b)
+-- bytes, no more than so many: how many there are, they, and what stands behind them up to a whole word
+unfoldable pub text_in : ℕ → List ℕ → Option (List ℕ) × List ℕ
+text_in most b =
+    then_in (count_in most b)
     (λ n rest. then_in (bytes_in n rest) (λ text behind. found (λ pad. text) (bytes_in (padding n) behind)))
+
+-- two buffers of bytes, as an agent's call brings them
+unfoldable pub two_lent_in : List ℕ → Option (List ℕ × List ℕ) × List ℕ
+two_lent_in b = then_in (text_in most_lent b) (λ x rest. found (λ y. (x, y)) (text_in most_lent rest))
+
+-- three
+unfoldable pub three_lent_in : List ℕ → Option (List ℕ × List ℕ × List ℕ) × List ℕ
+three_lent_in b = then_in (two_lent_in b) (λ x rest. found (λ y. (x.0, x.1, y)) (text_in most_lent rest))
+
+-- and four
+unfoldable pub four_lent_in : List ℕ → Option (List ℕ × List ℕ × List ℕ × List ℕ) × List ℕ
+four_lent_in b = then_in (three_lent_in b) (λ x rest. found (λ y. (x.0, x.1, x.2, y)) (text_in most_lent rest))
 
 -- each call, by what stands behind its number
 abbrev pub read_in : List ℕ → Option Call × List ℕ
@@ -88,13 +105,19 @@ abbrev pub number_in : List ℕ → Option Call × List ℕ
 number_in b = found (λ s. number s.0 s.1 s.2) (three_in b)
 
 abbrev pub list_in : List ℕ → Option Call × List ℕ
-list_in b = found (λ t. list t) (text_in b)
+list_in b = found (λ t. list t) (text_in most_bytes b)
 
 abbrev pub hidden_in : List ℕ → Option Call × List ℕ
 hidden_in b = found (λ t. hidden t) (slice_in b)
 
 abbrev pub capture_in : List ℕ → Option Call × List ℕ
 capture_in b = found (λ s. capture s.0 s.1 s.2) (three_in b)
+
+abbrev pub agent_scan_in : List ℕ → Option Call × List ℕ
+agent_scan_in b = found (λ s. agent_scan s.0 s.1 s.2) (three_lent_in b)
+
+abbrev pub agent_number_in : List ℕ → Option Call × List ℕ
+agent_number_in b = found (λ s. agent_number s.0 s.1 s.2 s.3) (four_lent_in b)
 
 -- the call of a number, by what stands behind the number
 unfoldable pub body_in : ℕ → List ℕ → Option Call × List ℕ
@@ -107,7 +130,9 @@ body_in n b =
     else (if n == list_call then list_in b
     else (if n == hidden_call then hidden_in b
     else (if n == capture_call then capture_in b
-    else (None, b))))))))
+    else (if n == agent_scan_call then agent_scan_in b
+    else (if n == agent_number_call then agent_number_in b
+    else (None, b))))))))))
 
 -- A CALL: its number, then its slices
 unfoldable pub call_in : List ℕ → Option Call × List ℕ

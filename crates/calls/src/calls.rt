@@ -6,7 +6,8 @@ ghost use Rattle.calls.specs.Taken.{bytes_in, word_in, count_in, slice_in, text_
 
 use crate::put::padding;
 use crate::replies::{
-    Reply, of_table, reply_capture, reply_compile, reply_hidden, reply_list, reply_number,
+    Reply, of_table, reply_agent_number, reply_agent_scan, reply_capture, reply_compile,
+    reply_hidden, reply_list, reply_number,
 };
 use std::io::Read;
 use streams::{Input, Sink};
@@ -18,11 +19,17 @@ const MOST_WORDS: usize = 45100;
 // The longest input of a listing, in bytes. One that is refused as too long has 51341, or more.
 const MOST_BYTES: usize = 52000;
 
+// The longest buffer of an agent's call, in bytes. A table of one row too many has 180268.
+const MOST_LENT: usize = 180300;
+
 /// Room for the slices of one call, so that no call fails for want of memory. What is in it between two calls, nobody
 /// sees.
 #[derive(Drop)]
 pub struct Room {
     bytes: [u8; WORD_BYTES * MOST_WORDS],
+    second_bytes: [u8; MOST_LENT],
+    third_bytes: [u8; MOST_LENT],
+    fourth_bytes: [u8; MOST_LENT],
     first: [u32; MOST_WORDS],
     second: [u32; MOST_WORDS],
     third: [u32; MOST_WORDS],
@@ -30,12 +37,16 @@ pub struct Room {
 
 impl Room {
     ghost use Rattle.calls.specs.Taken.{two_in, three_in, read_in, tree_action_in, compile_in, scan_in, number_in};
-    ghost use Rattle.calls.specs.Taken.{list_in, hidden_in, capture_in, call_in, Answers};
+    ghost use Rattle.calls.specs.Taken.{two_lent_in, three_lent_in, four_lent_in, list_in, hidden_in, capture_in};
+    ghost use Rattle.calls.specs.Taken.{agent_scan_in, agent_number_in, call_in, Answers};
 
     /// One that is blank.
     pub fn new() -> Room {
         Room {
             bytes: [0; WORD_BYTES * MOST_WORDS],
+            second_bytes: [0; MOST_LENT],
+            third_bytes: [0; MOST_LENT],
+            fourth_bytes: [0; MOST_LENT],
             first: [0; MOST_WORDS],
             second: [0; MOST_WORDS],
             third: [0; MOST_WORDS],
@@ -60,6 +71,8 @@ impl Room {
             6 => self.answer_list(input, sink),
             7 => self.answer_hidden(input, sink),
             8 => self.answer_capture(input, sink),
+            9 => self.answer_agent_scan(input, sink),
+            10 => self.answer_agent_number(input, sink),
             _ => None,
         }
     }
@@ -131,7 +144,7 @@ impl Room {
     fn answer_list<R: Read, S: Sink>(&mut self, input: &mut Input<R>, sink: &mut S) -> Option<()>
         ensures { Answers R.remaining S.gives list_in input.old input.new sink.old sink.new result }
     {
-        let file = take_text(input, &mut self.bytes)?;
+        let file = take_text(input, MOST_BYTES, &mut self.bytes)?;
         reply_list(&self.bytes[..file], sink);
         Some(())
     }
@@ -156,6 +169,48 @@ impl Room {
             &self.first[..table],
             &self.second[..packets],
             &mut third[..answers],
+            sink,
+        );
+        Some(())
+    }
+
+    #[tactic(auto, using(crate::proofs::Takes::answers_none))]
+    fn answer_agent_scan<R: Read, S: Sink>(
+        &mut self,
+        input: &mut Input<R>,
+        sink: &mut S,
+    ) -> Option<()>
+        ensures { Answers R.remaining S.gives agent_scan_in input.old input.new sink.old sink.new result }
+    {
+        let (table, packet, answer) = self.take_three_lent(input)?;
+        // As in the compile.
+        let third_bytes = &mut self.third_bytes[..];
+        reply_agent_scan(
+            &self.bytes[..table],
+            &self.second_bytes[..packet],
+            &mut third_bytes[..answer],
+            sink,
+        );
+        Some(())
+    }
+
+    #[tactic(auto, using(crate::proofs::Takes::answers_none))]
+    fn answer_agent_number<R: Read, S: Sink>(
+        &mut self,
+        input: &mut Input<R>,
+        sink: &mut S,
+    ) -> Option<()>
+        ensures { Answers R.remaining S.gives agent_number_in input.old input.new sink.old sink.new result }
+    {
+        let (table, priorities, chain, answer) = self.take_four_lent(input)?;
+        // As in the compile.
+        let (second_bytes, third_bytes) = (&mut self.second_bytes[..], &mut self.third_bytes[..]);
+        let fourth_bytes = &mut self.fourth_bytes[..];
+        reply_agent_number(
+            &self.bytes[..table],
+            &mut second_bytes[..priorities],
+            &mut third_bytes[..chain],
+            &mut fourth_bytes[..answer],
             sink,
         );
         Some(())
@@ -200,6 +255,60 @@ impl Room {
         let third = take_slice(input, &mut self.bytes, &mut self.third)?;
         Some((first, second, third))
     }
+
+    // Takes two buffers of bytes, into the first and the second of bytes.
+    #[tactic(auto, using(crate::proofs::Takes::parts), unfolding(crate::specs::Taken::two_lent_in))]
+    fn take_two_lent<R: Read>(&mut self, input: &mut Input<R>) -> Option<(usize, usize)>
+        ensures first_within { IfSome result (λ n. n.0 ≤ MOST_LENT) }
+        ensures second_within { IfSome result (λ n. n.1 ≤ MOST_LENT) }
+        ensures taken { Takes R.remaining two_lent_in input.old input.new
+            (option_map (λ n. (take n.0 self.new.bytes, take n.1 self.new.second_bytes)) result) }
+    {
+        let first = take_text(input, MOST_LENT, &mut self.bytes)?;
+        let second = take_text(input, MOST_LENT, &mut self.second_bytes)?;
+        Some((first, second))
+    }
+
+    // Takes three.
+    #[tactic(auto, using(crate::proofs::Takes::parts), unfolding(crate::specs::Taken::three_lent_in))]
+    fn take_three_lent<R: Read>(&mut self, input: &mut Input<R>) -> Option<(usize, usize, usize)>
+        ensures first_within { IfSome result (λ n. n.0 ≤ MOST_LENT) }
+        ensures second_within { IfSome result (λ n. n.1 ≤ MOST_LENT) }
+        ensures third_within { IfSome result (λ n. n.2 ≤ MOST_LENT) }
+        ensures taken { Takes R.remaining three_lent_in input.old input.new
+            (option_map (λ n. (
+              take n.0 self.new.bytes,
+              take n.1 self.new.second_bytes,
+              take n.2 self.new.third_bytes,
+            )) result) }
+    {
+        let (first, second) = self.take_two_lent(input)?;
+        let third = take_text(input, MOST_LENT, &mut self.third_bytes)?;
+        Some((first, second, third))
+    }
+
+    // Takes four, one into each buffer of bytes.
+    #[tactic(auto, using(crate::proofs::Takes::parts), unfolding(crate::specs::Taken::four_lent_in))]
+    fn take_four_lent<R: Read>(
+        &mut self,
+        input: &mut Input<R>,
+    ) -> Option<(usize, usize, usize, usize)>
+        ensures first_within { IfSome result (λ n. n.0 ≤ MOST_LENT) }
+        ensures second_within { IfSome result (λ n. n.1 ≤ MOST_LENT) }
+        ensures third_within { IfSome result (λ n. n.2 ≤ MOST_LENT) }
+        ensures fourth_within { IfSome result (λ n. n.3 ≤ MOST_LENT) }
+        ensures taken { Takes R.remaining four_lent_in input.old input.new
+            (option_map (λ n. (
+              take n.0 self.new.bytes,
+              take n.1 self.new.second_bytes,
+              take n.2 self.new.third_bytes,
+              take n.3 self.new.fourth_bytes,
+            )) result) }
+    {
+        let (first, second, third) = self.take_three_lent(input)?;
+        let fourth = take_text(input, MOST_LENT, &mut self.fourth_bytes)?;
+        Some((first, second, third, fourth))
+    }
 }
 
 // Takes a slice of words into a buffer: how many there are.
@@ -220,17 +329,15 @@ fn take_slice<R: Read>(
     Some(count)
 }
 
-// Takes bytes into a buffer, and the words that hold them: how many there are.
+// Takes bytes into a buffer that has room for the most, and the words that hold them: how many there are.
 #[tactic(auto, using(crate::proofs::Takes::takes_none), unfolding(crate::specs::Taken::text_in))]
-fn take_text<R: Read>(
-    input: &mut Input<R>,
-    bytes: &mut [u8; WORD_BYTES * MOST_WORDS],
-) -> Option<usize>
-    ensures within { IfSome result (λ n. n ≤ MOST_BYTES) }
-    ensures taken { Takes R.remaining text_in input.old input.new
+fn take_text<R: Read>(input: &mut Input<R>, most: usize, bytes: &mut [u8]) -> Option<usize>
+    requires { most ≤ length bytes.old }
+    ensures within { IfSome result (λ n. n ≤ most) }
+    ensures taken { Takes R.remaining (text_in most) input.old input.new
         (option_map (λ n. take n bytes.new) result) }
 {
-    let count = take_count(input, MOST_BYTES)?;
+    let count = take_count(input, most)?;
     take_full(input, &mut bytes[..count])?;
     let mut behind = [0u8; WORD_BYTES];
     take_full(input, &mut behind[..padding(count)])?;

@@ -11,8 +11,8 @@ mod replies;
 pub use crate::calls::Room;
 pub use crate::put::put_words;
 pub use crate::replies::{
-    Reply, TableRefusal, Value, reply_capture, reply_compile, reply_hidden, reply_list,
-    reply_number,
+    Reply, TableRefusal, Value, reply_agent_number, reply_agent_scan, reply_capture, reply_compile,
+    reply_hidden, reply_list, reply_number,
 };
 
 /// What is proved of the calls that are found in bytes. It does nothing: its contract is the statement.

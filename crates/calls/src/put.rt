@@ -1,6 +1,6 @@
 //! Words and texts that are put into a sink, the lowest byte of each word first.
 
-ghost use Rattle.std.specs.Prelude.{◌≡◌, ◌≤◌, length};
+ghost use Rattle.std.specs.Prelude.{◌≡◌, ◌≤◌, length, replicate};
 ghost use Rattle.words.specs.Words.{zeros};
 ghost use Rattle.words.specs.Records.{flat};
 ghost use Rattle.words.specs.Bytes.{bytes_of};
@@ -42,6 +42,13 @@ pub(crate) fn put_zeros<S: Sink>(count: usize, sink: &mut S)
     for _ in 0..count {
         put_words(&[0], sink);
     }
+}
+
+// Puts in the zeros that stand behind so many bytes, up to a whole word.
+pub(crate) fn put_padding<S: Sink>(bytes: usize, sink: &mut S)
+    ensures { S.gives sink.old (replicate (padding bytes) 0) sink.new }
+{
+    sink.put(&[0; WORD_BYTES][..padding(bytes)]);
 }
 
 // How many bytes stand behind so many, up to a whole word.

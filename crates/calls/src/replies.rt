@@ -1,6 +1,6 @@
 //! Replies as words: number and place, for a policy file the law and three actions too, then the values, of which a
 //! capture has none, then every buffer that was lent for writing. A success has zeros for its number, a refusal for its
-//! values.
+//! values. An agent's call has its number, and then every such buffer as bytes, first that of the answer.
 
 ghost use Rattle.std.specs.Prelude.{◌≡◌, List, ℕ, length};
 ghost use Rattle.words.specs.Records.{flat};
@@ -9,24 +9,26 @@ ghost use Rattle.compile.specs.Compile.{table_after, scratch_after};
 ghost use Rattle.priority.specs.Numbering.{priorities_after, chain_after};
 ghost use Rattle.hidden.specs.Hidden.{table_kept};
 ghost use Rattle.capture.specs.Capture.{answers_after};
+ghost use Rattle.exports.specs.Exports.{scan_answer, numbering_answer, priorities_left, chain_left};
 ghost use Rattle.text.specs.Listing.{listing_of};
 ghost use Rattle.calls.specs.Replies.{action_width, failure_width, table_refusal_width, refusal_width};
 ghost use Rattle.calls.specs.Replies.{layout_width, found_width, law_number, action_words, refusal_words};
 ghost use Rattle.calls.specs.Replies.{failure_words, broken_words, table_refusal_words, of_table, layout_words};
 ghost use Rattle.calls.specs.Replies.{found_words, row_count_words, answer_words, captured_words};
 ghost use Rattle.calls.specs.Replies.{compile_reply, number_reply, hidden_reply, capture_reply, text_reply};
+ghost use Rattle.calls.specs.Replies.{answered_reply, agent_scan_reply, agent_number_reply};
 
-use crate::put::{padding, put_words, put_zeros};
+use crate::put::{put_padding, put_words, put_zeros};
 use action::{Action, ActionWords, LawFailure};
 use capture::scan_capture;
 use compile::compile;
+use exports::{agent_number, agent_scan};
 use hidden::drop_hidden;
 use policy::Layout;
 use priority::number;
 use refusal::Refusal;
 use streams::{Counter, Sink, low};
 use table::Found;
-use words::WORD_BYTES;
 
 /// What is put into a sink as words.
 pub trait Reply {
@@ -270,7 +272,7 @@ fn put_captured<S: Sink>(answer: Result<usize, Refusal>, sink: &mut S)
     }
 }
 
-/// Compiles a policy file; the table and the scratch are put in too. It and the three that follow stay four functions:
+/// Compiles a policy file; the table and the scratch are put in too. It and the five that follow stay six functions:
 /// each states what its own lent buffers hold.
 #[tactic(auto, unfolding(crate::specs::Replies::compile_reply))]
 pub fn reply_compile<S: Sink>(file: &[u32], table: &mut [u32], scratch: &mut [u32], sink: &mut S)
@@ -317,6 +319,37 @@ pub fn reply_capture<S: Sink>(table: &[u32], packets: &[u32], answers: &mut [u32
     put_words(answers, sink);
 }
 
+/// Scans a table for a packet, as an agent does; its number is put in, and the answer's buffer.
+#[tactic(auto, unfolding(crate::specs::Replies::agent_scan_reply))]
+pub fn reply_agent_scan<S: Sink>(table: &[u8], packet: &[u8], answer: &mut [u8], sink: &mut S)
+    ensures answer_after { answer.new ≡ scan_answer table.now packet.now answer.old }
+    ensures given { S.gives sink.old (agent_scan_reply table.now packet.now answer.old) sink.new }
+{
+    put_answered(agent_scan(table, packet, answer), answer, sink);
+}
+
+/// Numbers a table, as an agent does; its number is put in, and the answer's buffer, the priorities and the chain.
+#[tactic(auto, unfolding(crate::specs::Replies::agent_number_reply))]
+pub fn reply_agent_number<S: Sink>(
+    table: &[u8],
+    priorities: &mut [u8],
+    chain: &mut [u8],
+    answer: &mut [u8],
+    sink: &mut S,
+)
+    ensures answer_after { answer.new
+        ≡ numbering_answer table.now priorities.old chain.old answer.old }
+    ensures priorities_after { priorities.new
+        ≡ priorities_left table.now priorities.old chain.old answer.old }
+    ensures chain_after { chain.new ≡ chain_left table.now priorities.old chain.old answer.old }
+    ensures given { S.gives sink.old
+        (agent_number_reply table.now priorities.old chain.old answer.old) sink.new }
+{
+    put_answered(agent_number(table, priorities, chain, answer), answer, sink);
+    put_text(priorities, sink);
+    put_text(chain, sink);
+}
+
 /// Lists a file. The listing is counted before it is put in, since its length stands before it.
 pub fn reply_list<S: Sink>(file: &[u8], sink: &mut S)
     ensures { S.gives sink.old (text_reply (listing_of file.now)) sink.new }
@@ -325,7 +358,25 @@ pub fn reply_list<S: Sink>(file: &[u8], sink: &mut S)
     text::list(file, &mut counter);
     put_words(&[counter.low], sink);
     text::list(file, sink);
-    sink.put(&[0; WORD_BYTES][..padding(counter.low as usize)]);
+    put_padding(counter.low as usize, sink);
+}
+
+// Puts in what an agent's call answered: its number, and the answer's buffer.
+#[tactic(auto, unfolding(crate::specs::Replies::answered_reply))]
+fn put_answered<S: Sink>(number: u32, answer: &[u8], sink: &mut S)
+    ensures { S.gives sink.old (answered_reply number answer.now) sink.new }
+{
+    put_words(&[number], sink);
+    put_text(answer, sink);
+}
+
+// Puts bytes in: how many there are, they, and zeros up to a whole word.
+fn put_text<S: Sink>(bytes: &[u8], sink: &mut S)
+    ensures { S.gives sink.old (text_reply bytes.now) sink.new }
+{
+    put_words(&[low(bytes.len())], sink);
+    sink.put(bytes);
+    put_padding(bytes.len(), sink);
 }
 
 // The number of a broken law in a reply; it stands here alone.

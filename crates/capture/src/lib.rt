@@ -12,7 +12,8 @@ use action::Action;
 use flow::{PACKET_WORDS, Packet};
 use refusal::{Reason, Refusal};
 use row::{RowWords, row_action};
-use table::{Table, first_met, rows};
+use table::{Table, first_met};
+use units::Unit;
 use words::Records;
 
 /// The most packets that a capture may have.
@@ -64,11 +65,11 @@ fn right_capture(packets: &[u32]) -> bool
 }
 
 // Stores what is found for each packet.
-fn scan_packets(table: Table, packets: &[u32], answers: &mut [u32])
+fn scan_packets(table: Table<'_, u32>, packets: &[u32], answers: &mut [u32])
     requires { packet_count packets.now * found_length ≤ length answers.old }
-    ensures { answers.new ≡ laid 0 (captured_words table.entry.words.now packets.now) answers.old }
+    ensures { answers.new ≡ laid 0 (captured_words table.entry.units.now packets.now) answers.old }
 {
-    let rows = rows(table.words);
+    let rows = u32::rows(table.units);
     // What is found for the packets before packet i is stored.
     for (i, packet) in Records::<Packet>::of(packets).enumerate() {
         let at = i * FOUND_WORDS;

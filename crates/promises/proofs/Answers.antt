@@ -3,7 +3,9 @@
 use Rattle.std.proofs.Common.{ℕ, ◌%◌, ◌^◌, ◌≡◌, refl, sym, ap, ◌∙◌, List, [], ◌∷◌}
 use mathlib.Core.List.{Mem, not-mem-nil}
 use denote.RattleType.{RattleType}
-use denote.Param.Laws.{Laws}
+use denote.Param.Laws.{Laws, IsCopy}
+use denote.Builtin.{u8, u32}
+use denote.Array.{Array}
 use mir.Syntax.{Dict}
 use Rattle.logic.specs.Answers.{OneAnswer, answer_with, answer_and}
 use Rattle.logic.proofs.Answers.{fixed, both, all}
@@ -79,11 +81,22 @@ use Rattle.table.proofs.Table.row_count.Reads as row_count
 use Rattle.table.proofs.first_met.Reads as first_met
 use Rattle.table.proofs.first_match.Reads as first_match
 use Rattle.table.proofs.match_at.Reads as match_at
-use Rattle.table.proofs.rows.Reads as rows
 use Rattle.hidden.proofs.drop_hidden.Reads as drop_hidden
 use Rattle.capture.proofs.scan_capture.Reads as scan_capture
 use Rattle.priority.proofs.number.Reads as number
 use Rattle.compile.proofs.compile.Reads as compile
+use Rattle.std.specs.declared.clone.Clone as Clone
+use Rattle.units.specs.declared.Unit as Unit
+use Rattle.units.specs.declared.LyingWord as LyingWord
+use Rattle.units.specs.declared.LyingRow as LyingRow
+use Rattle.units.specs.contracts.U32Unit.TheImpl as U32Unit
+use Rattle.units.specs.contracts.U8Unit.TheImpl as U8Unit
+use Rattle.units.specs.contracts.U32LyingWord.TheImpl as U32LyingWord
+use Rattle.units.specs.contracts.ArrayU8WORDBYTESLyingWord.TheImpl as ArrayU8WORDBYTESLyingWord
+use Rattle.units.specs.contracts.RowWordsLyingRow.TheImpl as RowWordsLyingRow
+use Rattle.units.specs.contracts.ArrayU8ROWBYTESLyingRow.TheImpl as ArrayU8ROWBYTESLyingRow
+use Rattle.exports.proofs.agent_scan.Reads as agent_scan
+use Rattle.exports.proofs.agent_number.Reads as agent_number
 use Rattle.streams.specs.declared.sink.Sink.{Ghosts}
 use Rattle.streams.specs.contracts.counter.Counter as Counter
 use Rattle.streams.specs.contracts.counter.CounterSink.TheImpl as CounterSink
@@ -99,10 +112,19 @@ use Rattle.calls.proofs.reply_number.Reads as reply_number
 use Rattle.calls.proofs.reply_hidden.Reads as reply_hidden
 use Rattle.calls.proofs.reply_capture.Reads as reply_capture
 use Rattle.calls.proofs.reply_list.Reads as reply_list
+use Rattle.calls.proofs.reply_agent_scan.Reads as reply_agent_scan
+use Rattle.calls.proofs.reply_agent_number.Reads as reply_agent_number
 
 -- an operator is its cells
 by-cells : {o : Operator} {cells : List ℕ} → o.cells ≡ cells → o ≡ record { cells = cells }
 by-cells = ap (λ c. record { cells = c })
+
+-- a result, with the words of three lent buffers
+abbrev answer_three : {X : Type 0} → X → List ℕ → List ℕ → List ℕ → X × List ℕ × List ℕ × List ℕ
+answer_three r b c d = (r, b, c, d)
+
+three : {X : Type 0} {r r' : X} {b b' c c' d d' : List ℕ} → r ≡ r' → b ≡ b' → c ≡ c' → d ≡ d' → answer_three r b c d ≡ answer_three r' b' c' d'
+three p q e f = rw (p, q, e, f)
 
 -- what is answered, or what is left in the buffers, is said by the contract
 one-answers : List ((statement : Type 0) × statement)
@@ -172,16 +194,10 @@ one-answers =
     ∷ (OneAnswer atoms_at.Pre atoms_at.Post (λ κ r s. r.now), fixed (λ κ a r s p. p))
     ∷ (OneAnswer join_at.Pre join_at.Post (λ κ r s. r), fixed (λ κ a r s p. p))
     ∷ (OneAnswer tree_action.Pre tree_action.Post (λ κ r s. r), fixed (λ κ a r s p. p))
-    ∷ (OneAnswer scan.Pre scan.Post (λ κ r s. r), fixed (λ κ a r s p. p))
-    ∷ (OneAnswer check.Pre check.Post (λ κ r s. r), fixed (λ κ a r s p. p))
-    ∷ (OneAnswer row_count.Pre row_count.Post (λ κ r s. r), fixed (λ κ a r s p. p))
-    ∷ (OneAnswer first_met.Pre first_met.Post (λ κ r s. r), fixed (λ κ a r s p. p))
-    ∷ (OneAnswer first_match.Pre first_match.Post (λ κ r s. r), fixed (λ κ a r s p. p))
-    ∷ (OneAnswer match_at.Pre match_at.Post (λ κ r s. r), fixed (λ κ a r s p. p))
-    ∷ (OneAnswer rows.Pre rows.Post (λ κ r s. r.now), fixed (λ κ a r s p. p.0))
     ∷ (OneAnswer drop_hidden.Pre drop_hidden.Post (λ κ r s. answer_with r s.0.now), fixed (λ κ a r s p. both p.0 p.1))
     ∷ (OneAnswer scan_capture.Pre scan_capture.Post (λ κ r s. answer_with r s.1.1.0.now), fixed (λ κ a r s p. both p.0 p.1))
-    ∷ (OneAnswer number.Pre number.Post (λ κ r s. answer_and r s.1.0.now s.1.1.0.now), fixed (λ κ a r s p. all p.0 p.1 p.2))
+    ∷ (OneAnswer agent_scan.Pre agent_scan.Post (λ κ r s. answer_with r s.1.1.0.now), fixed (λ κ a r s p. both p.0 p.1))
+    ∷ (OneAnswer agent_number.Pre agent_number.Post (λ κ r s. answer_three r s.1.0.now s.1.1.0.now s.1.1.1.0.now), fixed (λ κ a r s p. three p.0 p.1.1.0 p.1.1.1 p.1.0))
     ∷ (OneAnswer compile.Pre compile.Post (λ κ r s. answer_and r s.1.0.now s.1.1.0.now), fixed (λ κ a r s p. all p.answer p.table p.scratch))
     ∷ (OneAnswer low_bits.Pre low_bits.Post (λ κ r s. r), fixed (λ κ a r s p. p))
     ∷ []
@@ -208,6 +224,138 @@ counted L D = record {
   seen = λ c. c.low % 2 ^ 32;
   holds_none = λ i m. not-mem-nil m;
   settled = λ a b c xs p q. p ∙ sym q;
+}
+
+-- what a buffer of words is lent in, any type that is a unit and holds no reference: the type u with those of a word and of a row where they lie, w and r; then
+-- for each its laws and what its traits say, in the order in which a contract over any unit takes them
+record AnyUnit : Type 2 where
+  u : RattleType
+  w : RattleType
+  r : RattleType
+  ul : Laws u
+  wl : Laws w
+  rl : Laws r
+  uc : IsCopy u
+  wc : IsCopy w
+  g : Unit.Ghosts u.Denot w.Denot r.Denot
+  d : Dict
+  c : Clone.Ghosts u.Denot
+  cd : Dict
+  wg : LyingWord.Ghosts w.Denot
+  wd : Dict
+  v : Clone.Ghosts w.Denot
+  vd : Dict
+  rg : LyingRow.Ghosts r.Denot
+  rd : Dict
+  u_none : (i : ℕ) → Mem i u.lives → ⊥
+  w_none : (i : ℕ) → Mem i w.lives → ⊥
+  r_none : (i : ℕ) → Mem i r.lives → ⊥
+
+-- words, and their bytes
+lent_words : Laws u32 → Laws (Array u32 11) → IsCopy u32 → Clone.Ghosts ℕ → Dict → AnyUnit
+lent_words L R C c D = record {
+  u = u32;
+  w = u32;
+  r = Array u32 11;
+  ul = L;
+  wl = L;
+  rl = R;
+  uc = C;
+  wc = C;
+  g = U32Unit.ghosts;
+  d = D;
+  c = c;
+  cd = D;
+  wg = U32LyingWord.ghosts;
+  wd = D;
+  v = c;
+  vd = D;
+  rg = RowWordsLyingRow.ghosts;
+  rd = D;
+  u_none = λ i m. not-mem-nil m;
+  w_none = λ i m. not-mem-nil m;
+  r_none = λ i m. not-mem-nil m;
+}
+
+lent_bytes : Laws u8 → Laws (Array u8 4) → Laws (Array u8 44) → IsCopy u8 → IsCopy (Array u8 4) → Clone.Ghosts ℕ → Clone.Ghosts (List ℕ) → Dict → AnyUnit
+lent_bytes L W R C C' c c' D = record {
+  u = u8;
+  w = Array u8 4;
+  r = Array u8 44;
+  ul = L;
+  wl = W;
+  rl = R;
+  uc = C;
+  wc = C';
+  g = U8Unit.ghosts;
+  d = D;
+  c = c;
+  cd = D;
+  wg = ArrayU8WORDBYTESLyingWord.ghosts;
+  wd = D;
+  v = c';
+  vd = D;
+  rg = ArrayU8ROWBYTESLyingRow.ghosts;
+  rd = D;
+  u_none = λ i m. not-mem-nil m;
+  w_none = λ i m. not-mem-nil m;
+  r_none = λ i m. not-mem-nil m;
+}
+
+-- a row where it lies, of any such type
+record AnyRow : Type 2 where
+  row : RattleType
+  laws : Laws row
+  ghosts : LyingRow.Ghosts row.Denot
+  dict : Dict
+  holds_none : (i : ℕ) → Mem i row.lives → ⊥
+
+row_in_words : Laws (Array u32 11) → Dict → AnyRow
+row_in_words L D = record { row = Array u32 11; laws = L; ghosts = RowWordsLyingRow.ghosts; dict = D; holds_none = λ i m. not-mem-nil m }
+
+-- table: over any unit, and over rows of any type where they lie
+scan-one : (U : AnyUnit) → OneAnswer (scan.Pre U.u U.w U.r U.ul U.wl U.rl U.uc U.wc U.g U.d U.c U.cd U.wg U.wd U.v U.vd U.rg U.rd)
+    (scan.Post U.u U.w U.r U.ul U.wl U.rl U.uc U.wc U.g U.d U.c U.cd U.wg U.wd U.v U.vd U.rg U.rd) (λ κ r s. r)
+scan-one U = record {
+  asks_nothing = λ κ a. (λ i m. absurd (U.u_none i m), (λ i m. absurd (U.w_none i m), λ i m. absurd (U.r_none i m)));
+  no_second = λ κ a r₁ r₂ s₁ s₂ p q. p ∙ sym q;
+}
+
+check-one : (U : AnyUnit) → OneAnswer (check.Pre U.u U.w U.r U.ul U.wl U.rl U.uc U.wc U.g U.d U.c U.cd U.wg U.wd U.v U.vd U.rg U.rd)
+    (check.Post U.u U.w U.r U.ul U.wl U.rl U.uc U.wc U.g U.d U.c U.cd U.wg U.wd U.v U.vd U.rg U.rd) (λ κ r s. r)
+check-one U = record {
+  asks_nothing = λ κ a. (λ i m. absurd (U.u_none i m), (λ i m. absurd (U.w_none i m), λ i m. absurd (U.r_none i m)));
+  no_second = λ κ a r₁ r₂ s₁ s₂ p q. p ∙ sym q;
+}
+
+row_count-one : (U : AnyUnit) → OneAnswer (row_count.Pre U.u U.w U.r U.ul U.wl U.rl U.uc U.wc U.g U.d U.c U.cd U.wg U.wd U.v U.vd U.rg U.rd)
+    (row_count.Post U.u U.w U.r U.ul U.wl U.rl U.uc U.wc U.g U.d U.c U.cd U.wg U.wd U.v U.vd U.rg U.rd) (λ κ r s. r)
+row_count-one U = record {
+  asks_nothing = λ κ a. (λ i m. absurd (U.u_none i m), (λ i m. absurd (U.w_none i m), λ i m. absurd (U.r_none i m)));
+  no_second = λ κ a r₁ r₂ s₁ s₂ p q. p ∙ sym q;
+}
+
+match_at-one : (U : AnyUnit) → OneAnswer (match_at.Pre U.u U.w U.r U.ul U.wl U.rl U.uc U.wc U.g U.d U.c U.cd U.wg U.wd U.v U.vd U.rg U.rd)
+    (match_at.Post U.u U.w U.r U.ul U.wl U.rl U.uc U.wc U.g U.d U.c U.cd U.wg U.wd U.v U.vd U.rg U.rd) (λ κ r s. r)
+match_at-one U = record {
+  asks_nothing = λ κ a. (λ i m. absurd (U.u_none i m), (λ i m. absurd (U.w_none i m), λ i m. absurd (U.r_none i m)));
+  no_second = λ κ a r₁ r₂ s₁ s₂ p q. p ∙ sym q;
+}
+
+first_met-one : (R : AnyRow) → OneAnswer (first_met.Pre R.row R.laws R.ghosts R.dict)
+    (first_met.Post R.row R.laws R.ghosts R.dict) (λ κ r s. r)
+first_met-one R = record { asks_nothing = λ κ a i m. absurd (R.holds_none i m); no_second = λ κ a r₁ r₂ s₁ s₂ p q. p ∙ sym q }
+
+first_match-one : (R : AnyRow) → OneAnswer (first_match.Pre R.row R.laws R.ghosts R.dict)
+    (first_match.Post R.row R.laws R.ghosts R.dict) (λ κ r s. r)
+first_match-one R = record { asks_nothing = λ κ a i m. absurd (R.holds_none i m); no_second = λ κ a r₁ r₂ s₁ s₂ p q. p ∙ sym q }
+
+-- priority: what is seen of the buffers are their words
+number-one : (U : AnyUnit) → OneAnswer (number.Pre U.u U.w U.r U.ul U.wl U.rl U.uc U.wc U.g U.d U.c U.cd U.wg U.wd U.v U.vd U.rg U.rd)
+    (number.Post U.u U.w U.r U.ul U.wl U.rl U.uc U.wc U.g U.d U.c U.cd U.wg U.wd U.v U.vd U.rg U.rd) (λ κ r s. answer_and r (U.g.words s.1.0.now) (U.g.words s.1.1.0.now))
+number-one U = record {
+  asks_nothing = λ κ a. (λ i m. absurd (U.u_none i m), (λ i m. absurd (U.w_none i m), λ i m. absurd (U.r_none i m)));
+  no_second = λ κ a r₁ r₂ s₁ s₂ p q. all (p.0 ∙ sym q.0) (p.1 ∙ sym q.1) (p.2 ∙ sym q.2);
 }
 
 -- show: a table at any such sink, and the lines of a listing
@@ -268,3 +416,19 @@ reply_capture-one S = record {
 reply_list-one : (S : SeenSink) → OneAnswer (reply_list.Pre S.sink S.laws S.ghosts S.dict) (reply_list.Post S.sink S.laws S.ghosts S.dict)
     (λ κ r s. S.seen s.1.0.now)
 reply_list-one S = record { asks_nothing = λ κ a i m. absurd (S.holds_none i m); no_second = λ κ a r₁ r₂ s₁ s₂ p q. S.settled _ _ _ _ p q }
+
+reply_agent_scan-one : (S : SeenSink) → OneAnswer (reply_agent_scan.Pre S.sink S.laws S.ghosts S.dict) (reply_agent_scan.Post S.sink S.laws S.ghosts S.dict)
+    (λ κ r s. answer_with (S.seen s.1.1.1.0.now) s.1.1.0.now)
+reply_agent_scan-one S = record {
+  asks_nothing = λ κ a i m. absurd (S.holds_none i m);
+  no_second = λ κ a r₁ r₂ s₁ s₂ p q. both (S.settled _ _ _ _ p.1 q.1) (p.0 ∙ sym q.0);
+}
+
+reply_agent_number-one : (S : SeenSink) → OneAnswer (reply_agent_number.Pre S.sink S.laws S.ghosts S.dict)
+    (reply_agent_number.Post S.sink S.laws S.ghosts S.dict)
+    (λ κ r s. answer_three (S.seen s.1.1.1.1.0.now) s.1.0.now s.1.1.0.now s.1.1.1.0.now)
+reply_agent_number-one S = record {
+  asks_nothing = λ κ a i m. absurd (S.holds_none i m);
+  no_second = λ κ a r₁ r₂ s₁ s₂ p q.
+      three (S.settled _ _ _ _ p.1.1.1 q.1.1.1) (p.1.0 ∙ sym q.1.0) (p.1.1.0 ∙ sym q.1.1.0) (p.0 ∙ sym q.0);
+}

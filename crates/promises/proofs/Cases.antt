@@ -15,11 +15,14 @@ use Rattle.promises.specs.Reservations.{reserved_cases}
 use Rattle.promises.specs.Rates.{rate_cases}
 use Rattle.promises.specs.Captures.{capture_cases}
 use Rattle.promises.specs.Shuffles.{shuffle_cases}
+use Rattle.promises.specs.Agents.{agent_cases}
+use Rattle.exports.specs.Exports.{scan_number, scan_answer, numbering_number, numbering_answer, priorities_left, chain_left}
 
 -- an `unfolding` of this one unfolds all that the calls compute with
 unfoldable pub computed : ⊤
 unfolding listing.computed right_packet right_packet_words meets_ports meets tree.accepted_action tree.tree_action_of scan_of priorities_after chain_after
-    scratch_after right_capture check_packets capture_of captured_words answers_after
+    scratch_after right_capture check_packets capture_of captured_words answers_after scan_number scan_answer numbering_number numbering_answer priorities_left
+    chain_left
 computed = tt
 
 -- the calls of a list, and what is said that they give
@@ -58,3 +61,7 @@ capture-cases = hold capture_cases refl
 pub shuffle-cases : Hold shuffle_cases
 unfolding computed
 shuffle-cases = hold shuffle_cases refl
+
+pub agent-cases : Hold agent_cases
+unfolding computed
+agent-cases = hold agent_cases refl

@@ -3,7 +3,7 @@ use Rattle.std.proofs.Common.{ℕ, arith, ◌≡◌, refl, sym, ap, ap₂, ◌�
 use Rattle.refusal.specs.Refusals.{law_broken, reason_number, failure_of, refusal_at, refusal_number}
 use Rattle.refusal.specs.declared.Reason.{Reason}
 use Rattle.refusal.specs.declared.Reason.TheVariants.{ShortFile, WrongCount, WrongCell, WrongMatch, WrongAction, WrongNode, ExtraWords, NoTree, WrongSum, LawBroken}
-use Rattle.refusal.specs.declared.Reason.TheVariants.{WrongPacket, NoRoom, NoScratch, WrongTable, WrongRow, ShortBuffer, WrongInput, WrongCapture, ShortAnswers}
+use Rattle.refusal.specs.declared.Reason.TheVariants.{WrongPacket, NoRoom, NoScratch, WrongTable, WrongRow, ShortBuffer, WrongInput, WrongCapture, ShortAnswers, WrongBytes}
 use Rattle.refusal.specs.declared.Refusal.{Refusal}
 use Rattle.policy.specs.Due.{RecordDue, cell, match, action, node, SectionDue, no_count, beyond, cut, wrong_record}
 use Rattle.policy.specs.declared.Edition.{Edition}
@@ -39,7 +39,8 @@ abbrev reason_of : ℕ → Reason
 reason_of n =
     get_or
     (ShortFile ∷ ShortFile ∷ WrongCount ∷ WrongCell ∷ WrongMatch ∷ WrongAction ∷ WrongNode ∷ ExtraWords ∷ NoTree ∷ WrongSum ∷ ShortFile ∷ WrongPacket ∷ NoRoom
-    ∷ NoScratch ∷ ShortFile ∷ WrongTable ∷ WrongRow ∷ ShortBuffer ∷ WrongInput ∷ WrongCapture ∷ ShortAnswers ∷ [])
+    ∷ NoScratch ∷ ShortFile ∷ WrongTable ∷ WrongRow ∷ ShortBuffer ∷ WrongInput ∷ WrongCapture ∷ ShortAnswers ∷ WrongBytes
+    ∷ [])
     n ShortFile
 
 reason-told : (why : Reason) → failure_of why ≡ None → reason_of (reason_number why) ≡ why
@@ -62,6 +63,7 @@ reason-told ShortBuffer e = refl
 reason-told WrongInput e = refl
 reason-told WrongCapture e = refl
 reason-told ShortAnswers e = refl
+reason-told WrongBytes e = refl
 
 -- the number and the place of a refusal without a law are all of it
 pub plain-told : (r s : Refusal) → failure_of r.reason ≡ None → failure_of s.reason ≡ None → refusal_number r ≡ refusal_number s → r.place ≡ s.place → r ≡ s

@@ -14,7 +14,9 @@ use Rattle.row.specs.declared.TheConstants.{ROW_WORDS, MOST_ROWS}
 use Rattle.policy.specs.declared.Edition.TheVariants.{First}
 use Rattle.policy.specs.declared.TheConstants.{HEADER_WORDS, OPERATOR_WORDS, ATOM_WORDS, NODE_WORDS, FIRST_OPERATOR}
 use Rattle.policy.specs.declared.TheConstants.{MOST_OPERATORS, MOST_ATOMS, MOST_NODES, LONGEST_FILE, LATEST}
+use Rattle.units.specs.declared.TheConstants.{ROW_BYTES}
 use Rattle.capture.specs.declared.TheConstants.{MOST_PACKETS, FOUND_WORDS}
+use Rattle.exports.specs.declared.TheConstants.{ANSWER_WORDS}
 use Rattle.show.specs.declared.TheConstants.{ROOM}
 use Rattle.text.specs.declared.TheConstants.{LONGEST_INPUT, INPUT_ROOM}
 
@@ -37,11 +39,12 @@ pub record Constants : Type 0 where
   -- flags: in-port, protocol, source port, destination port
   pub flags : (IN_PORT ∷ PROTOCOL ∷ SOURCE_PORT ∷ DESTINATION_PORT ∷ []) ≡ 1 ∷ 2 ∷ 4 ∷ 8 ∷ []
   -- the words of a packet, a match, a row, an operator's cells, an operator, an atom and a node; the bits of an address
-  -- and the bytes of a word; the words of what is found for a packet
+  -- and the bytes of a word; the words of what is found for a packet; the bytes of a row, and the words of an answer to
+  -- an agent
   pub lengths :
       (PACKET_WORDS ∷ MATCH_WORDS ∷ ROW_WORDS ∷ CELLS ∷ OPERATOR_WORDS ∷ ATOM_WORDS ∷ NODE_WORDS ∷ ADDRESS_BITS
-      ∷ WORD_BYTES ∷ FOUND_WORDS ∷ [])
-      ≡ 6 ∷ 9 ∷ 11 ∷ 9 ∷ 9 ∷ 11 ∷ 5 ∷ 32 ∷ 4 ∷ 3 ∷ []
+      ∷ WORD_BYTES ∷ FOUND_WORDS ∷ ROW_BYTES ∷ ANSWER_WORDS ∷ [])
+      ≡ 6 ∷ 9 ∷ 11 ∷ 9 ∷ 9 ∷ 11 ∷ 5 ∷ 32 ∷ 4 ∷ 3 ∷ 44 ∷ 4 ∷ []
   -- the newest edition: the words before the first count, and the first operator's place
   pub edition : (LATEST ≡ First) × (HEADER_WORDS ≡ 0) × (FIRST_OPERATOR ≡ 1)
   -- the most operators, atoms, nodes, words of a file, rows of a table, packets of a capture, rows of a listing, and

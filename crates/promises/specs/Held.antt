@@ -21,7 +21,7 @@ use Rattle.refusal.specs.declared.Reason.{Reason}
 use Rattle.refusal.specs.declared.Refusal.{Refusal}
 use Rattle.refusal.specs.declared.Reason.TheVariants.{ShortFile, WrongCount, WrongCell, WrongMatch, WrongAction, WrongNode}
 use Rattle.refusal.specs.declared.Reason.TheVariants.{ExtraWords, NoTree, WrongSum, LawBroken, WrongPacket, NoRoom, NoScratch}
-use Rattle.refusal.specs.declared.Reason.TheVariants.{WrongTable, WrongRow, ShortBuffer, WrongInput, WrongCapture, ShortAnswers}
+use Rattle.refusal.specs.declared.Reason.TheVariants.{WrongTable, WrongRow, ShortBuffer, WrongInput, WrongCapture, ShortAnswers, WrongBytes}
 use Rattle.row.specs.Row.{row_length, most_rows, row_of, rows_in}
 use Rattle.policy.specs.Numbers.{node_length, most_operators, most_atoms, most_nodes, most_children, deepest, longest_file}
 use Rattle.policy.specs.Sections.{inner_of, parent_of, sibling_of, own_of, children_of}
@@ -114,8 +114,8 @@ pub record Numbers : Type 0 where
   pub others :
       map reason_number
       (WrongPacket ∷ NoRoom ∷ NoScratch ∷ WrongTable ∷ WrongRow ∷ ShortBuffer ∷ WrongInput ∷ WrongCapture
-      ∷ ShortAnswers ∷ [])
-      ≡ 11 ∷ 12 ∷ 13 ∷ 15 ∷ 16 ∷ 17 ∷ 18 ∷ 19 ∷ 20 ∷ []
+      ∷ ShortAnswers ∷ WrongBytes ∷ [])
+      ≡ 11 ∷ 12 ∷ 13 ∷ 15 ∷ 16 ∷ 17 ∷ 18 ∷ 19 ∷ 20 ∷ 21 ∷ []
   -- limits; those of rows in a table, of packets in a capture and of bytes hold up to them and not beyond
   pub limits :
       (most_operators ∷ most_atoms ∷ most_nodes ∷ most_children ∷ deepest ∷ longest_file ∷ [])

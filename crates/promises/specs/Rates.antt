@@ -41,7 +41,7 @@ pub record Joining : Type 0 where
   pub checked : (f t s : List ℕ) (n : ℕ) → answer_of f t s ≡ Ok n → check_of (table_rows n (table_after f t s)) ≡ Ok n
 
 pub record Refusing : Type 0 where
-  -- "the number isn't given out again.": whatever is refused has a number from 1 to 13 or from 15 to 20
+  -- "the number isn't given out again.": whatever is refused has a number from 1 to 13 or from 15 to 21
   pub given : NumbersGiven
   -- "Refusals: the compile's order becomes 1..10, 13, 12.": what reading refuses, which is 1..10 by `EveryInput`, then
   -- these two, and behind them nothing

@@ -10,6 +10,7 @@ ghost use Rattle.promises.specs.Reservations.{ReservationsAddUp};
 ghost use Rattle.promises.specs.Rates.{RatesStayInRange};
 ghost use Rattle.promises.specs.Captures.{CaptureScans};
 ghost use Rattle.promises.specs.Shuffles.{ShuffledFiles};
+ghost use Rattle.promises.specs.Agents.{AgentCalls};
 ghost use Rattle.promises.specs.Prints.{EveryListing};
 ghost use Rattle.promises.specs.Cases.{WorkedCases};
 ghost use Rattle.promises.specs.Held.{Numbers, Premises, RestsOn};
@@ -88,6 +89,12 @@ pub fn capture_scans()
 #[tactic(auto, using(crate::proofs::Shuffles::shuffled_files))]
 pub fn shuffled_files()
     ensures { ShuffledFiles }
+{}
+
+/// An agent is answered over bytes as over words.
+#[tactic(auto, using(crate::proofs::Agents::agent_calls))]
+pub fn agent_calls()
+    ensures { AgentCalls }
 {}
 
 /// Every input has its listing.

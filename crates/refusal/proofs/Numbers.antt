@@ -2,7 +2,7 @@
 use Rattle.std.proofs.Common.{arith, inl, inr}
 use Rattle.refusal.specs.Theorems.{NumbersGiven}
 use Rattle.refusal.specs.declared.Reason.TheVariants.{ShortFile, WrongCount, WrongCell, WrongMatch, WrongAction, WrongNode, ExtraWords, NoTree}
-use Rattle.refusal.specs.declared.Reason.TheVariants.{WrongSum, LawBroken, WrongPacket, NoRoom, NoScratch, WrongTable, WrongRow, ShortBuffer, WrongInput, WrongCapture, ShortAnswers}
+use Rattle.refusal.specs.declared.Reason.TheVariants.{WrongSum, LawBroken, WrongPacket, NoRoom, NoScratch, WrongTable, WrongRow, ShortBuffer, WrongInput, WrongCapture, ShortAnswers, WrongBytes}
 
 pub numbers-given : NumbersGiven
 numbers-given ShortFile = inl (omega arith, omega arith)
@@ -24,3 +24,4 @@ numbers-given ShortBuffer = inr (omega arith, omega arith)
 numbers-given WrongInput = inr (omega arith, omega arith)
 numbers-given WrongCapture = inr (omega arith, omega arith)
 numbers-given ShortAnswers = inr (omega arith, omega arith)
+numbers-given WrongBytes = inr (omega arith, omega arith)

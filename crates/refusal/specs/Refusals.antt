@@ -13,7 +13,7 @@ use Rattle.action.specs.declared.LawFailure.{LawFailure}
 use Rattle.refusal.specs.declared.Reason.{Reason}
 use Rattle.refusal.specs.declared.Reason.TheVariants.{ShortFile, WrongCount, WrongCell, WrongMatch, WrongAction, WrongNode}
 use Rattle.refusal.specs.declared.Reason.TheVariants.{ExtraWords, NoTree, WrongSum, LawBroken, WrongPacket, NoRoom, NoScratch}
-use Rattle.refusal.specs.declared.Reason.TheVariants.{WrongTable, WrongRow, ShortBuffer, WrongInput, WrongCapture, ShortAnswers}
+use Rattle.refusal.specs.declared.Reason.TheVariants.{WrongTable, WrongRow, ShortBuffer, WrongInput, WrongCapture, ShortAnswers, WrongBytes}
 use Rattle.refusal.specs.declared.Refusal.{Refusal}
 
 -- a law is broken
@@ -41,6 +41,7 @@ reason_number ShortBuffer = 17
 reason_number WrongInput = 18
 reason_number WrongCapture = 19
 reason_number ShortAnswers = 20
+reason_number WrongBytes = 21
 
 -- the broken law and the actions that show it, if the reason is that
 abbrev pub failure_of : Reason → Option LawFailure

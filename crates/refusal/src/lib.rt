@@ -48,6 +48,8 @@ pub enum Reason {
     WrongCapture,
     /// A buffer is too short for what is found for the packets of a capture.
     ShortAnswers,
+    /// The bytes of a buffer are not whole words, or those of an answer not four.
+    WrongBytes,
 }
 
 impl Reason {
@@ -75,6 +77,7 @@ impl Reason {
             Reason::WrongInput => 18,
             Reason::WrongCapture => 19,
             Reason::ShortAnswers => 20,
+            Reason::WrongBytes => 21,
         }
     }
 

@@ -1,5 +1,6 @@
 pub mod Turns
 pub mod Tested
 pub mod Tables
+pub mod Lying
 pub mod First
 pub mod Scans

@@ -1,5 +1,6 @@
 //! The known cases, with answers written down and not worked out by the model.
 
+mod agent;
 mod captures;
 mod hidden;
 mod limits;
@@ -33,6 +34,7 @@ pub fn known() -> Vec<Known> {
     cases.extend(sums::cases());
     cases.extend(captures::cases());
     cases.extend(shuffles::cases());
+    cases.extend(agent::cases());
     cases
 }
 

@@ -1,18 +1,19 @@
 //! The public functions, from lent words to every word of the answer.
 
 use super::action::Action;
+use super::agent;
 use super::capture::{capture, FOUND_WORDS};
 use super::edition::{NEWEST, ROW_WORDS};
 use super::fields::Packet;
 use super::file::Policy;
 use super::hidden::without_hidden;
 use super::listing::listing;
-use super::numbers::{MORE_ROWS, SHORT_BUFFER, SHORT_SCRATCH, WRONG_PACKET};
+use super::numbers::{MORE_ROWS, SHORT_SCRATCH, WRONG_PACKET};
 use super::operator::Law;
-use super::priorities::number;
-use super::rows::{compile, read_table, scan, Row, MOST_ROWS};
+use super::priorities::number_lent;
+use super::rows::{compile, read_table, scan_lent, Row, MOST_ROWS};
 use super::{refusal, Refusal};
-use crate::calls::{words_of_bytes, Call};
+use crate::calls::{put_bytes, words_of_bytes, Call};
 
 pub fn answer(call: &Call) -> Vec<u32> {
     match call {
@@ -36,6 +37,17 @@ pub fn answer(call: &Call) -> Vec<u32> {
             packets,
             answers,
         } => captured(table, packets, answers),
+        Call::AgentScan {
+            table,
+            packet,
+            answer,
+        } => agent_scanned(table, packet, answer),
+        Call::AgentNumber {
+            table,
+            priorities,
+            chain,
+            answer,
+        } => agent_numbered(table, priorities, chain, answer),
     }
 }
 
@@ -103,9 +115,7 @@ fn compile_lent(file: &[u32], table: usize, scratch: usize) -> Result<Vec<Row>, 
 }
 
 fn scanned(table: &[u32], packet: &[u32]) -> Vec<u32> {
-    let result = Packet::read(packet, NEWEST)
-        .map_err(|_| refusal(WRONG_PACKET, 0))
-        .and_then(|packet| Ok(scan(&read_table(table)?, &packet)));
+    let result = scan_lent(table, packet);
     let (action, tried) = result.unwrap_or((Action::DontCare, 0));
     let (number, place) = number_and_place(result.err());
     let [kind, rate] = action.words();
@@ -113,18 +123,12 @@ fn scanned(table: &[u32], packet: &[u32]) -> Vec<u32> {
 }
 
 fn numbered(table: &[u32], priorities: &[u32], chain: &[u32]) -> Vec<u32> {
-    let result = read_table(table).and_then(|rows| {
-        if priorities.len() < rows.len() || chain.len() < rows.len() {
-            return Err(refusal(SHORT_BUFFER, 0));
-        }
-        Ok(number(&rows))
-    });
+    let result = number_lent(table, priorities.len(), chain.len());
     let (mut priorities, mut chain) = (priorities.to_vec(), chain.to_vec());
     let mut levels = 0;
     if let Ok(numbering) = &result {
         levels = numbering.levels;
-        priorities[..numbering.priorities.len()].copy_from_slice(&numbering.priorities);
-        chain[..numbering.chain.len()].copy_from_slice(&numbering.chain);
+        numbering.put(&mut priorities, &mut chain);
     }
     let (number, place) = number_and_place(result.err());
     let mut words = vec![number, place, levels];
@@ -159,6 +163,25 @@ fn captured(table: &[u32], packets: &[u32], answers: &[u32]) -> Vec<u32> {
     let (number, place) = number_and_place(result.err());
     let mut words = vec![number, place];
     words.extend(answers);
+    words
+}
+
+fn agent_scanned(table: &[u8], packet: &[u8], answer: &[u8]) -> Vec<u32> {
+    let mut answer = answer.to_vec();
+    let number = agent::scan(table, packet, &mut answer);
+    returned(number, &[&answer])
+}
+
+fn agent_numbered(table: &[u8], priorities: &[u8], chain: &[u8], answer: &[u8]) -> Vec<u32> {
+    let [mut priorities, mut chain, mut answer] = [priorities, chain, answer].map(<[u8]>::to_vec);
+    let number = agent::number(table, &mut priorities, &mut chain, &mut answer);
+    returned(number, &[&answer, &priorities, &chain])
+}
+
+/// The number that a call returns, then the buffers that it may have written.
+fn returned(number: u32, buffers: &[&[u8]]) -> Vec<u32> {
+    let mut words = vec![number];
+    put_bytes(buffers, &mut words);
     words
 }
 

@@ -3,6 +3,7 @@
 //! is a real tree), so that a mistake is unlikely to be made twice.
 
 pub mod action;
+pub mod agent;
 pub mod answers;
 pub mod capture;
 pub mod edition;

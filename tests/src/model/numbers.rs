@@ -19,9 +19,10 @@ pub const SHORT_BUFFER: u32 = 17;
 pub const WRONG_BYTES: u32 = 18;
 pub const WRONG_CAPTURE: u32 = 19;
 pub const SHORT_ANSWERS: u32 = 20;
+pub const WRONG_LENGTH: u32 = 21;
 
 /// All of them, in order.
-pub const REFUSALS: [u32; 19] = [
+pub const REFUSALS: [u32; 20] = [
     ENDS_EARLY,
     COUNT_BEYOND,
     WRONG_CELL,
@@ -41,4 +42,5 @@ pub const REFUSALS: [u32; 19] = [
     WRONG_BYTES,
     WRONG_CAPTURE,
     SHORT_ANSWERS,
+    WRONG_LENGTH,
 ];

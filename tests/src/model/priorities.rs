@@ -1,6 +1,8 @@
 //! Levels, priorities and the chain.
 
-use super::rows::Row;
+use super::numbers::SHORT_BUFFER;
+use super::rows::{read_table, Row};
+use super::{refusal, Refusal};
 
 pub struct Numbering {
     /// How many priorities there are.
@@ -11,8 +13,25 @@ pub struct Numbering {
     pub chain: Vec<u32>,
 }
 
+impl Numbering {
+    /// Writes the priorities and the chain at the front of their buffers.
+    pub fn put(&self, priorities: &mut [u32], chain: &mut [u32]) {
+        priorities[..self.priorities.len()].copy_from_slice(&self.priorities);
+        chain[..self.chain.len()].copy_from_slice(&self.chain);
+    }
+}
+
 pub fn overlap(one: &Row, two: &Row) -> bool {
     one.matching.common(&two.matching).is_some()
+}
+
+/// The numbering of a lent table: its refusals, then 17 if one of the two buffers is short.
+pub fn number_lent(table: &[u32], priorities: usize, chain: usize) -> Result<Numbering, Refusal> {
+    let rows = read_table(table)?;
+    if priorities < rows.len() || chain < rows.len() {
+        return Err(refusal(SHORT_BUFFER, 0));
+    }
+    Ok(number(&rows))
 }
 
 pub fn number(rows: &[Row]) -> Numbering {

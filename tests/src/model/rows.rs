@@ -4,7 +4,7 @@ use super::action::Action;
 use super::edition::{NEWEST, ROW_WORDS};
 use super::fields::Packet;
 use super::matches::Match;
-use super::numbers::{NOT_A_TABLE, WRONG_ROW};
+use super::numbers::{NOT_A_TABLE, WRONG_PACKET, WRONG_ROW};
 use super::operator::Operator;
 use super::record::RawRow;
 use super::tree::Tree;
@@ -83,6 +83,12 @@ pub fn read_table(words: &[u32]) -> Result<Vec<Row>, Refusal> {
         }
     }
     Ok(rows)
+}
+
+/// What a packet finds in a lent table: refusal 11, then those of the table.
+pub fn scan_lent(table: &[u32], packet: &[u32]) -> Result<(Action, usize), Refusal> {
+    let packet = Packet::read(packet, NEWEST).map_err(|_| refusal(WRONG_PACKET, 0))?;
+    Ok(scan(&read_table(table)?, &packet))
 }
 
 /// The first matching row's action and how many rows were tried.

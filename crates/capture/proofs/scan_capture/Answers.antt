@@ -28,22 +28,25 @@ overflow_mul-count c = omega (arith, (passes _ _ (sym c.check_packets.ensures �
 pub returns-then-answers-count-clause-value : goal.returns-then-answers-count-clause-value
 returns-then-answers-count-clause-value c =
     let passed = sym c.check_packets.ensures ∙ c.in_ok-count.was in
-    rw c.at.ensures (sym (buffer-refused _ _ _ passed (tested-passes c.in_ok-table.table c.in_ok-table.ensures) c.if-answers-count.true))
+    rw c.at.ensures (sym (buffer-refused _ _ _ passed (tested-passes c.in_ok-table.table.right c.in_ok-table.ensures) c.if-answers-count.true))
 
 pub returns-then-answers-count-clause-answers_after : goal.returns-then-answers-count-clause-answers_after
 returns-then-answers-count-clause-answers_after c =
     sym (stays _ _ _
-    (buffer-refused _ _ _ (sym c.check_packets.ensures ∙ c.in_ok-count.was) (tested-passes c.in_ok-table.table c.in_ok-table.ensures) c.if-answers-count.true))
+    (buffer-refused _ _ _ (sym c.check_packets.ensures ∙ c.in_ok-count.was) (tested-passes c.in_ok-table.table.right c.in_ok-table.ensures)
+    c.if-answers-count.true))
 
 pub scan_packets-requires : goal.scan_packets-requires
 scan_packets-requires c = omega (arith, c.if-answers-count.false, (passes _ _ (sym c.check_packets.ensures ∙ c.in_ok-count.was)).count)
 
 pub returns-clause-value : goal.returns-clause-value
 returns-clause-value c =
-    sym (all-taken _ _ _ (sym c.check_packets.ensures ∙ c.in_ok-count.was) (tested-passes c.in_ok-table.table c.in_ok-table.ensures) c.if-answers-count.false)
+    sym (all-taken _ _ _ (sym c.check_packets.ensures ∙ c.in_ok-count.was) (tested-passes c.in_ok-table.table.right c.in_ok-table.ensures)
+    c.if-answers-count.false)
 
 pub returns-clause-answers_after : goal.returns-clause-answers_after
 returns-clause-answers_after c =
     rw (c.scan_packets.ensures, c.in_ok-table.ensures)
     (sym (stored _ _ _
-    (all-taken _ _ _ (sym c.check_packets.ensures ∙ c.in_ok-count.was) (tested-passes c.in_ok-table.table c.in_ok-table.ensures) c.if-answers-count.false)))
+    (all-taken _ _ _ (sym c.check_packets.ensures ∙ c.in_ok-count.was) (tested-passes c.in_ok-table.table.right c.in_ok-table.ensures)
+    c.if-answers-count.false)))

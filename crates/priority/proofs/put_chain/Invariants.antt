@@ -3,4 +3,5 @@ use Rattle.priority.proofs.Linking.{Linked}
 use Rattle.priority.proofs.put_chain.Given as goal
 
 abbrev pub invariant-loop-l : goal.invariant-loop-l
-invariant-loop-l l = Linked l.table.words.now l.levels l.fn.chain l.chain l.count l.l l.at.0
+invariant-loop-l g l =
+    Linked (g.U.Unit.words l.table.units.now) (g.U.Unit.words l.levels) (g.U.Unit.words l.fn.chain) (g.U.Unit.words l.chain) l.count l.l l.at.0

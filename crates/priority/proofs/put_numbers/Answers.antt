@@ -4,8 +4,8 @@ use Rattle.priority.proofs.Whole.{stored-many, stored-count, stored-few, stored-
 use Rattle.priority.proofs.put_numbers.Goals as goal
 
 pub put_chain-requires : goal.put_chain-requires
-put_chain-requires c =
-    let ws = c.args.table.words.now in
+put_chain-requires g c =
+    let ws = g.U.Unit.words c.args.table.units.now in
     let levels = c.put_levels-count.ensures in (
       stored-many ws _ _ levels.count levels.levels_after,
       stored-count ws _ _ levels.count levels.levels_after,
@@ -13,11 +13,12 @@ put_chain-requires c =
     )
 
 pub put_priorities-requires : goal.put_priorities-requires
-put_priorities-requires c = stored-below c.args.table.words.now _ _ c.put_levels-count.ensures.count c.put_levels-count.ensures.levels_after
+put_priorities-requires g c =
+    stored-below (g.U.Unit.words c.args.table.units.now) _ _ c.put_levels-count.ensures.count c.put_levels-count.ensures.levels_after
 
 pub returns : goal.returns
-returns c =
-    let ws = c.args.table.words.now in
+returns g c =
+    let ws = g.U.Unit.words c.args.table.units.now in
     let levels = c.put_levels-count.ensures in
     record {
       count = levels.count;

@@ -1,19 +1,14 @@
 -- The first row that is met is the scan's; where there is none, all were tried.
-use Rattle.std.proofs.Common.{sym, ap, ◌∙◌, map}
-use Rattle.words.specs.Records.{rows_of}
-use Rattle.row.specs.Row.{row_of}
-use Rattle.table.specs.Scan.{found}
-use Rattle.table.proofs.First.{found-first, found-none}
+use Rattle.std.proofs.Common.{sym, ap, ◌∙◌, ◌+◌}
+use Rattle.row.specs.Row.{row_action}
+use Rattle.table.proofs.First.{gives, lying-first, lying-none}
 use Rattle.table.proofs.first_match.Goals as goal
 
 pub returns-in-Some : goal.returns-in-Some
-unfolding rows_of
-returns-in-Some c =
-    rw c.row_action.ensures
-    (found-first c.args.packet _ c.in-Some.place (sym c.first_met.ensures ∙ c.in-Some.is)
-    ∙ ap (λ rs. found 0 (map row_of rs) c.args.packet) c.rows-rows.ensures.rows)
+returns-in-Some g c =
+    let at = c.in-Some.place in
+    ap (λ a. gives a (at + 1)) (c.row_action.ensures ∙ ap row_action c.row_words.ensures)
+    ∙ lying-first c.args.packet g.R.LyingRow.row_words c.args.rows.now at _ c.index-rows-place.is (sym c.first_met.ensures ∙ c.in-Some.is)
 
 pub returns-in-None : goal.returns-in-None
-unfolding rows_of
-returns-in-None c =
-    found-none c.args.packet _ (sym c.first_met.ensures ∙ c.in-None.is) ∙ ap (λ rs. found 0 (map row_of rs) c.args.packet) c.rows-rows.ensures.rows
+returns-in-None g c = lying-none c.args.packet g.R.LyingRow.row_words c.args.rows.now (sym c.first_met.ensures ∙ c.in-None.is)

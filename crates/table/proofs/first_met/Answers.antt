@@ -6,7 +6,7 @@ use Rattle.table.specs.Scan.{met}
 use Rattle.table.proofs.first_met.Goals as goal
 
 pub returns : goal.returns
-returns c =
-    position_from_yields_List (met c.args.packet) c.position.new.self _ c.position.result c.position.ensures.ran
+returns g c =
+    position_from_yields_List (λ row. met c.args.packet (g.R.LyingRow.row_words row)) c.position.new.self _ c.position.result c.position.ensures.ran
     (YieldsList-from_slice c.args.rows.now c.iter.ensures.rest)
     (λ x b q k. search (rules, tests))

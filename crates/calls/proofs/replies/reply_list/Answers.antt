@@ -1,7 +1,5 @@
 -- The counter has the listing's length.
-use Rattle.std.proofs.Common.{ℕ, ◌≡◌, ◌%◌, ◌^◌, length, replicate, take, arith, ap, ◌∙◌}
-use Rattle.std.proofs.lemmas.List.{take-replicate}
-use Rattle.words.specs.Bytes.{word_bytes}
+use Rattle.std.proofs.Common.{◌≡◌, ◌%◌, ◌^◌, length, replicate, arith}
 use Rattle.calls.specs.Sent.{padding}
 use Rattle.text.specs.Listing.{listing_of}
 use Rattle.calls.proofs.Parts.{text_then}
@@ -11,10 +9,8 @@ pub returns : goal.returns
 returns g c =
     let text = listing_of c.args.file.now in
     let low : c.list.new.sink.low ≡ length text % 2 ^ 32 = omega (arith, c.list.ensures) in
-    let pad : c.padding.result ≡ padding (length text) = omega arith in
-    let zero : take {A = ℕ} c.padding.result (replicate word_bytes 0) ≡ replicate (padding (length text)) 0 =
-    ap (λ n. take {A = ℕ} n (replicate word_bytes 0)) pad ∙ take-replicate (padding (length text)) word_bytes 0 (omega arith) in
+    let pad : padding c.list.new.sink.low ≡ padding (length text) = omega arith in
     text_then g.S.Sink.gives g.met.S.Sink.then _ _ _ _ (length text % 2 ^ 32) text (replicate (padding (length text)) 0)
     (rw low at c.put_words.ensures)
     c.list-2.ensures
-    (rw zero at c.put.ensures)
+    (rw pad at c.put_padding.ensures)

@@ -1,0 +1,10 @@
+-- What was taken is answered.
+use Rattle.calls.specs.Calls.{agent_number}
+use Rattle.calls.specs.Taken.{four_lent_in}
+use Rattle.calls.proofs.Takes.{answers_some}
+use Rattle.calls.proofs.calls.Room.answer_agent_number.Goals as goal
+
+pub returns : goal.returns
+returns g c =
+    answers_some g.R.Read.remaining g.S.Sink.gives four_lent_in (λ x. agent_number x.0 x.1 x.2 x.3) _ _ _ _ _ _ c.in_ok-table.ensures.taken
+    c.reply_agent_number.ensures.given
