@@ -25,7 +25,7 @@ pub const GMB: u32 = 3;
 pub const MOST_RATE: u32 = 100_000_000;
 
 /// The last code of every cell, and of the cell where both sides are GMBs.
-const LAST_CODE: u32 = 4;
+pub const LAST_CODE: u32 = 4;
 const LAST_RATE_CODE: u32 = 7;
 
 #[derive(Clone, Copy, Debug, PartialEq)]

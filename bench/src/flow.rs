@@ -23,17 +23,18 @@ pub type Packet = [u32; PACKET_WORDS];
 
 /// Where a value stands, the flag that says it is constrained, and its limit.
 pub const VALUES: [(usize, u32, u32); 4] = [
-    (IN_PORT, 1, PORTS),
+    (IN_PORT, OF_IN_PORT, PORTS),
     (PROTOCOL, OF_PROTOCOL, PROTOCOLS),
     (SOURCE_PORT, OF_SOURCE_PORT, PORTS),
     (DESTINATION_PORT, OF_DESTINATION_PORT, PORTS),
 ];
-const OF_PROTOCOL: u32 = 2;
-const OF_SOURCE_PORT: u32 = 4;
-const OF_DESTINATION_PORT: u32 = 8;
+pub const OF_IN_PORT: u32 = 1;
+pub const OF_PROTOCOL: u32 = 2;
+pub const OF_SOURCE_PORT: u32 = 4;
+pub const OF_DESTINATION_PORT: u32 = 8;
 const OF_A_PORT: u32 = OF_SOURCE_PORT | OF_DESTINATION_PORT;
-const PORTS: u32 = 65536;
-const PROTOCOLS: u32 = 256;
+pub const PORTS: u32 = 65536;
+pub const PROTOCOLS: u32 = 256;
 
 /// The protocols that have ports.
 pub const TCP: u32 = 6;
@@ -44,7 +45,7 @@ pub const PREFIXES: [(usize, usize); 2] = [(SOURCE, SOURCE_LENGTH), (DESTINATION
 const ADDRESS_BITS: u32 = 32;
 
 /// The flag that empties a match by itself, and those of the values together.
-const EMPTY: u32 = 16;
+pub const EMPTY: u32 = 16;
 const CONSTRAINED: u32 = {
     let (mut flags, mut i) = (0, 0);
     while i < VALUES.len() {

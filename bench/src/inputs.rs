@@ -15,7 +15,7 @@ impl Dice {
         Dice(0x9e37_79b9_7f4a_7c15)
     }
 
-    fn below(&mut self, n: u32) -> u32 {
+    pub fn below(&mut self, n: u32) -> u32 {
         self.0 ^= self.0 << 13;
         self.0 ^= self.0 >> 7;
         self.0 ^= self.0 << 17;

@@ -4,20 +4,27 @@ mod action;
 mod bytes;
 mod capture;
 mod compile;
+mod faults;
 mod flow;
 mod hidden;
 mod inputs;
+mod names;
+mod notation;
 mod number;
 mod numbers;
 mod policy;
+mod program;
 mod rattle;
 mod table;
+mod texts;
 mod tree;
+mod words;
 
 use action::ACTION_WORDS;
 use bytes::{ANSWER_WORDS, Bytes, to_bytes};
 use capture::{FOUND_WORDS, MOST_PACKETS};
 use flow::{PACKET_WORDS, ROW_WORDS};
+use program::{Program, READINGS};
 use std::hint::black_box;
 use std::time::{Duration, Instant};
 use table::MOST_ROWS;
@@ -43,6 +50,7 @@ fn main() {
     compiles();
     tables();
     captures();
+    texts();
     if only_equal() {
         println!("all answers and buffers are equal");
     }
@@ -131,6 +139,20 @@ fn captures() {
                     singles(&size, table, packets);
                 }
             }
+        }
+    }
+}
+
+/// Nodes of the texts of the largest policy, and the rules of each.
+const TEXTS: [(&str, usize, usize); 2] = [("256 nodes", 256, 4), ("1 node", 1, 1024)];
+
+fn texts() {
+    let mut program = Program::start();
+    for (nodes, count, rules) in TEXTS {
+        let text = texts::text(count, rules);
+        read_text(&format!("text 1024 rules, {nodes}"), &text, &mut program);
+        if only_equal() {
+            texts::damaged(&text).for_each(|text| same_text(&text, &mut program));
         }
     }
 }
@@ -403,10 +425,45 @@ fn agent_number(size: &str, table: &[u32], behind: usize) {
     );
 }
 
+/// The proved program gives what the hand-written reader gives, all of it and the policy file's words, or the fault and its place.
+fn same_text(text: &[u8], program: &mut Program) {
+    let by_rust = notation::read(text);
+    let (ours, theirs) = (program.read(text), program::words_of(&by_rust));
+    let told = if by_rust.is_ok() { ours.len() } else { theirs.len() };
+    assert!(ours[..told] == theirs, "{}", String::from_utf8_lossy(text));
+}
+
+/// How often the two take turns over a text, each time with so many readings.
+const TURNS: usize = 5;
+
+/// The quickest reading of a text by each.
+fn read_text(name: &str, text: &[u8], program: &mut Program) {
+    same_text(text, program);
+    if !wanted(name) {
+        return;
+    }
+    let (mut ours, mut theirs) = (f64::INFINITY, f64::INFINITY);
+    for _ in 0..TURNS {
+        ours = ours.min(program.time(text));
+        for _ in 0..READINGS {
+            theirs = theirs.min(timed(1, &mut || _ = black_box(notation::read(black_box(text)))));
+        }
+    }
+    print_line(name, ours, theirs);
+}
+
+/// Whether the words given to the program all stand in a line's name; none has the word that asks for no timing.
+fn wanted(name: &str) -> bool {
+    std::env::args().skip(1).all(|word| name.contains(&word))
+}
+
+fn print_line(name: &str, ours: f64, theirs: f64) {
+    println!("{name:<34} {ours:>12.0} {theirs:>12.0} {:>6.2}", ours / theirs);
+}
+
 /// Runs the two in turn, each time so many calls, with the buffers made ready before and outside the timing, and prints the medians for one call.
-/// Words given to the program must stand in the line's name; none has the word that asks for no timing.
 fn line(name: &str, calls: u32, ready: impl Fn(), mut rattle: impl FnMut(), mut rust: impl FnMut()) {
-    if std::env::args().skip(1).any(|word| !name.contains(&word)) {
+    if !wanted(name) {
         return;
     }
     let mut times = (vec![], vec![]);
@@ -418,7 +475,7 @@ fn line(name: &str, calls: u32, ready: impl Fn(), mut rattle: impl FnMut(), mut 
         times.1.push(timed(calls, &mut rust));
     }
     let (a, b) = (median(times.0) / calls as f64, median(times.1) / calls as f64);
-    println!("{name:<34} {a:>12.0} {b:>12.0} {:>6.2}", a / b);
+    print_line(name, a, b);
 }
 
 fn timed(calls: u32, f: &mut impl FnMut()) -> f64 {

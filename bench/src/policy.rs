@@ -15,10 +15,10 @@ pub type Node = [u32; NODE_WORDS];
 /// The words before the first count; each is read as a count that must be it.
 pub const HEADER: [u32; 0] = [];
 
-const MOST_OPERATORS: u32 = 32;
-const MOST_ATOMS: u32 = 1024;
-const MOST_NODES: u32 = 256;
-const DEEPEST: usize = 16;
+pub const MOST_OPERATORS: u32 = 32;
+pub const MOST_ATOMS: u32 = 1024;
+pub const MOST_NODES: u32 = 256;
+pub const DEEPEST: usize = 16;
 
 /// An accepted file's sections.
 #[derive(Clone, Copy)]

@@ -7,6 +7,7 @@ mod calls;
 mod captures;
 mod cases;
 mod damage;
+mod frames;
 mod known;
 mod laws;
 mod model;
@@ -24,6 +25,7 @@ mod sums;
 mod tables;
 mod tally;
 mod telling;
+mod texts;
 mod work;
 mod world;
 
@@ -35,13 +37,18 @@ use std::time::{Instant, SystemTime};
 use calls::{to_bytes, to_words, Call};
 use model::answers::answer;
 use program::{compare, Difference, Program};
+use texts::commands::answer_frames;
+use texts::program::Program as Texts;
 use work::Plan;
 
 const USAGE: &str = "\
 second ANSWERS [--seed N] [--cases N] [--out FILE]   test the program ANSWERS
 second ANSWERS --replay FILE                         run a saved case again
+second --texts PROGRAM [--seed N] [--out FILE]       test the program PROGRAM, which reads texts
+second --texts PROGRAM --replay FILE                 run saved texts again
 second --self [--seed N]                             test the model alone
-second --answers [--spoil N]                         answer calls by the model";
+second --answers [--spoil N]                         answer calls by the model
+second --texts-answers [--spoil N]                   answer texts by the model";
 
 /// Seeds of every run; a fresh one is added.
 const SEEDS: [u64; 2] = [1, 2];
@@ -55,6 +62,9 @@ struct Options {
     replay: Option<PathBuf>,
     itself: bool,
     answers: bool,
+    /// The program that reads texts.
+    texts: Option<PathBuf>,
+    texts_answers: bool,
     spoil: Option<usize>,
 }
 
@@ -66,7 +76,15 @@ fn main() -> ExitCode {
     let good = match (&options.program, &options.replay) {
         (Some(path), Some(file)) => replay(&Program::Binary(path.clone()), file),
         (Some(path), None) => test(&Program::Binary(path.clone()), &options),
-        _ if options.itself => test_model(&options),
+        _ if options.itself => test_model(&options) && test_texts(&Texts::Model, &options),
+        _ if options.texts_answers => answer_frames(options.spoil).is_ok(),
+        (None, file) if options.texts.is_some() => {
+            let program = Texts::Binary(options.texts.clone().unwrap_or_default());
+            match file {
+                Some(file) => texts::commands::replay(&program, file),
+                None => test_texts(&program, &options),
+            }
+        }
         _ => answer_calls(options.spoil).is_ok(),
     };
     if good {
@@ -85,6 +103,8 @@ fn options(mut words: impl Iterator<Item = String>) -> Option<Options> {
         replay: None,
         itself: false,
         answers: false,
+        texts: None,
+        texts_answers: false,
         spoil: None,
     };
     while let Some(word) = words.next() {
@@ -95,12 +115,20 @@ fn options(mut words: impl Iterator<Item = String>) -> Option<Options> {
             "--replay" => options.replay = Some(words.next()?.into()),
             "--self" => options.itself = true,
             "--answers" => options.answers = true,
+            "--texts" => options.texts = Some(words.next()?.into()),
+            "--texts-answers" => options.texts_answers = true,
             "--spoil" => options.spoil = Some(words.next()?.parse().ok()?),
             _ if word.starts_with("--") || options.program.is_some() => return None,
             _ => options.program = Some(word.into()),
         }
     }
-    let modes = [options.program.is_some(), options.itself, options.answers];
+    let modes = [
+        options.program.is_some(),
+        options.itself,
+        options.answers,
+        options.texts.is_some(),
+        options.texts_answers,
+    ];
     (modes.iter().filter(|mode| **mode).count() == 1).then_some(options)
 }
 
@@ -163,6 +191,11 @@ fn test_model(options: &Options) -> bool {
     }
     println!("the model holds");
     true
+}
+
+/// Texts in the notation, through the program that reads them.
+fn test_texts(program: &Texts, options: &Options) -> bool {
+    texts::commands::test(program, &seeds(options), &options.out)
 }
 
 /// Prints and saves a difference; the run has failed.

@@ -2,7 +2,7 @@
 
 use std::io::{Read, Write};
 use std::path::{Path, PathBuf};
-use std::process::{Command, Stdio};
+use std::process::{Command, ExitStatus, Stdio};
 use std::thread;
 
 use crate::calls::{text_of_answer, to_bytes, to_words, Call, WORD_BYTES};
@@ -100,6 +100,17 @@ fn run_binary(path: &Path, calls: &[Call]) -> std::io::Result<Answers> {
     for call in calls {
         call.encode(&mut words);
     }
+    let (bytes, status) = fed(path, to_bytes(&words))?;
+    let mut answers = split(calls, &bytes);
+    if !status.success() {
+        let trouble = answers.trouble.unwrap_or("all is answered".to_string());
+        answers.trouble = Some(format!("{trouble}; the program ended with {status}"));
+    }
+    Ok(answers)
+}
+
+/// What a program writes that reads these bytes, and how it ends.
+pub fn fed(path: &Path, bytes: Vec<u8>) -> std::io::Result<(Vec<u8>, ExitStatus)> {
     let mut child = Command::new(path)
         .stdin(Stdio::piped())
         .stdout(Stdio::piped())
@@ -107,17 +118,12 @@ fn run_binary(path: &Path, calls: &[Call]) -> std::io::Result<Answers> {
     let mut input = child.stdin.take().expect("a piped input");
     let mut output = child.stdout.take().expect("a piped output");
     // A program that ends early closes its input; the missing answers tell that.
-    let writer = thread::spawn(move || input.write_all(&to_bytes(&words)).is_ok());
-    let mut bytes = Vec::new();
-    output.read_to_end(&mut bytes)?;
+    let writer = thread::spawn(move || input.write_all(&bytes).is_ok());
+    let mut written = Vec::new();
+    output.read_to_end(&mut written)?;
     let status = child.wait()?;
     writer.join().expect("the writer does not panic");
-    let mut answers = split(calls, &bytes);
-    if !status.success() {
-        let trouble = answers.trouble.unwrap_or("all is answered".to_string());
-        answers.trouble = Some(format!("{trouble}; the program ended with {status}"));
-    }
-    Ok(answers)
+    Ok((written, status))
 }
 
 /// The output parted into answers; the whole of it must be used up.

@@ -4,9 +4,12 @@ mod agent;
 mod captures;
 mod hidden;
 mod limits;
+mod marked;
+pub mod notation;
 mod ports;
 mod shuffles;
 mod sums;
+mod whole;
 mod worked;
 
 use crate::calls::{words_of_bytes, Call, PLACED_WORDS, READ_COUNTS, REFUSAL_WORDS};

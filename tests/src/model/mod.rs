@@ -12,6 +12,7 @@ pub mod file;
 pub mod hidden;
 pub mod listing;
 pub mod matches;
+pub mod notation;
 pub mod numbers;
 pub mod operator;
 pub mod priorities;

@@ -1,0 +1,12 @@
+pub mod Blanks
+pub mod Ends
+pub mod Laid
+pub mod Bytes
+pub mod Small
+pub mod LaidOperators
+pub mod RightMatches
+pub mod LaidRules
+pub mod LaidNodes
+pub mod SaidRules
+pub mod SaidOperators
+pub mod SaidNodes

@@ -1,0 +1,3 @@
+pub mod Text
+pub mod Pieces
+pub mod Keeps

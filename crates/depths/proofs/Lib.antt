@@ -1,0 +1,3 @@
+pub mod Stacks
+pub mod Grown
+pub mod Written

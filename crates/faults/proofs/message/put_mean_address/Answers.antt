@@ -1,0 +1,9 @@
+-- Each part is put behind the one before.
+use Rattle.faults.specs.Message.{did_mean}
+use Rattle.faults.proofs.message.put_mean_address.Goals as goal
+
+pub returns : goal.returns
+unfolding did_mean
+returns g c =
+    let then = g.met.S.Sink.then in
+    then _ _ _ _ _ (then _ _ _ _ _ c.put.ensures c.put_address.ensures) c.put-2.ensures

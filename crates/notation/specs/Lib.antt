@@ -1,0 +1,12 @@
+pub mod Policy
+pub mod Reads
+pub mod Words
+pub mod Rules
+pub mod Operators
+pub mod Nodes
+pub mod Views
+pub mod Right
+pub mod OneProof
+pub mod Whole
+pub mod Grammar
+pub mod Meaning

@@ -1,0 +1,4 @@
+pub mod Constants
+pub mod OneValue
+pub mod Texts
+pub mod Cases

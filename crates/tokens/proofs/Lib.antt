@@ -1,0 +1,5 @@
+pub mod Words
+pub mod Cuts
+pub mod Spans
+pub mod Going
+pub mod Counting

@@ -1,0 +1,6 @@
+pub mod PartsRight
+pub mod OnlyLawsBreak
+pub mod MadeNames
+pub mod FromFile
+pub mod PutWords
+pub mod MadeSteps

@@ -1,0 +1,10 @@
+pub mod AddressLaw
+pub mod Bytes
+pub mod Cuts
+pub mod Digits
+pub mod NumberLaw
+pub mod OctetReading
+pub mod OwnWords
+pub mod PrefixLaw
+pub mod Right
+pub mod WordLaws

@@ -1,0 +1,4 @@
+pub mod Numbers
+pub mod Prefixes
+pub mod Words
+pub mod Grammar

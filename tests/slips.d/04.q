@@ -1,0 +1,6 @@
+node studio {
+    node team {
+        match: reserve 40 Mbit/s to 10.7.3.9
+    }
+    shut: deny to 10.7.0.0/16
+}

@@ -1,0 +1,7 @@
+node studio {
+    shut: deny to 10.7.0.0/16
+
+    node team below cautious {
+        match: reserve 40 Mbit/s to 10.7.3.9
+    }
+}

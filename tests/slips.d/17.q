@@ -1,0 +1,2 @@
+node studio {
+    shut: deny to
