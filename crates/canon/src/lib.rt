@@ -6,9 +6,11 @@ ghost use Rattle.notation.specs.Whole.{entries_of};
 ghost use Rattle.canon.specs.Text.{canonical};
 
 pub use kept::Kept;
+pub use matches::{put_address, put_match};
 use nodes::put_nodes;
 use notation::Policy;
 use operators::put_operators;
+pub use rules::put_action;
 use std::alloc::{AllocError, Global};
 use streams::Sink;
 

@@ -21,9 +21,9 @@ const UDP: u32 = 17;
 
 const ICMP: u32 = 1;
 
-// A match.
+/// Puts a match in the words of the notation, with a blank before each word.
 #[tactic(auto, unfolding(crate::specs::Text::match_text))]
-pub(crate) fn put_match<S: Sink>(matching: Match, sink: &mut S)
+pub fn put_match<S: Sink>(matching: Match, sink: &mut S)
     ensures { S.gives sink.old (match_text matching) sink.new }
 {
     if matching.constrains(EMPTY) {
@@ -134,8 +134,8 @@ fn put_prefix<S: Sink>(prefix: Prefix, sink: &mut S)
     }
 }
 
-// The four bytes of an address.
-fn put_address<S: Sink>(address: u32, sink: &mut S)
+/// Puts an address, four numbers with dots between them.
+pub fn put_address<S: Sink>(address: u32, sink: &mut S)
     ensures { S.gives sink.old (address_text address) sink.new }
 {
     let [a, b, c, d] = address.to_be_bytes();

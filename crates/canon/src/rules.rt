@@ -37,9 +37,9 @@ fn put_rule<S: Sink>(depth: usize, rule: &Rule, sink: &mut S)
     sink.put(b"\n");
 }
 
-// An action.
+/// Puts an action in the words of the notation, with no blank before it.
 #[tactic(auto, unfolding(crate::specs::Text::action_text))]
-fn put_action<S: Sink>(action: Action, sink: &mut S)
+pub fn put_action<S: Sink>(action: Action, sink: &mut S)
     ensures { S.gives sink.old (action_text action) sink.new }
 {
     match action {

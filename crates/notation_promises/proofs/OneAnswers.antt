@@ -33,6 +33,9 @@ use Rattle.streams.specs.declared.sink.Sink.{Ghosts}
 use Rattle.streams.specs.contracts.counter.Counter as Counter
 use Rattle.streams.specs.contracts.counter.CounterSink.TheImpl as CounterSink
 use Rattle.canon.proofs.put_policy.Reads as put_policy
+use Rattle.canon.proofs.put_action.Reads as put_action
+use Rattle.canon.proofs.put_match.Reads as put_match
+use Rattle.canon.proofs.put_address.Reads as put_address
 use Rattle.canon.proofs.Kept.new.Reads as new_kept
 use Rattle.canon.proofs.Kept.into_bytes.Reads as into_bytes
 use Rattle.faults.proofs.number.Reads as number
@@ -143,6 +146,19 @@ counted L D = record {
 put_policy-one : (S : SeenSink) → OneAnswer (put_policy.Pre S.sink S.laws S.ghosts S.dict) (put_policy.Post S.sink S.laws S.ghosts S.dict)
     (λ κ r s. S.seen s.1.0.now)
 put_policy-one S = record { asks_nothing = λ κ a i m. absurd (S.holds_none i m); no_second = λ κ a r₁ r₂ s₁ s₂ p q. S.settled _ _ _ _ p q }
+
+-- canon: an action, a match and an address at any such sink
+put_action-one : (S : SeenSink) → OneAnswer (put_action.Pre S.sink S.laws S.ghosts S.dict) (put_action.Post S.sink S.laws S.ghosts S.dict)
+    (λ κ r s. S.seen s.1.0.now)
+put_action-one S = record { asks_nothing = λ κ a i m. absurd (S.holds_none i m); no_second = λ κ a r₁ r₂ s₁ s₂ p q. S.settled _ _ _ _ p q }
+
+put_match-one : (S : SeenSink) → OneAnswer (put_match.Pre S.sink S.laws S.ghosts S.dict) (put_match.Post S.sink S.laws S.ghosts S.dict)
+    (λ κ r s. S.seen s.1.0.now)
+put_match-one S = record { asks_nothing = λ κ a i m. absurd (S.holds_none i m); no_second = λ κ a r₁ r₂ s₁ s₂ p q. S.settled _ _ _ _ p q }
+
+put_address-one : (S : SeenSink) → OneAnswer (put_address.Pre S.sink S.laws S.ghosts S.dict) (put_address.Post S.sink S.laws S.ghosts S.dict)
+    (λ κ r s. S.seen s.1.0.now)
+put_address-one S = record { asks_nothing = λ κ a i m. absurd (S.holds_none i m); no_second = λ κ a r₁ r₂ s₁ s₂ p q. S.settled _ _ _ _ p q }
 
 -- faults: a fault's number, and its message at any such sink
 number-one : OneAnswer number.Pre number.Post (λ κ r s. r)

@@ -1,0 +1,10 @@
+pub mod OriginsFirst
+pub mod OriginsLaws
+pub mod Traces
+pub mod Decimals
+pub mod Packets
+pub mod Witnesses
+pub mod IdleRules
+pub mod IdleCases
+pub mod OneValues
+pub mod OneAnswers

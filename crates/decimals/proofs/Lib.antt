@@ -1,0 +1,2 @@
+pub mod Steps
+pub mod Laid

@@ -1,0 +1,2 @@
+pub mod Rules
+pub mod Nodes
