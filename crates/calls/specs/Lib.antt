@@ -5,3 +5,5 @@ pub mod Taken
 pub mod Session
 pub mod Theorems
 pub mod Widths
+pub mod Drafts
+pub mod DraftSink

@@ -4,10 +4,11 @@ ghost use Rattle.std.specs.Prelude.{◌≤◌, length, take, IfSome};
 ghost use Rattle.std.specs.Option.{option_map};
 ghost use Rattle.calls.specs.Taken.{bytes_in, word_in, count_in, slice_in, text_in, Takes};
 
+use crate::draft::Draft;
 use crate::put::padding;
 use crate::replies::{
     Reply, of_table, reply_agent_number, reply_agent_scan, reply_capture, reply_compile,
-    reply_hidden, reply_list, reply_number,
+    reply_hidden, reply_listing, reply_number,
 };
 use std::io::Read;
 use streams::{Input, Sink};
@@ -33,6 +34,7 @@ pub struct Room {
     first: [u32; MOST_WORDS],
     second: [u32; MOST_WORDS],
     third: [u32; MOST_WORDS],
+    draft: Draft,
 }
 
 impl Room {
@@ -50,6 +52,7 @@ impl Room {
             first: [0; MOST_WORDS],
             second: [0; MOST_WORDS],
             third: [0; MOST_WORDS],
+            draft: Draft::new(),
         }
     }
 
@@ -145,7 +148,7 @@ impl Room {
         ensures { Answers R.remaining S.gives list_in input.old input.new sink.old sink.new result }
     {
         let file = take_text(input, MOST_BYTES, &mut self.bytes)?;
-        reply_list(&self.bytes[..file], sink);
+        reply_listing(&self.bytes[..file], &mut self.draft, sink);
         Some(())
     }
 

@@ -5,6 +5,7 @@
 ghost use Rattle.calls.specs.Theorems.{Theorems};
 
 mod calls;
+mod draft;
 mod put;
 mod replies;
 

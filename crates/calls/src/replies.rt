@@ -2,7 +2,7 @@
 //! capture has none, then every buffer that was lent for writing. A success has zeros for its number, a refusal for its
 //! values. An agent's call has its number, and then every such buffer as bytes, first that of the answer.
 
-ghost use Rattle.std.specs.Prelude.{◌≡◌, List, ℕ, length};
+ghost use Rattle.std.specs.Prelude.{◌≡◌, List, ℕ, length, true};
 ghost use Rattle.words.specs.Records.{flat};
 ghost use Rattle.words.specs.Bytes.{bytes_of};
 ghost use Rattle.compile.specs.Compile.{table_after, scratch_after};
@@ -18,6 +18,7 @@ ghost use Rattle.calls.specs.Replies.{found_words, row_count_words, answer_words
 ghost use Rattle.calls.specs.Replies.{compile_reply, number_reply, hidden_reply, capture_reply, text_reply};
 ghost use Rattle.calls.specs.Replies.{answered_reply, agent_scan_reply, agent_number_reply};
 
+use crate::draft::Draft;
 use crate::put::{put_padding, put_words, put_zeros};
 use action::{Action, ActionWords, LawFailure};
 use capture::scan_capture;
@@ -27,7 +28,7 @@ use hidden::drop_hidden;
 use policy::Layout;
 use priority::number;
 use refusal::Refusal;
-use streams::{Counter, Sink, low};
+use streams::{Sink, low};
 use table::Found;
 
 /// What is put into a sink as words.
@@ -350,15 +351,34 @@ pub fn reply_agent_number<S: Sink>(
     put_text(chain, sink);
 }
 
-/// Lists a file. The listing is counted before it is put in, since its length stands before it.
+/// Lists a file.
 pub fn reply_list<S: Sink>(file: &[u8], sink: &mut S)
     ensures { S.gives sink.old (text_reply (listing_of file.now)) sink.new }
 {
-    let mut counter = Counter { low: 0 };
-    text::list(file, &mut counter);
-    put_words(&[counter.low], sink);
-    text::list(file, sink);
-    put_padding(counter.low as usize, sink);
+    reply_listing(file, &mut Draft::new(), sink);
+}
+
+// The same. The listing is kept in a draft before it is put in, since its length stands before it.
+pub(crate) fn reply_listing<S: Sink>(file: &[u8], draft: &mut Draft, sink: &mut S)
+    ensures { S.gives sink.old (text_reply (listing_of file.now)) sink.new }
+{
+    draft.clear();
+    text::list(file, draft);
+    let length = draft.length();
+    put_words(&[length], sink);
+    put_listing(draft, file, sink);
+    put_padding(length as usize, sink);
+}
+
+// Puts in the listing of a file that a draft was made of. One for which a draft had no room would be listed anew.
+fn put_listing<S: Sink>(draft: &Draft, file: &[u8], sink: &mut S)
+    requires { draft.now.whole ≡ true → draft.now.text.items ≡ listing_of file.now }
+    ensures { S.gives sink.old (listing_of file.now) sink.new }
+{
+    match draft.whole_text() {
+        Some(text) => sink.put(text),
+        None => text::list(file, sink),
+    }
 }
 
 // Puts in what an agent's call answered: its number, and the answer's buffer.

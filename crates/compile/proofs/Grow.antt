@@ -8,8 +8,8 @@
 --   joins                        two tables that were laid one behind the other, replaced by their join
 use Rattle.std.proofs.Common.{ℕ, ◌+◌, ◌-◌, ◌≤◌, arith, ◌≡◌, refl, sym, ap, ap₂, ◌∙◌, List, [], ◌++◌, length, take, drop, length-append, length-drop}
 use Rattle.std.proofs.Common.{length-take-le, take-add, drop-drop, Option, Some, None}
-use Rattle.words.specs.Words.{laid, copied}
-use Rattle.words.proofs.Laid.{copied-fits, length-laid, laid_then}
+use Rattle.words.specs.Words.{laid}
+use Rattle.words.proofs.Laid.{length-laid, laid_then}
 use Rattle.words.proofs.RecordLaws.{flat_append, rows_none, rows-flat}
 use Rattle.theory.specs.Rows.{common_rows}
 use Rattle.theory.specs.declared.Row.{Row}
@@ -91,7 +91,7 @@ module _ (a m e : ℕ) (s old : List ℕ) (h : a ≤ m) (g : a ≤ e) (f : m ≤
       too_long new l q same (omega arith)
 
   -- the table is stored behind them, and all is put back
-  pub put_all : {s' new : List ℕ} {r : Option ℕ} {n : ℕ} → Lays m (part a e old) s s' r → r ≡ Some n → new ≡ copied a (part a n s') old
+  pub put_all : {s' new : List ℕ} {r : Option ℕ} {n : ℕ} → Lays m (part a e old) s s' r → r ≡ Some n → new ≡ laid a (part a n s') old
       → Lays a (part a m s ++ part a e old) old new (Some n)
   put_all {s'} {new} {r} {n} l q w =
       let P : List ℕ = part a m s in
@@ -107,7 +107,7 @@ module _ (a m e : ℕ) (s old : List ℕ) (h : a ≤ m) (g : a ≤ e) (f : m ≤
       let v : n - a ≡ length (P ++ G) = omega (arith, i.end) in
       let y : part a n s' ≡ P ++ G = rw (v, u) (laid-part a (P ++ G) s (omega (arith, i.fits))) in
       lays-words a (P ++ G) old new n (omega (arith, i.fits)) (omega (arith, i.end))
-      (w ∙ ap (λ x. copied a x old) y ∙ copied-fits a (P ++ G) old (omega (arith, i.fits)))
+      (w ∙ ap (λ x. laid a x old) y)
 
 -- two tables one behind the other, at a..b and b..e, with their common rows made in s
 module _ (o : List ℕ) {a b e : ℕ} {old s s' : List ℕ} {r : Option ℕ} (h : a ≤ b) (g : b ≤ e) (same : length s ≡ length old)

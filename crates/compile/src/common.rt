@@ -3,7 +3,8 @@
 //! The buffer and the place stay two parameters: in one struct, the proof of `rows::join_atom` did
 //! not close.
 
-ghost use Rattle.std.specs.Prelude.{◌≤◌, length};
+ghost use Rattle.std.specs.Prelude.{◌≡◌, ◌+◌, ◌≤◌, length};
+ghost use Rattle.words.specs.Words.{laid};
 ghost use Rattle.compile.specs.Lays.{Lays};
 ghost use Rattle.compile.specs.Tables.{common_words, common_with_words, common_rows_words};
 
@@ -47,21 +48,22 @@ pub(crate) fn common_with(
     let mut done = at;
     // From at up to done stand the common rows of the row and the rows gone over.
     for other in table.as_chunks::<ROW_WORDS>().0 {
-        done = add_common(operator, row, other, out, done)?;
+        done = add_common(&operator, row, other, out, done)?;
     }
     Some(done)
 }
 
-// The common row of a row and the row that some words are; none where their matches do not overlap.
+// The common row of a row and the row that some words are; none where their matches do not overlap. By value, the
+// operator was copied for each row of the table, and the compile of disjoint atoms took 1.4 times as long.
 fn add_common(
-    operator: Operator,
+    operator: &Operator,
     row: Row,
     other: &[u32],
     out: &mut [u32],
     at: usize,
 ) -> Option<usize>
     requires { at ≤ length out.old }
-    ensures { Lays at (common_words operator.cells row other.now) out.old out.new result }
+    ensures { Lays at (common_words operator.now.cells row other.now) out.old out.new result }
 {
     let matching = Match::read(other);
     if !row.matching.overlap(matching) {
@@ -82,6 +84,18 @@ pub(crate) fn append(out: &mut [u32], at: usize, words: &[u32]) -> Option<usize>
     if out.len() < end {
         return None;
     }
-    out[at..end].copy_from_slice(words);
+    store(out, at, words);
     Some(end)
+}
+
+// Stores some words from a place on. Word by word: a copy of the slice asks for C's `memmove`, and an archive for C is
+// to need no more from outside than it does.
+pub(crate) fn store(out: &mut [u32], at: usize, words: &[u32])
+    requires { at + length words.now ≤ length out.old }
+    ensures { out.new ≡ laid at words.now out.old }
+{
+    // The first i words are stored.
+    for (i, word) in words.iter().enumerate() {
+        out[at + i] = *word;
+    }
 }

@@ -8,10 +8,9 @@ ghost use Rattle.compile.specs.Lays.{Lays};
 ghost use Rattle.compile.specs.Places.{part, Behind, From, Before, Ending, Grows, PutUpTo};
 ghost use Rattle.compile.specs.Tables.{common_with_words, join_words, atom_words, own_words};
 
-use crate::common::{append, common_rows, common_with};
+use crate::common::{append, common_rows, common_with, store};
 use action::Operator;
 use row::{Row, Rows, words_of_row};
-use words::copy;
 
 // Joins the tables at start..middle and middle..end: their common rows are made in scratch, and put
 // before them.
@@ -76,7 +75,7 @@ fn put_before(
         return Some(end);
     }
     let e = append(scratch, made, &table[start..end])?;
-    copy(table, start, &scratch[start..e]);
+    store(table, start, &scratch[start..e]);
     Some(e)
 }
 
@@ -115,7 +114,7 @@ fn put_up_to(out: &mut [u32], start: usize, place: usize, words: &[u32]) -> Opti
         return None;
     }
     let first = place - words.len();
-    out[first..place].copy_from_slice(words);
+    store(out, first, words);
     Some(first)
 }
 

@@ -104,6 +104,8 @@ use Rattle.streams.proofs.low.Reads as low_bits
 use Rattle.show.proofs.list_table.Reads as list_table
 use Rattle.show.proofs.parts.HeadText.put.Reads as put_head
 use Rattle.show.proofs.parts.LineText.put.Reads as put_line
+use Rattle.show.proofs.plain.Reads as plain
+use Rattle.show.proofs.parts.PlainRefusalText.put.Reads as put_plain
 use Rattle.show.proofs.parts.RefusalText.put.Reads as put_refusal
 use Rattle.text.proofs.list.Reads as list
 use Rattle.calls.proofs.put_words.Reads as put_words
@@ -200,6 +202,7 @@ one-answers =
     ∷ (OneAnswer agent_number.Pre agent_number.Post (λ κ r s. answer_three r s.1.0.now s.1.1.0.now s.1.1.1.0.now), fixed (λ κ a r s p. three p.0 p.1.1.0 p.1.1.1 p.1.0))
     ∷ (OneAnswer compile.Pre compile.Post (λ κ r s. answer_and r s.1.0.now s.1.1.0.now), fixed (λ κ a r s p. all p.answer p.table p.scratch))
     ∷ (OneAnswer low_bits.Pre low_bits.Post (λ κ r s. r), fixed (λ κ a r s p. p))
+    ∷ (OneAnswer plain.Pre plain.Post (λ κ r s. r), fixed (λ κ a r s p. p))
     ∷ []
 
 -- what is seen of a sink whose type holds no reference: what it was, and the bytes that it was given, settle it
@@ -370,6 +373,10 @@ put_head-one S = record { asks_nothing = λ κ a i m. absurd (S.holds_none i m);
 put_line-one : (S : SeenSink) → OneAnswer (put_line.Pre S.sink S.laws S.ghosts S.dict) (put_line.Post S.sink S.laws S.ghosts S.dict)
     (λ κ r s. S.seen s.1.0.now)
 put_line-one S = record { asks_nothing = λ κ a i m. absurd (S.holds_none i m); no_second = λ κ a r₁ r₂ s₁ s₂ p q. S.settled _ _ _ _ p q }
+
+put_plain-one : (S : SeenSink) → OneAnswer (put_plain.Pre S.sink S.laws S.ghosts S.dict) (put_plain.Post S.sink S.laws S.ghosts S.dict)
+    (λ κ r s. S.seen s.1.0.now)
+put_plain-one S = record { asks_nothing = λ κ a i m. absurd (S.holds_none i m); no_second = λ κ a r₁ r₂ s₁ s₂ p q. S.settled _ _ _ _ p q }
 
 put_refusal-one : (S : SeenSink) → OneAnswer (put_refusal.Pre S.sink S.laws S.ghosts S.dict) (put_refusal.Post S.sink S.laws S.ghosts S.dict)
     (λ κ r s. S.seen s.1.0.now)

@@ -12,6 +12,7 @@ ghost use Rattle.promises.specs.Captures.{CaptureScans};
 ghost use Rattle.promises.specs.Shuffles.{ShuffledFiles};
 ghost use Rattle.promises.specs.Agents.{AgentCalls};
 ghost use Rattle.promises.specs.Prints.{EveryListing};
+ghost use Rattle.promises.specs.Lengths.{ListingLengths};
 ghost use Rattle.promises.specs.Cases.{WorkedCases};
 ghost use Rattle.promises.specs.Held.{Numbers, Premises, RestsOn};
 ghost use Rattle.promises.specs.Constants.{Constants};
@@ -101,6 +102,12 @@ pub fn agent_calls()
 #[tactic(auto, using(crate::proofs::Prints::every_listing))]
 pub fn every_listing()
     ensures { EveryListing }
+{}
+
+/// No line and no listing is longer than its bound.
+#[tactic(auto, using(crate::proofs::Lengths::listing_lengths))]
+pub fn listing_lengths()
+    ensures { ListingLengths }
 {}
 
 /// What these rest on, and what the words of packets, matches and files read back as.

@@ -6,7 +6,7 @@ ghost use Rattle.std.specs.Prelude.{ℕ, List};
 mod parts;
 mod sheet;
 
-pub use parts::{Head, Line};
+pub use parts::{Head, Line, PlainRefusal, plain};
 pub use sheet::list_table;
 use streams::Sink;
 

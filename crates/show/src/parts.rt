@@ -1,5 +1,6 @@
 //! What has a text: the parts of a listing's lines, and the lines.
 
+ghost use Rattle.std.specs.Prelude.{◌≡◌};
 ghost use Rattle.show.specs.Text.{number};
 
 use crate::Text;
@@ -23,6 +24,20 @@ pub struct Head {
 pub struct Line {
     pub priority: u32,
     pub row: Row,
+}
+
+/// A refusal that names no law: a number, whichever it is, and a place.
+#[derive(Clone, Copy, PartialEq, Eq)]
+pub struct PlainRefusal {
+    pub number: u32,
+    pub place: usize,
+}
+
+/// The refusal of a number at a place. Any number has one; those that functions give are the numbers of a `Reason`.
+pub fn plain(number: u32, place: usize) -> PlainRefusal
+    ensures { result ≡ record { number = number; place = place } }
+{
+    PlainRefusal { number, place }
 }
 
 impl Text for Head {
@@ -52,6 +67,19 @@ impl Text for Line {
 }
 
 /// The only line of a refusal.
+impl Text for PlainRefusal {
+    ghost use Rattle.show.specs.Text.{refusal};
+
+    ghost text = { λ r. refusal r.number r.place };
+
+    fn put<S: Sink>(&self, sink: &mut S) {
+        sink.put(b"refused ");
+        put_number(self.number as usize, b' ', sink);
+        put_number(self.place, b'\n', sink);
+    }
+}
+
+/// The line of its number and place.
 impl Text for Refusal {
     ghost use Rattle.refusal.specs.Refusals.{refusal_number};
     ghost use Rattle.show.specs.Text.{refusal};
@@ -59,9 +87,7 @@ impl Text for Refusal {
     ghost text = { λ r. refusal (refusal_number r) r.place };
 
     fn put<S: Sink>(&self, sink: &mut S) {
-        sink.put(b"refused ");
-        put_number(self.reason.number() as usize, b' ', sink);
-        put_number(self.place, b'\n', sink);
+        plain(self.reason.number(), self.place).put(sink);
     }
 }
 

@@ -14,16 +14,16 @@ returns-in_err-e c =
     (put_full _ _ _ _ _ (omega arith) (omega arith) (omega arith) (omega arith) (omega arith) c.append.ensures
     c.in_err-e.was)
 
-pub slice_bounds-copy-count : goal.slice_bounds-copy-count
-slice_bounds-copy-count c = omega (arith, lays-ends c.append.ensures c.in_ok-e.was)
+pub slice_bounds-store-count : goal.slice_bounds-store-count
+slice_bounds-store-count c = omega (arith, lays-ends c.append.ensures c.in_ok-e.was)
 
-pub slice_bounds-copy-start : goal.slice_bounds-copy-start
-slice_bounds-copy-start c = omega (arith, lays-ends c.append.ensures c.in_ok-e.was)
+pub slice_bounds-store-start : goal.slice_bounds-store-start
+slice_bounds-store-start c = omega (arith, lays-ends c.append.ensures c.in_ok-e.was)
 
-pub slice_bounds-copy-end : goal.slice_bounds-copy-end
-slice_bounds-copy-end c = omega (arith, lays-ends c.append.ensures c.in_ok-e.was)
+pub slice_bounds-store-end : goal.slice_bounds-store-end
+slice_bounds-store-end c = omega (arith, lays-ends c.append.ensures c.in_ok-e.was)
 
 pub returns : goal.returns
 returns c =
     put_all _ _ _ _ _ (omega arith) (omega arith) (omega arith) (omega arith) (omega arith) c.append.ensures
-    c.in_ok-e.was c.copy.ensures
+    c.in_ok-e.was c.store.ensures

@@ -8,4 +8,4 @@ use Rattle.calls.proofs.calls.Room.answer_list.Goals as goal
 pub returns : goal.returns
 returns g c =
     answers_some g.R.Read.remaining g.S.Sink.gives (text_in most_bytes) (λ t. list t) _ _ _ _ _ _ c.in_ok-file.ensures.taken
-    c.reply_list.ensures
+    c.reply_listing.ensures
